@@ -1,0 +1,63 @@
+// What every call of the project answers, and the order in which its checks speak.
+ghost use mathlib.Core.Path.{_≡_};
+ghost use Rattle.answer.specs.Answer.{no, refuseIf, _or_, answerAt, passes};
+
+// 01, "What comes back": "returns number, channel, place". The layout is C's.
+#[repr(C)]
+pub struct Answer {
+    pub number: u32,
+    pub channel: u32,
+    pub place: usize,
+}
+
+// What the checks so far have come to.
+pub enum Out {
+    Pass,
+    Refuse(Answer),
+}
+
+// One check: the refusal with its number, channel and place, where the test holds.
+pub fn refuse_if(test: bool, number: u32, channel: u32, place: usize) -> Out
+    ensures { λ r. ⌜ r ≡ refuseIf test (no number channel place) ⌝ }
+{
+    if test {
+        Out::Refuse(Answer {
+            number,
+            channel,
+            place,
+        })
+    } else {
+        Out::Pass
+    }
+}
+
+// The first of two that refuses.
+pub fn or_else(a: Out, b: Out) -> Out
+    ensures { λ r. ⌜ r ≡ (a or b) ⌝ }
+{
+    if let Out::Refuse(_) = a { a } else { b }
+}
+
+// Whether nothing has refused.
+pub fn passed(out: Out) -> bool
+    ensures { λ r. ⌜ r ≡ passes out ⌝ }
+{
+    match out {
+        Out::Pass => true,
+        Out::Refuse(_) => false,
+    }
+}
+
+// The answer of a call whose checks came to `out` and that counts `count` words, or bytes, where it is accepted.
+pub fn answer_of(out: Out, count: usize) -> Answer
+    ensures { λ r. ⌜ r ≡ answerAt out count ⌝ }
+{
+    match out {
+        Out::Pass => Answer {
+            number: 0,
+            channel: 0,
+            place: count,
+        },
+        Out::Refuse(x) => x,
+    }
+}
