@@ -4,7 +4,6 @@
 -- number and values for each of the enum's cases, and the promises use it."
 -- 01, "What comes back": "Every refusal writes nothing and returns number, channel, place."
 use mathlib.Core.Bool.{Bool, true, false}
-use mathlib.Core.List.{List}
 use Prim.Native.Nat.{ℕ}
 use Rattle.answer.specs.declared.Answer.{Answer}
 use Rattle.answer.specs.declared.Out.{Out}
@@ -31,7 +30,7 @@ answerAt Pass n = no 0 0 n
 answerAt (Refuse x) n = x
 
 -- A lent buffer afterwards: passed, its new contents; "Every refusal writes nothing": as it was.
-abbrev pub after : Out → List ℕ → List ℕ → List ℕ
+abbrev pub after : {A : Type 0} → Out → A → A → A
 after Pass new old = new
 after (Refuse x) new old = old
 
