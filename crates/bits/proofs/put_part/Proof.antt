@@ -1,0 +1,39 @@
+-- `bits::put_part` meets its contract. Assumes nothing.
+use Prim.Native.Nat.{ℕ, _+_, _*_, _/_, _%_, _≤_, _<_}
+use mathlib.Core.Path.{_≡_, ap, _∙_}
+use native.Mathlib.Omega.{arith}
+use lib.ListN.{set}
+use Rattle.bits.specs.Writes.{Small, put-byte, put-past}
+use borrow.Author.Needs.{needs}
+use Rattle.bits.proofs.put_part.Statement.{statement}
+use Rattle.bits.proofs.put_part.Tie as tie
+
+slice-read-merged : tie.Need-slice-read-merged
+slice-read-merged c = search needs
+
+merged-requires : tie.Need-merged-requires
+merged-requires c κs = search needs
+
+slice-write-d : tie.Need-slice-write-d
+slice-write-d c = search needs
+
+same-length : tie.Need-same-length
+same-length c = search needs
+
+returns : tie.Need-returns
+returns c =
+    let k = c .before .before .before in
+    let a = k .before .args in
+    ap (λ (x : ℕ). set (a .d .now) (a .i / 8) x) (c .merged .ensures)
+    ∙ put-byte (a .d .now) (a .i) (a .m) (a .w) (record { small = λ j. k .slice-known .given j .fits }) (omega arith) (omega arith)
+
+returns-2 : tie.Need-returns-2
+returns-2 c =
+    let k = c .before in
+    let a = k .before .args in
+    put-past (a .d .now) (a .i) (a .m) (a .w) (record { small = λ j. k .slice-known .given j .fits }) (omega arith)
+
+pub put-part-spec : {M : Type 1} → statement M
+put-part-spec =
+    tie.close
+    (tie.spec slice-read-merged merged-requires slice-write-d same-length returns returns-2)

@@ -1,0 +1,126 @@
+// Bits and fields of a byte slice, lowest bit first: read, compared, written. Past the end every bit reads as 0, and a
+// bit written there is dropped, so no function here asks that a range lies in its slice.
+ghost use mathlib.Core.Path.{_≡_};
+ghost use Prim.Native.Nat.{ℕ, _+_, _-_, _*_, _%_, _^_, _≤_, _<_, min};
+ghost use lib.ListN.{getD, length};
+ghost use Rattle.answer.specs.Least.{least};
+ghost use Rattle.bits.specs.Bits.{bit, field, lacks, differs, put};
+ghost use Rattle.bits.specs.Writes.{merge};
+
+// Byte i.
+pub fn byte_at(s: &[u8], i: usize) -> u8
+    ensures { λ r. ⌜ r ≡ getD (now (s .entry)) i 0 ⌝ }
+{
+    if i < s.len() { s[i] } else { 0 }
+}
+
+// Bit i.
+pub fn bit_at(s: &[u8], i: usize) -> u32
+    ensures { λ r. ⌜ r ≡ bit (now (s .entry)) i ⌝ }
+{
+    (byte_at(s, i / 8) as u32 >> (i % 8)) % 2
+}
+
+// Four bytes as one number, lowest first.
+fn join4(a: u8, b: u8, c: u8, d: u8) -> u32
+    ensures { λ r. ⌜ r ≡ a + b * 256 + c * 65536 + d * 16777216 ⌝ }
+{
+    a as u32 + b as u32 * 256 + c as u32 * 65536 + d as u32 * 16777216
+}
+
+// The 32 bits from the start of byte i. The first form compiles to one load.
+fn window(s: &[u8], i: usize) -> u32
+    requires { ⌜ i < 2 ^ 61 ⌝ }
+    ensures { λ r. ⌜ r ≡ field (now (s .entry)) (8 * i) 32 ⌝ }
+{
+    if i + 3 < s.len() {
+        return join4(s[i], s[i + 1], s[i + 2], s[i + 3]);
+    }
+    join4(
+        byte_at(s, i),
+        byte_at(s, i + 1),
+        byte_at(s, i + 2),
+        byte_at(s, i + 3),
+    )
+}
+
+// The n bits from `at`, of one window: 25 is what it holds from any place in its first byte.
+pub fn field_at(s: &[u8], at: usize, n: usize) -> u32
+    requires { ⌜ n ≤ 25 ⌝ }
+    ensures { λ r. ⌜ r ≡ field (now (s .entry)) at n ⌝ }
+{
+    (window(s, at / 8) >> (at % 8)) % (1 << n)
+}
+
+// How many of the n bits from `at` lie past the end.
+pub fn lacks_at(s: &[u8], at: usize, n: usize) -> usize
+    ensures { λ r. ⌜ r ≡ lacks (now (s .entry)) at n ⌝ }
+{
+    let first = at / 8;
+    if s.len() <= first {
+        return n;
+    }
+    let after = s.len() - first - 1;
+    if n / 8 < after {
+        return 0;
+    }
+    let rest = n - 8 * after;
+    let here = 8 - at % 8;
+    if rest <= here { 0 } else { rest - here }
+}
+
+// The lowest k below n for which s and t differ in bit at + k; n where there is none.
+pub fn first_diff(s: &[u8], t: &[u8], at: usize, n: usize) -> usize
+    requires { ⌜ at + n < 2 ^ 64 ⌝ }
+    ensures { λ r. ⌜ r ≡ least (λ k. differs (now (s .entry)) (now (t .entry)) (at + k)) n ⌝ }
+{
+    let mut k: usize = 0;
+    while k < n {
+        if bit_at(s, at + k) != bit_at(t, at + k) {
+            return k;
+        }
+        k += 1;
+    }
+    k
+}
+
+// x with the m bits from a made the lowest of w.
+fn merged(x: u8, a: usize, m: usize, w: u32) -> u8
+    requires { ⌜ a + m ≤ 8 ⌝ }
+    ensures { λ r. ⌜ r ≡ merge x a m w ⌝ }
+{
+    let b = x as u32;
+    ((((b >> (a + m) << m) + w % (1 << m)) << a) + b % (1 << a)) as u8
+}
+
+// The m bits from i, all in one byte, made the lowest of w.
+fn put_part(d: &mut [u8], i: usize, m: usize, w: u32)
+    requires { ⌜ i % 8 + m ≤ 8 ⌝ }
+    ensures { λ _. ⌜ now (d .exit) ≡ put (now (d .entry)) i m w ⌝ }
+{
+    let k = i / 8;
+    if k < d.len() {
+        d[k] = merged(d[k], i % 8, m, w);
+    }
+}
+
+// As many of the n bits from i as lie in its byte.
+fn part_of(i: usize, n: usize) -> usize
+    ensures { λ r. ⌜ r ≡ min n (8 - i % 8) ⌝ }
+{
+    let room = 8 - i % 8;
+    if n <= room { n } else { room }
+}
+
+// The n bits from `at` made those of v, a byte at a time.
+pub fn put_field(d: &mut [u8], at: usize, n: usize, v: u32)
+    requires { ⌜ (n ≤ 32) × (at + n < 2 ^ 64) ⌝ }
+    ensures { λ _. ⌜ now (d .exit) ≡ put (now (d .entry)) at n v ⌝ }
+{
+    let mut k: usize = 0;
+    while k < n {
+        let m = part_of(at + k, n - k);
+        put_part(d, at + k, m, v >> k);
+        k += m;
+    }
+}
