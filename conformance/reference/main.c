@@ -167,6 +167,107 @@ static void case_block(void)
     free(s.bytes);
 }
 
+static uint8_t *room_for(size_t bytes)
+{
+    uint8_t *room = malloc(bytes + (bytes == 0));
+    if (room == NULL)
+        wrong_case(line_number, "no memory");
+    memset(room, 0xA5, bytes);
+    return room;
+}
+
+static uint32_t bandwidth(int i)
+{
+    uint64_t code = number(i);
+    if (code > 0xFFFFFFFF)
+        wrong_case(line_number, "a bandwidth code of more than 32 bits");
+    return (uint32_t)code;
+}
+
+static void print_answer(answer a)
+{
+    printf("%lu %lu %llu", (unsigned long)a.number, (unsigned long)a.channel, (unsigned long long)a.place);
+}
+
+static void case_row(void)
+{
+    static layout l;
+    unsigned row[MOST_POSITIONS], positions = (unsigned)arguments - 1;
+    if (positions != 1 && positions != 2 && positions != 4 && positions != 8 && positions != 16)
+        wrong_case(line_number, "a row of 1, 2, 4, 8 or 16 values");
+    for (unsigned p = 0; p < positions; p++)
+        row[p] = (unsigned)number((int)p + 1);
+    lay_out(row, positions, &l);
+    print_answer(l.outcome);
+    if (l.outcome.number != 0)
+        return;
+    for (unsigned k = 0; k < l.records; k++) {
+        const record *x = &l.record[k];
+        char text[200];
+        tones_text(x, positions, text);
+        printf(" | %s %u %u %u %u %u %s", name_of_size[x->size], x->index, x->segment, x->position,
+               x->fields[0], x->fields[1], text);
+    }
+    printf(" ;");
+    for (unsigned c = 0; c < 2; c++)
+        for (unsigned j = 0; j < l.fields[c]; j++)
+            printf(" %u", l.owner[c][j] + 1);
+}
+
+static void case_read(void)
+{
+    want(5);
+    string s = string_of(2), t = string_of(3);
+    size_t room = (size_t)number(4);
+    uint32_t *words = (uint32_t *)room_for(4 * room);
+    print_answer(reference_read(bandwidth(1), s.bytes, s.length, t.bytes, t.length, words, room));
+    for (size_t k = 0; k < room && k < 160; k++)
+        printf(" %08lX", (unsigned long)words[k]);
+    free(words);
+    free(s.bytes);
+    free(t.bytes);
+}
+
+static void case_write(void)
+{
+    want(5);
+    string w = string_of(2);
+    size_t room_1 = (size_t)number(3), room_2 = (size_t)number(4);
+    uint8_t *cc1 = room_for(room_1), *cc2 = room_for(room_2);
+    print_answer(reference_write_bytes(bandwidth(1), w.bytes, w.length, cc1, room_1, cc2, room_2));
+    putchar(' ');
+    print_bytes(cc1, room_1);
+    putchar(' ');
+    print_bytes(cc2, room_2);
+    free(cc1);
+    free(cc2);
+    free(w.bytes);
+}
+
+static void case_list(void)
+{
+    want(5);
+    string s = string_of(2), t = string_of(3);
+    size_t room = (size_t)number(4);
+    uint8_t *text = room_for(room);
+    answer a = reference_list(bandwidth(1), s.bytes, s.length, t.bytes, t.length, text, room);
+    print_answer(a);
+    putchar(' ');
+    print_bytes(text, a.number == 0 ? (size_t)a.place : 0);
+    free(text);
+    free(s.bytes);
+    free(t.bytes);
+}
+
+static void case_text(void)
+{
+    static char out[MOST_LISTING];
+    want(2);
+    string t = string_of(1);
+    print_bytes((const uint8_t *)out, reference_program(t.bytes, t.length, out));
+    free(t.bytes);
+}
+
 static void run_case(char *line)
 {
     split(line);
@@ -180,6 +281,11 @@ static void run_case(char *line)
     case 'p': case_put(); break;
     case 'c': case_check(); break;
     case 'k': case_block(); break;
+    case 'r': case_row(); break;
+    case 'R': case_read(); break;
+    case 'W': case_write(); break;
+    case 'L': case_list(); break;
+    case 'T': case_text(); break;
     default: wrong_case(line_number, "a letter that names no case");
     }
     putchar('\n');

@@ -1,8 +1,8 @@
-/* The reference: papers/01-scope.md ("01") in plain C, slow and literal.
+/* The reference: the scope paper ("01") in plain C, slow and literal.
  *
  * It is written from 01 and from the radiotap EHT page ("002") alone, and shares nothing with the
  * crates. Each function is headed by the sentence of 01 that it carries out. Where 01 leaves room,
- * the decision is the one of docs/DECISIONS.md, named in the comment as "decision".
+ * the comment says "decision": docs/DECISIONS.md has it.
  */
 #ifndef REFERENCE_H
 #define REFERENCE_H
@@ -22,7 +22,104 @@ void put_field(uint8_t *bytes, size_t length, uint64_t at, unsigned width, uint3
 unsigned check_of(const uint8_t *bytes, size_t length, uint64_t at, uint64_t width);
 int block_is_right(const uint8_t *bytes, size_t length, uint64_t at, uint64_t width);
 
-/* selftest.c: prints a line for each check and `N passed, M failed`; the status is 0 if M is 0. */
+/* "Every refusal writes nothing and returns number, channel, place." */
+typedef struct {
+    uint32_t number, channel;
+    uint64_t place;
+} answer;
+
+answer answer_of(uint32_t number, uint32_t channel, uint64_t place);
+
+/* value.c: the values of the RU Allocation subfield. */
+
+/* "Resources: 26, 52, 106, 242, 484 and 996 subcarriers, and the joined ones 106+26 and 484+242." */
+typedef enum { TONES_26, TONES_52, TONES_106, TONES_242, TONES_484, TONES_996, TONES_106_26, TONES_484_242 } size_name;
+
+/* One of the pieces into which a value divides its position: its size, and its place among the nine,
+ * four or two of its kind, from 1. */
+typedef struct {
+    size_name size;
+    unsigned place;
+} piece;
+
+int value_is_carried(unsigned value);
+unsigned pieces_of(unsigned value, piece pieces[9]);
+unsigned fields_of(unsigned value);
+
+/* plan.c: what a plan is. */
+#define MOST_POSITIONS 16
+#define MOST_RECORDS 144
+#define MOST_FIELDS 144
+
+/* A plan's record: a resource, the User fields it has in either channel, and where it lies. */
+typedef struct {
+    size_name size;
+    unsigned index;
+    unsigned segment;
+    unsigned position;  /* its lowest position, in the whole row */
+    unsigned fields[2]; /* of channel 1, of channel 2 */
+    piece piece;        /* where it is a piece of one position: which */
+    unsigned left_out;  /* where it is a 484+242: the position of the segment left out */
+} record;
+
+typedef struct {
+    answer outcome; /* 0, 7 or 8 */
+    unsigned records;
+    record record[MOST_RECORDS];
+    unsigned fields[2];
+    unsigned owner[2][MOST_FIELDS]; /* of each field of each channel, the record, from 0 */
+} layout;
+
+unsigned positions_of(unsigned bandwidth);
+unsigned plans_of_segment(const unsigned *row, unsigned positions, unsigned segment);
+void lay_out(const unsigned *row, unsigned positions, layout *l);
+
+/* tones.c: a resource's subcarriers, as maximal runs, rising. */
+typedef struct {
+    int first, last;
+} run;
+
+#define MOST_RUNS 8
+unsigned tones_of(const record *r, unsigned positions, run runs[MOST_RUNS]);
+unsigned punctured_tones(unsigned position, unsigned positions, run runs[MOST_RUNS]);
+size_t tones_text(const record *r, unsigned positions, char *text);
+extern const char *const name_of_size[];
+
+/* reader.c */
+#define MOST_WORDS 154 /* "At most 16 positions of 9 fields: 154 words" */
+
+/* What a pair of channels says, once accepted but for the room. */
+typedef struct {
+    layout layout;
+    uint32_t station[2][MOST_FIELDS];
+    unsigned words;
+    uint32_t word[MOST_WORDS];
+} reading;
+
+unsigned common_bits(unsigned bandwidth);
+unsigned subfields_of(unsigned bandwidth);
+unsigned subfield_at(unsigned bandwidth, unsigned k);
+unsigned user_field_at(unsigned bandwidth, unsigned j);
+unsigned end_of_channel(unsigned bandwidth, unsigned fields);
+uint32_t size_and_gi_of(unsigned gi_ltf);
+answer read_frame(uint32_t bandwidth, const uint8_t *cc1, size_t cc1_length, const uint8_t *cc2,
+                  size_t cc2_length, reading *r);
+answer reference_read(uint32_t bandwidth, const uint8_t *cc1, size_t cc1_length, const uint8_t *cc2,
+                      size_t cc2_length, uint32_t *words, size_t room);
+
+/* writer.c */
+answer reference_write(uint32_t bandwidth, const uint32_t *words, size_t count, uint8_t *cc1, size_t cc1_room,
+                       uint8_t *cc2, size_t cc2_room);
+answer reference_write_bytes(uint32_t bandwidth, const uint8_t *words, size_t length, uint8_t *cc1,
+                             size_t cc1_room, uint8_t *cc2, size_t cc2_room);
+
+/* listing.c */
+#define MOST_LISTING 65536
+answer reference_list(uint32_t bandwidth, const uint8_t *cc1, size_t cc1_length, const uint8_t *cc2,
+                      size_t cc2_length, uint8_t *text, size_t room);
+size_t reference_program(const uint8_t *text, size_t length, char out[MOST_LISTING]);
+
+/* selftest.c: prints a line for each check that fails, and `N passed, M failed`; the status is 0 if M is 0. */
 int self_test(void);
 
 #endif

@@ -80,10 +80,335 @@ static void checks(void)
     expect(!block_is_right(channel_1_printed, 23, 73, 22), "004's channel 1 as printed, the User block");
 }
 
+/* A row's answer and the count of its fields, as "40: (75,75) 8 fields". */
+static void row_is(const unsigned *row, unsigned positions, unsigned number, unsigned place, unsigned fields,
+                   const char *what)
+{
+    static layout l;
+    lay_out(row, positions, &l);
+    expect(l.outcome.number == number && l.outcome.channel == 0 && l.outcome.place == place, what);
+    if (number == 0)
+        expect(l.fields[0] + l.fields[1] == fields, what);
+}
+
+static void only_record_is(const unsigned *row, unsigned positions, size_name size, unsigned index, const char *what)
+{
+    static layout l;
+    lay_out(row, positions, &l);
+    expect(l.records == 1 && l.record[0].size == size && l.record[0].index == index, what);
+}
+
+/* 01's bench checks on rows, all of them; "Rows by rising position". */
+static void rows(void)
+{
+    static const unsigned
+        r_25[1] = {25}, r_29[1] = {29}, r_72_29[2] = {72, 29}, r_29_28[2] = {29, 28}, r_75_75[2] = {75, 75},
+        r_75_76[2] = {75, 76}, r_97[4] = {26, 97, 29, 29}, r_97_28[4] = {26, 97, 29, 28},
+        r_83[4] = {30, 30, 30, 83}, r_30_29[4] = {30, 30, 30, 29}, r_48_third[4] = {64, 64, 48, 64},
+        r_48_fourth[4] = {64, 64, 64, 48}, r_50_third[4] = {28, 28, 50, 28}, r_all_0[16] = {0};
+    row_is(r_25, 1, 0, 3, 3, "20: 25 has 3 fields");
+    row_is(r_29, 1, 7, 0, 0, "20: 29 is 7");
+    row_is(r_72_29, 2, 0, 1, 1, "40: (72,29) one 484, 1 field");
+    only_record_is(r_72_29, 2, TONES_484, 1, "40: (72,29) one 484");
+    row_is(r_29_28, 2, 7, 0, 0, "40: (29,28) 7");
+    row_is(r_75_75, 2, 0, 1, 8, "40: (75,75) 8 fields");
+    row_is(r_75_76, 2, 8, 0, 0, "40: (75,76) 8 refused");
+    row_is(r_97, 4, 0, 1, 2, "80: (26,97,29,29) 484+242 index 1, 2 fields");
+    only_record_is(r_97, 4, TONES_484_242, 1, "80: (26,97,29,29) 484+242 index 1");
+    row_is(r_97_28, 4, 7, 0, 0, "80: (26,97,29,28) 7");
+    row_is(r_83, 4, 0, 1, 4, "80: (30,30,30,83) 996, 4 fields");
+    only_record_is(r_83, 4, TONES_996, 1, "80: (30,30,30,83) 996");
+    row_is(r_30_29, 4, 7, 0, 0, "80: (30,30,30,29) 7");
+    row_is(r_48_third, 4, 0, 5, 5, "80: (64,64,48,64) accepted");
+    row_is(r_48_fourth, 4, 7, 0, 0, "80: (64,64,64,48) 7");
+    row_is(r_50_third, 4, 7, 0, 0, "80: (28,28,50,28) 7");
+    row_is(r_all_0, 16, 0, 144, 144, "320, all 0, 144 fields");
+}
+
+/* "If any plan .. signals that row .., only that plan does": every row of one, two and four carried values,
+ * one value standing for each family's eight. */
+static void one_plan(void)
+{
+    static const unsigned value[] = {0, 16, 24, 26, 27, 28, 29, 30, 48, 50, 64, 72, 80, 96, 104, 112, 120};
+    const unsigned n = sizeof value / sizeof value[0];
+    unsigned most = 0;
+    for (unsigned way = 0; way < n * n * n * n; way++) {
+        unsigned row[4], rest = way;
+        for (unsigned p = 0; p < 4; p++, rest /= n)
+            row[p] = value[rest % n];
+        for (unsigned positions = 1; positions <= 4; positions *= 2) {
+            unsigned plans = plans_of_segment(row, positions, 0);
+            if (plans > most)
+                most = plans;
+        }
+    }
+    expect(most == 1, "no row of a segment is signalled by two plans");
+}
+
+/* Each resource of a row has as many subcarriers as its name says, shares none with another and has none in
+ * a punctured position. */
+static void apart(const unsigned *row, unsigned positions, const char *what)
+{
+    static const int count[] = {26, 52, 106, 242, 484, 996, 132, 726};
+    static char taken[4096];
+    static layout l;
+    int holds = 1;
+    memset(taken, 0, sizeof taken);
+    lay_out(row, positions, &l);
+    for (unsigned p = 0; p < positions; p++) {
+        run runs[MOST_RUNS];
+        unsigned n = row[p] == 26 ? punctured_tones(p, positions, runs) : 0;
+        for (unsigned k = 0; k < n; k++)
+            for (int t = runs[k].first; t <= runs[k].last; t++)
+                taken[t + 2048] = 1;
+    }
+    for (unsigned r = 0; r < l.records; r++) {
+        run runs[MOST_RUNS];
+        unsigned n = tones_of(&l.record[r], positions, runs);
+        int tones = 0;
+        for (unsigned k = 0; k < n; k++)
+            for (int t = runs[k].first; t <= runs[k].last; t++, tones++) {
+                holds = holds && !taken[t + 2048];
+                taken[t + 2048] = 1;
+            }
+        holds = holds && tones == count[l.record[r].size];
+    }
+    expect(l.outcome.number == 0 && holds, what);
+}
+
+static void subcarriers(void)
+{
+    static const unsigned segment[][4] = {
+        {0, 15, 26, 19}, {24, 25, 23, 27}, {48, 50, 48, 50}, {64, 28, 71, 9}, {72, 29, 29, 79}, {30, 80, 30, 86},
+        {26, 96, 29, 29}, {104, 26, 29, 29}, {29, 29, 26, 112}, {29, 29, 120, 26}, {0, 28, 97, 29}, {29, 127, 28, 0}};
+    for (unsigned k = 0; k < sizeof segment / sizeof segment[0]; k++) {
+        unsigned row[16];
+        for (unsigned p = 0; p < 16; p++)
+            row[p] = segment[(k + p / 4) % (sizeof segment / sizeof segment[0])][p % 4];
+        for (unsigned positions = 4; positions <= 16; positions *= 2)
+            apart(row, positions, "resources apart, each of its size, from 80 MHz");
+    }
+    for (unsigned value = 0; value <= 50; value++) {
+        unsigned row[2] = {value, value};
+        if (value <= 28 || value == 48 || value == 50) {
+            apart(row, 1, "resources apart, each of its size, at 20 MHz");
+            apart(row, 2, "resources apart, each of its size, at 40 MHz");
+        }
+    }
+}
+
+/* The 26s of a segment of zeros have the indices 1 to 18 and 20 to 37: "19 doesn't exist". */
+static void indices(void)
+{
+    static layout l;
+    unsigned row[4] = {0, 0, 0, 0}, right = 1;
+    lay_out(row, 4, &l);
+    for (unsigned k = 0; k < 36; k++)
+        right = right && l.record[k].index == k + 1 + (k >= 18);
+    expect(l.records == 36 && right, "the 26s of a segment, 19 left out");
+}
+
+static void answer_is(answer a, uint32_t number, uint32_t channel, uint64_t place, const char *what)
+{
+    expect(a.number == number && a.channel == channel && a.place == place, what);
+}
+
+/* "004's example: row (26,97,29,29,120,29,28,50)." */
+static void example(void)
+{
+    static const uint32_t words[15] = {
+        0x0001E1F6, 0x01BCD778, 0x00434000, 0x21D87661, 0x21C87678, 0x00000232, 0, 0, 0x0000000F, 0,
+        0x318DA33F, 0x04ADA147, 0x044DA247, 0x3045A43F, 0x3075A53F};
+    uint32_t got[16];
+    uint8_t cc1[24], cc2[24], listing[1000];
+    static const char expected[] =
+        "answer=0\nbw=3\nresources=4\nfields1=1\nfields2=4\nstations=5\n"
+        "ru=484+242 index=1 segment=0 users=2 tones=-765:-524,-500:-259,-253:-12\n"
+        "ru=484+242 index=4 segment=1 users=1 tones=12:253,259:500,524:765\n"
+        "ru=106 index=7 segment=1 users=1 tones=772:877\n"
+        "ru=106+26 index=8 segment=1 users=1 tones=879:904,906:1011\n"
+        "sta=1443 resource=2\nsta=1441 resource=1\nsta=1442 resource=1\nsta=1444 resource=3\nsta=1445 resource=4\n";
+    answer a;
+    memset(got, 0xA5, sizeof got);
+    answer_is(reference_read(3, channel_1_mended, 23, channel_2, 23, got, 16), 0, 0, 15, "004 mended is accepted");
+    expect(memcmp(got, words, sizeof words) == 0, "004's words");
+    expect(got[15] == 0xA5A5A5A5, "words past the count keep what they held");
+    memset(got, 0xA5, sizeof got);
+    answer_is(reference_read(3, channel_1_printed, 23, channel_2, 23, got, 16), 10, 1, 95, "004 as printed is 10");
+    expect(got[0] == 0xA5A5A5A5, "a refusal writes nothing");
+    answer_is(reference_read(3, channel_1_mended, 23, channel_2, 23, got, 14), 12, 0, 15, "004 with too few words");
+    answer_is(reference_read(3, channel_1_mended, 14, channel_2, 23, got, 16), 0, 0, 15, "004 without its padding");
+    answer_is(reference_read(3, channel_1_mended, 14, channel_2, 22, got, 16), 9, 2, 176, "004 cut short");
+    memset(cc1, 0xA5, sizeof cc1);
+    memset(cc2, 0xA5, sizeof cc2);
+    answer_is(reference_write(3, words, 15, cc1, 24, cc2, 24), 0, 0, 23, "004's words are written");
+    expect(memcmp(cc1, channel_1_mended, 23) == 0 && cc1[23] == 0xA5, "004's channel 1 comes back");
+    expect(memcmp(cc2, channel_2, 23) == 0 && cc2[23] == 0xA5, "004's channel 2 comes back");
+    answer_is(reference_write(3, words, 15, cc1, 23, cc2, 22), 14, 2, 23, "a writer's buffer too short");
+    answer_is(reference_write(3, words, 14, cc1, 24, cc2, 24), 13, 0, 0, "a word too few");
+    answer_is(reference_write(2, words, 15, cc1, 24, cc2, 24), 13, 0, 0, "004's words at another bandwidth");
+    a = reference_list(3, channel_1_mended, 23, channel_2, 23, listing, sizeof listing);
+    answer_is(a, 0, 0, sizeof expected - 1, "004's listing, its length");
+    expect(memcmp(listing, expected, sizeof expected - 1) == 0, "004's listing, by 01's tables");
+    answer_is(reference_list(3, channel_1_mended, 23, channel_2, 23, listing, sizeof expected - 2), 23, 0,
+              sizeof expected - 1, "a listing's buffer too short");
+}
+
+/* A frame with the given row and stations, its checks right, built for the checks below. */
+static size_t frame(unsigned bandwidth, const unsigned *row, const uint32_t *stations, uint8_t cc[2][512])
+{
+    static layout l;
+    unsigned longer = 0, s = 0;
+    memset(cc[0], 0, 512);
+    memset(cc[1], 0, 512);
+    lay_out(row, positions_of(bandwidth), &l);
+    for (unsigned c = 0; c < (bandwidth == 0 ? 1u : 2u); c++) {
+        unsigned first = bandwidth < 2 ? 26 : 35, end = end_of_channel(bandwidth, l.fields[c]);
+        for (unsigned k = 0; k < subfields_of(bandwidth); k++)
+            put_field(cc[c], 512, subfield_at(bandwidth, k), 9, row[2 * k + c]);
+        put_field(cc[c], 512, first, 4, check_of(cc[c], 512, 0, first));
+        if (common_bits(bandwidth) > first + 10) {
+            unsigned covered = common_bits(bandwidth) - 10 - (first + 10);
+            put_field(cc[c], 512, first + 10 + covered, 4, check_of(cc[c], 512, first + 10, covered));
+        }
+        for (unsigned j = 0; j < l.fields[c]; j++, s++)
+            put_field(cc[c], 512, user_field_at(bandwidth, j), 11, stations == NULL ? 0 : stations[s]);
+        for (unsigned j = 0; j < l.fields[c]; j += 2) {
+            unsigned at = user_field_at(bandwidth, j), covered = j + 1 < l.fields[c] ? 44 : 22;
+            put_field(cc[c], 512, at + covered, 4, check_of(cc[c], 512, at, covered));
+        }
+        if (end > longer)
+            longer = end;
+    }
+    return (longer + 7) / 8;
+}
+
+/* The listing that 01 prints, whole, and the program's text. */
+static void worked_listing(void)
+{
+    static const unsigned row[2] = {50, 26};
+    static const uint32_t stations[2] = {11, 12};
+    static const char printed[] =
+        "answer=0\nbw=1\nresources=2\nfields1=2\nfields2=0\nstations=2\n"
+        "ru=106 index=1 segment=0 users=1 tones=-243:-138\n"
+        "ru=106+26 index=2 segment=0 users=1 tones=-136:-111,-109:-4\n"
+        "sta=11 resource=1\nsta=12 resource=2\n";
+    static char out[MOST_LISTING];
+    uint8_t cc[2][512];
+    char text[4096];
+    size_t bytes = frame(1, row, stations, cc), n = (size_t)sprintf(text, "bw=1\ncc1=");
+    for (size_t k = 0; k < bytes; k++)
+        n += (size_t)sprintf(text + n, "%02X", cc[0][k]);
+    n += (size_t)sprintf(text + n, "\ncc2=");
+    for (size_t k = 0; k < bytes; k++)
+        n += (size_t)sprintf(text + n, "%02X", cc[1][k]);
+    n += (size_t)sprintf(text + n, "\n");
+    expect(reference_program((const uint8_t *)text, n, out) == sizeof printed - 1
+        && memcmp(out, printed, sizeof printed - 1) == 0, "01's listing, whole");
+}
+
+static void text_is(const char *text, const char *expected)
+{
+    static char out[MOST_LISTING];
+    size_t n = reference_program((const uint8_t *)text, strlen(text), out);
+    expect(n == strlen(expected) && memcmp(out, expected, n) == 0, text);
+}
+
+static void texts(void)
+{
+    static char out[MOST_LISTING];
+    static uint8_t longest[8193];
+    text_is("", "answer=22\nchannel=0\nplace=1\n");
+    text_is("bw=1", "answer=22\nchannel=0\nplace=1\n");
+    text_is("bw=10\ncc1=\ncc2=\n", "answer=22\nchannel=0\nplace=1\n");
+    text_is("bw=1\r\ncc1=\r\ncc2=\r\n", "answer=22\nchannel=0\nplace=1\n");
+    text_is("bw=1\n", "answer=22\nchannel=0\nplace=2\n");
+    text_is("bw=1\ncc1=ab\ncc2=\n", "answer=22\nchannel=0\nplace=2\n");
+    text_is("bw=1\ncc1=ABC\ncc2=\n", "answer=22\nchannel=0\nplace=2\n");
+    text_is("bw=1\ncc1=\ncc2=", "answer=22\nchannel=0\nplace=3\n");
+    text_is("bw=1\ncc1=\ncc2=\n\n", "answer=22\nchannel=0\nplace=4\n");
+    text_is("bw=9\ncc1=\ncc2=\n", "answer=1\nchannel=0\nplace=0\n");
+    text_is("bw=9\ncc1=\ncc3=\n", "answer=22\nchannel=0\nplace=3\n");
+    text_is("bw=1\ncc1=\ncc2=\n", "answer=3\nchannel=1\nplace=0\n"); /* "channel 1 empty is refused with 3" */
+    text_is("bw=0\ncc1=\ncc2=00\n", "answer=2\nchannel=2\nplace=0\n");
+    memcpy(longest, "bw=1\ncc1=\ncc2=", 14);
+    memset(longest + 14, '0', 8178);
+    longest[8191] = '\n';
+    expect(reference_program(longest, 8192, out) == 28 && memcmp(out, "answer=22\nchannel=0\nplace=3\n", 28) == 0,
+           "8,192 bytes are read: an odd number of digits is line 3");
+    expect(reference_program(longest, 8193, out) == 28 && memcmp(out, "answer=22\nchannel=0\nplace=0\n", 28) == 0,
+           "8,193 bytes are too many");
+}
+
+/* The answers that the checks above do not reach, and the order of two that meet. */
+static void answers(void)
+{
+    static uint8_t cc[2][512];
+    static uint8_t large[513];
+    uint32_t words[154];
+    uint8_t back[2][600];
+    static const unsigned zeros[16] = {0}, not_carried[4] = {0, 0, 31, 0}, beyond[4] = {0, 511, 0, 0},
+        unplanned[16] = {0, 0, 0, 0, 75, 76, 0, 0, 0, 0, 0, 0, 0, 0, 0, 29}, nine[8] = {72, 29, 79, 72, 79, 72, 29, 29};
+    static const uint32_t twice[2] = {2006, 2006}, free_to_repeat[2] = {2007, 2007};
+    static const unsigned shared[2] = {72, 72}, alone[1] = {64};
+    size_t bytes;
+    answer_is(reference_read(5, NULL, 0, NULL, 0, words, 0), 1, 0, 0, "a bandwidth code above 4");
+    answer_is(reference_read(4, large, 513, large, 513, words, 0), 2, 1, 0, "channel 1 over 512 bytes");
+    answer_is(reference_read(4, NULL, 0, large, 513, words, 0), 2, 2, 0, "2 in channel 2 before 3 in channel 1");
+    answer_is(reference_read(0, NULL, 0, large, 1, words, 0), 2, 2, 0, "channel 2 at 20 MHz");
+    answer_is(reference_read(1, large, 5, large, 4, words, 0), 3, 2, 32, "3 in channel 2 before 4 in channel 1");
+    answer_is(reference_read(1, large, 5, large, 5, words, 0), 4, 1, 26, "the check of zeros is not zero");
+    bytes = frame(4, zeros, NULL, cc);
+    expect(bytes == 257, "320, all 0: 257 bytes");
+    answer_is(reference_read(4, cc[0], bytes, cc[1], bytes, words, 154), 0, 0, 154, "320, all 0: 154 words");
+    answer_is(reference_write(4, words, 154, back[0], 600, back[1], 600), 0, 0, 257, "and back");
+    expect(memcmp(back[0], cc[0], 257) == 0 && memcmp(back[1], cc[1], 257) == 0, "the same channels");
+    cc[1][12] ^= 0x10; /* bit 100: a tail or check of the second block */
+    answer_is(reference_read(4, cc[0], bytes, cc[1], bytes, words, 154), 4, 2, 99, "the second check of channel 2");
+    bytes = frame(0, alone, NULL, cc);
+    put_field(cc[0], 512, 6, 3, 5);
+    put_field(cc[0], 512, 26, 4, check_of(cc[0], 512, 0, 26));
+    answer_is(reference_read(0, cc[0], bytes, NULL, 0, words, 154), 5, 1, 6, "LTF symbols 5");
+    bytes = frame(1, shared, NULL, cc);
+    put_field(cc[1], 512, 6, 3, 5);
+    put_field(cc[1], 512, 26, 4, check_of(cc[1], 512, 0, 26));
+    answer_is(reference_read(1, cc[0], bytes, cc[1], bytes, words, 154), 5, 2, 6, "overflows that differ");
+    bytes = frame(2, not_carried, NULL, cc);
+    answer_is(reference_read(2, cc[0], bytes, cc[1], bytes, words, 154), 6, 1, 26, "31 is 6");
+    bytes = frame(2, beyond, NULL, cc);
+    answer_is(reference_read(2, cc[0], bytes, cc[1], bytes, words, 154), 6, 2, 17, "511 is 6");
+    bytes = frame(4, unplanned, NULL, cc);
+    answer_is(reference_read(4, cc[0], bytes, cc[1], bytes, words, 154), 7, 0, 3, "7 in segment 3 before 8 in segment 1");
+    bytes = frame(3, nine, NULL, cc);
+    answer_is(reference_read(3, cc[0], bytes, cc[1], bytes, words, 154), 8, 0, 0, "8 in the lowest segment");
+    bytes = frame(1, shared, twice, cc);
+    answer_is(reference_read(1, cc[0], bytes, cc[1], bytes, words, 154), 11, 2, 36, "a station twice, in channel 2");
+    bytes = frame(1, shared, free_to_repeat, cc);
+    answer_is(reference_read(1, cc[0], bytes, cc[1], bytes, words, 154), 0, 0, 12, "2007 may repeat");
+    expect((words[10] & 0xFF) == 0x47 && (words[11] & 0xFF) == 0x47, "one field in each channel: a shared resource");
+    bytes = frame(0, alone, NULL, cc);
+    answer_is(reference_read(0, cc[0], bytes, NULL, 0, words, 154), 0, 0, 11, "20 MHz");
+    memset(back, 0xA5, sizeof back);
+    answer_is(reference_write(0, words, 11, back[0], 600, NULL, 0), 0, 0, 9, "20 MHz back, channel 2 not measured");
+    expect(back[0][9] == 0xA5 && back[1][0] == 0xA5, "bytes past the count keep what they held");
+    words[9] = 1;
+    answer_is(reference_write(0, words, 11, back[0], 600, NULL, 0), 13, 0, 0, "a bit that no reading sets");
+    answer_is(reference_write(9, words, 11, back[0], 600, NULL, 0), 1, 0, 0, "the writer's 1");
+    answer_is(reference_write_bytes(0, large, 41, back[0], 600, NULL, 0), 13, 0, 0, "a word text not divisible by four");
+}
+
 int self_test(void)
 {
     bits_and_fields();
     checks();
+    rows();
+    one_plan();
+    subcarriers();
+    indices();
+    example();
+    worked_listing();
+    texts();
+    answers();
     printf("reference: held to the papers\n%d passed, %d failed\n", passed, failed);
     return failed != 0;
 }

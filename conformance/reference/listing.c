@@ -1,0 +1,137 @@
+/* The listing, and the program's text. */
+#include "reference.h"
+
+#include <stdio.h>
+#include <string.h>
+
+/* The listing's lines, in the order of 01's example; "sta= lines follow the User words", and resource=
+ * counts the ru= lines from 1 (decision). */
+static size_t listing_text(unsigned bandwidth, const reading *r, char *text)
+{
+    const layout *l = &r->layout;
+    size_t n = 0;
+    n += (size_t)sprintf(text + n, "answer=0\n");
+    n += (size_t)sprintf(text + n, "bw=%u\n", bandwidth);
+    n += (size_t)sprintf(text + n, "resources=%u\n", l->records);
+    n += (size_t)sprintf(text + n, "fields1=%u\n", l->fields[0]);
+    n += (size_t)sprintf(text + n, "fields2=%u\n", l->fields[1]);
+    n += (size_t)sprintf(text + n, "stations=%u\n", l->fields[0] + l->fields[1]); /* "Stations counts User fields" */
+    for (unsigned k = 0; k < l->records; k++) {
+        const record *x = &l->record[k];
+        n += (size_t)sprintf(text + n, "ru=%s index=%u segment=%u users=%u tones=", name_of_size[x->size],
+                             x->index, x->segment, x->fields[0] + x->fields[1]);
+        n += tones_text(x, positions_of(bandwidth), text + n);
+        n += (size_t)sprintf(text + n, "\n");
+    }
+    for (unsigned c = 0; c < 2; c++)
+        for (unsigned j = 0; j < l->fields[c]; j++)
+            n += (size_t)sprintf(text + n, "sta=%lu resource=%u\n", (unsigned long)r->station[c][j],
+                                 l->owner[c][j] + 1);
+    return n;
+}
+
+/* "23 last": answers 1 to 11, then 23: "listing's buffer is too short | 0, bytes needed". */
+answer reference_list(uint32_t bandwidth, const uint8_t *cc1, size_t cc1_length, const uint8_t *cc2,
+                      size_t cc2_length, uint8_t *text, size_t room)
+{
+    static reading r;
+    static char whole[MOST_LISTING];
+    size_t needed;
+    answer a = read_frame(bandwidth, cc1, cc1_length, cc2, cc2_length, &r);
+    if (a.number != 0)
+        return a;
+    needed = listing_text(bandwidth, &r, whole);
+    if (room < needed)
+        return answer_of(23, 0, needed);
+    memcpy(text, whole, needed);
+    return answer_of(0, 0, needed);
+}
+
+/* "A refusal is answer=, channel=, place=, three lines, by the program". */
+static size_t refusal_text(answer a, char *text)
+{
+    return (size_t)sprintf(text, "answer=%lu\nchannel=%lu\nplace=%llu\n", (unsigned long)a.number,
+                           (unsigned long)a.channel, (unsigned long long)a.place);
+}
+
+static int is_hex_digit(uint8_t c)
+{
+    return (c >= '0' && c <= '9') || (c >= 'A' && c <= 'F');
+}
+
+static unsigned digit_of(uint8_t c)
+{
+    return c <= '9' ? (unsigned)(c - '0') : (unsigned)(c - 'A') + 10;
+}
+
+/* "Each line starts with its fixed key, compared .. byte for byte". */
+static int starts_with(const uint8_t *line, size_t length, const char *key)
+{
+    return length >= strlen(key) && memcmp(line, key, strlen(key)) == 0;
+}
+
+/* "the lines bw= (one decimal digit), cc1=, cc2= (pairs of hex digits, capital letters, perhaps none)". The
+ * line is given without its line feed. */
+static int line_is_right(unsigned which, const uint8_t *line, size_t length)
+{
+    static const char *const key[4] = {"", "bw=", "cc1=", "cc2="};
+    size_t after = strlen(key[which]);
+    if (!starts_with(line, length, key[which]))
+        return 0;
+    if (which == 1)
+        return length == after + 1 && line[after] >= '0' && line[after] <= '9';
+    if ((length - after) % 2 != 0)
+        return 0;
+    for (size_t k = after; k < length; k++)
+        if (!is_hex_digit(line[k]))
+            return 0;
+    return 1;
+}
+
+/* "each ended by a line feed and nothing after". 22: "program text over 8,192 bytes, else not the three
+ * lines named under Listing | 0, 0; else first wrong line, from 1 (text after the third is line 4)". On 0
+ * the lines' first bytes and lengths are kept. */
+static answer check_22(const uint8_t *text, size_t length, const uint8_t *line[4], size_t line_length[4])
+{
+    size_t at = 0;
+    if (length > 8192)
+        return answer_of(22, 0, 0);
+    for (unsigned which = 1; which <= 3; which++) {
+        const uint8_t *feed = at < length ? memchr(text + at, '\n', length - at) : NULL;
+        if (feed == NULL)
+            return answer_of(22, 0, which);
+        line[which] = text + at;
+        line_length[which] = (size_t)(feed - (text + at));
+        if (!line_is_right(which, line[which], line_length[which]))
+            return answer_of(22, 0, which);
+        at += line_length[which] + 1;
+    }
+    if (at != length)
+        return answer_of(22, 0, 4);
+    return answer_of(0, 0, 0);
+}
+
+static size_t bytes_of_line(const uint8_t *line, size_t length, uint8_t *bytes)
+{
+    size_t n = (length - 4) / 2;
+    for (size_t k = 0; k < n; k++)
+        bytes[k] = (uint8_t)(digit_of(line[4 + 2 * k]) << 4 | digit_of(line[5 + 2 * k]));
+    return n;
+}
+
+/* "22 is first of all"; "and writes the listing". */
+size_t reference_program(const uint8_t *text, size_t length, char out[MOST_LISTING])
+{
+    static uint8_t cc1[4096], cc2[4096];
+    const uint8_t *line[4];
+    size_t line_length[4], n1, n2;
+    answer a = check_22(text, length, line, line_length);
+    if (a.number != 0)
+        return refusal_text(a, out);
+    n1 = bytes_of_line(line[2], line_length[2], cc1);
+    n2 = bytes_of_line(line[3], line_length[3], cc2);
+    a = reference_list(digit_of(line[1][3]), cc1, n1, cc2, n2, (uint8_t *)out, MOST_LISTING);
+    if (a.number != 0)
+        return refusal_text(a, out);
+    return (size_t)a.place;
+}
