@@ -44,20 +44,22 @@ static uint64_t draw_covered(chance *c)
     return one_in(c, 4) ? below(c, 70) : some[below(c, sizeof some / sizeof some[0])];
 }
 
-void print_bit(chance *c)
+void print_bit(chance *c, unsigned long k)
 {
     uint8_t s[64];
     size_t length = draw_string(c, s);
+    (void)k;
     print_letter('b');
     print_string(s, length);
     print_number(draw_at(c, length));
     print_end();
 }
 
-void print_field(chance *c)
+void print_field(chance *c, unsigned long k)
 {
     uint8_t s[64];
     size_t length = draw_string(c, s);
+    (void)k;
     print_letter('f');
     print_string(s, length);
     print_number(draw_at(c, length));
@@ -65,10 +67,11 @@ void print_field(chance *c)
     print_end();
 }
 
-void print_lacks(chance *c)
+void print_lacks(chance *c, unsigned long k)
 {
     uint8_t s[64];
     size_t length = draw_string(c, s);
+    (void)k;
     print_letter('l');
     print_string(s, length);
     print_number(draw_at(c, length));
@@ -77,10 +80,11 @@ void print_lacks(chance *c)
 }
 
 /* Two strings that agree but for one bit, or not at all, or but for their lengths. */
-void print_difference(chance *c)
+void print_difference(chance *c, unsigned long k)
 {
     uint8_t s[64], t[64];
     size_t s_length = draw_string(c, s), t_length = s_length;
+    (void)k;
     for (size_t k = 0; k < sizeof t; k++)
         t[k] = k < s_length ? s[k] : draw_byte(c);
     switch (below(c, 4)) {
@@ -97,11 +101,12 @@ void print_difference(chance *c)
     print_end();
 }
 
-void print_put(chance *c)
+void print_put(chance *c, unsigned long k)
 {
     uint8_t s[64];
     size_t length = draw_string(c, s);
     uint64_t width = draw_width(c), value = below(c, UINT64_C(1) << 25);
+    (void)k;
     if (one_in(c, 4))
         value = (UINT64_C(1) << 25) - 1;
     if (!one_in(c, 4))
@@ -125,11 +130,12 @@ static size_t draw_block(chance *c, uint8_t *s, uint64_t at, uint64_t covered)
     return length;
 }
 
-void print_check(chance *c)
+void print_check(chance *c, unsigned long k)
 {
     uint8_t s[64];
     uint64_t at = below(c, 40), covered = draw_covered(c);
     size_t length = draw_block(c, s, at, covered);
+    (void)k;
     if (one_in(c, 4) && length > 0)
         length -= (size_t)below(c, length < 9 ? length : 9);
     print_letter('c');
@@ -141,11 +147,12 @@ void print_check(chance *c)
 
 /* A right block; else one bit of its covered bits, its check, its tail or beside it changed, or the
  * block cut short. */
-void print_block(chance *c)
+void print_block(chance *c, unsigned long k)
 {
     uint8_t s[64];
     uint64_t at = below(c, 40), covered = draw_covered(c), i;
     size_t length = draw_block(c, s, at, covered);
+    (void)k;
     switch (below(c, 7)) {
     case 0: i = at + below(c, covered + 1); break;
     case 1: i = at + covered + below(c, 4); break;

@@ -16,4 +16,43 @@ uint64_t below(chance *c, uint64_t bound); /* 0 to bound - 1; bound is not 0 */
 int one_in(chance *c, unsigned n);
 uint8_t draw_byte(chance *c); /* now and then 00 or FF, which any slip of a bit shows */
 
+/* rows.c: a row that some plan signals, and the same damaged. */
+void draw_good_row(chance *c, unsigned positions, unsigned *row);
+void damage_row(chance *c, unsigned positions, unsigned *row);
+void draw_row(chance *c, unsigned positions, unsigned *row); /* mostly good */
+
+/* frames.c: a pair of channels. */
+#define MOST_LENT 640
+
+typedef struct {
+    uint32_t bandwidth;
+    size_t length[2];
+    uint8_t cc[2][MOST_LENT];
+    unsigned fields; /* User fields that its row tells of */
+} frame;
+
+void draw_good_frame(chance *c, frame *f);
+void build_frame(chance *c, unsigned bandwidth, const unsigned *row, frame *f);
+void mend_checks(frame *f);
+void draw_frame(chance *c, frame *f); /* good, damaged in one way or two, or of random bytes */
+size_t draw_words_room(chance *c, const frame *f);
+
+/* words.c: words for the writer, as little-endian bytes. */
+#define MOST_WORD_BYTES 1024
+
+typedef struct {
+    uint32_t bandwidth;
+    size_t length;
+    uint8_t bytes[MOST_WORD_BYTES];
+    size_t room[2];
+} words_case;
+
+void draw_words(chance *c, words_case *w);
+
+/* texts.c: a text for the program, and a listing's room. */
+#define MOST_TEXT 10000
+
+size_t draw_text(chance *c, uint8_t text[MOST_TEXT]);
+size_t draw_listing_room(chance *c, const frame *f);
+
 #endif

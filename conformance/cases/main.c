@@ -29,10 +29,11 @@ void print_end(void)
 
 static const struct {
     char letter;
-    void (*print)(chance *c);
+    void (*print)(chance *c, unsigned long k);
 } kind[] = {
     {'b', print_bit}, {'f', print_field}, {'l', print_lacks}, {'d', print_difference},
     {'p', print_put}, {'c', print_check}, {'k', print_block},
+    {'v', print_value}, {'r', print_row}, {'R', print_read}, {'W', print_write}, {'L', print_list}, {'T', print_text},
 };
 
 static int usage(void)
@@ -62,8 +63,8 @@ int main(int argc, char **argv)
         if (*end != 0)
             return usage();
         c = chance_from(seed, (unsigned char)argv[i][0]);
-        while (count-- > 0)
-            kind[k].print(&c);
+        for (unsigned long n = 0; n < count; n++)
+            kind[k].print(&c, n);
     }
     return fflush(stdout) == 0 ? 0 : 2;
 }

@@ -9,13 +9,21 @@ void print_number(uint64_t number);
 void print_string(const uint8_t *bytes, size_t length);
 void print_end(void);
 
-/* bits.c */
-void print_bit(chance *c);
-void print_field(chance *c);
-void print_lacks(chance *c);
-void print_difference(chance *c);
-void print_put(chance *c);
-void print_check(chance *c);
-void print_block(chance *c);
+/* Each prints one case; k counts the cases of its letter from 0. bits.c: */
+void print_bit(chance *c, unsigned long k);
+void print_field(chance *c, unsigned long k);
+void print_lacks(chance *c, unsigned long k);
+void print_difference(chance *c, unsigned long k);
+void print_put(chance *c, unsigned long k);
+void print_check(chance *c, unsigned long k);
+void print_block(chance *c, unsigned long k);
+
+/* whole.c: */
+void print_value(chance *c, unsigned long k);
+void print_row(chance *c, unsigned long k);
+void print_read(chance *c, unsigned long k);
+void print_write(chance *c, unsigned long k);
+void print_list(chance *c, unsigned long k);
+void print_text(chance *c, unsigned long k);
 
 #endif

@@ -1,0 +1,113 @@
+/* Rows, built forward from the owners of their positions. */
+#include "cases.h"
+
+/* A value for a position given to itself. 48 and 50 are left out where they may not stand. */
+static unsigned draw_own_value(chance *c, unsigned p, unsigned n)
+{
+    switch (below(c, 8)) {
+    case 0: return 0;
+    case 1: return 26 + (unsigned)below(c, 3);
+    case 2: return 64 + (unsigned)below(c, 8);
+    case 3: return 64;
+    case 4:
+        if (n < 4 || p < 2)
+            return one_in(c, 2) ? 48 : 50;
+        return p == 2 ? 48 : 50;
+    default: return (unsigned)below(c, 29);
+    }
+}
+
+/* A resource of some places: each has `empty` (its own, by place) or a value of the family from `first`
+ * on, eight fields in all at most; now and then more. `named` asks for one place of the family at least. */
+static void draw_places(chance *c, unsigned *row, const unsigned *empty, const unsigned *place, unsigned places,
+                        unsigned first, int named)
+{
+    unsigned over = (unsigned)one_in(c, 10), left = over ? 8 * places : 8, must = (unsigned)below(c, places);
+    for (unsigned k = 0; k < places; k++) {
+        unsigned fields = 0, most = left < 8 ? left : 8;
+        if (most != 0 && (over || one_in(c, 3) || (named && k == must)))
+            fields = 1 + (unsigned)below(c, over || one_in(c, 3) ? most : most < 3 ? most : 3);
+        if (named && k < must && fields == left)
+            fields--;
+        left -= fields;
+        row[place[k]] = fields == 0 ? empty[k] : first + fields - 1;
+    }
+}
+
+static void draw_484(chance *c, unsigned *row, unsigned first)
+{
+    static const unsigned empty[2] = {29, 29};
+    unsigned place[2] = {first, first + 1};
+    draw_places(c, row, empty, place, 2, 72, 0);
+}
+
+static void draw_996(chance *c, unsigned *row)
+{
+    static const unsigned empty[4] = {30, 30, 30, 30}, place[4] = {0, 1, 2, 3};
+    draw_places(c, row, empty, place, 4, 80, 0);
+}
+
+static void draw_484_242(chance *c, unsigned *row, unsigned left_out)
+{
+    unsigned empty[3], place[3], n = 0;
+    for (unsigned p = 0; p < 4; p++) {
+        if (p == left_out)
+            continue;
+        empty[n] = p / 2 == left_out / 2 ? 28 : 29;
+        place[n++] = p;
+    }
+    draw_places(c, row, empty, place, 3, 96 + 8 * left_out, !one_in(c, 20));
+    row[left_out] = draw_own_value(c, left_out, 4);
+}
+
+static void draw_own(chance *c, unsigned *row, unsigned first, unsigned count, unsigned n)
+{
+    for (unsigned p = first; p < first + count; p++)
+        row[p] = draw_own_value(c, p, n);
+}
+
+static void draw_segment(chance *c, unsigned *row, unsigned n)
+{
+    if (n == 4 && one_in(c, 3)) {
+        draw_484_242(c, row, (unsigned)below(c, 4));
+    } else if (n == 4 && one_in(c, 5)) {
+        draw_996(c, row);
+    } else {
+        for (unsigned p = 0; p < n; p += 2) {
+            if (n >= 2 && one_in(c, 3))
+                draw_484(c, row, p);
+            else
+                draw_own(c, row, p, n < 2 ? 1 : 2, n);
+        }
+    }
+}
+
+void draw_good_row(chance *c, unsigned positions, unsigned *row)
+{
+    unsigned n = positions < 4 ? positions : 4;
+    for (unsigned p = 0; p < positions; p += n)
+        draw_segment(c, row + p, n);
+}
+
+/* Another value at one position, near or far; or two positions exchanged. */
+void damage_row(chance *c, unsigned positions, unsigned *row)
+{
+    unsigned p = (unsigned)below(c, positions), q = (unsigned)below(c, positions), kept = row[p];
+    switch (below(c, 6)) {
+    case 0: row[p] = row[q]; row[q] = kept; break;
+    case 1: row[p] = 28 + (unsigned)below(c, 3); break;
+    case 2: row[p] = one_in(c, 2) ? 48 : 50; break;
+    case 3: row[p] = 64 + (unsigned)below(c, 64); break;
+    case 4: row[p] = (unsigned)below(c, 128); break;
+    default: row[p] = row[q] ^ 1u << below(c, 7);
+    }
+}
+
+void draw_row(chance *c, unsigned positions, unsigned *row)
+{
+    draw_good_row(c, positions, row);
+    if (one_in(c, 4))
+        damage_row(c, positions, row);
+    if (one_in(c, 40))
+        damage_row(c, positions, row);
+}

@@ -1,0 +1,73 @@
+/* Cases of rows, frames, words and texts: the letters v r R W L T. */
+#include "print.h"
+
+#include "../reference/reference.h"
+
+/* A row of one value: 0, 1, .. in turn. */
+void print_value(chance *c, unsigned long k)
+{
+    (void)c;
+    print_letter('r');
+    print_number(k % 128);
+    print_end();
+}
+
+void print_row(chance *c, unsigned long k)
+{
+    unsigned row[16], positions = 1u << below(c, 5);
+    (void)k;
+    draw_row(c, positions, row);
+    print_letter('r');
+    for (unsigned p = 0; p < positions; p++)
+        print_number(row[p]);
+    print_end();
+}
+
+static void print_frame(char letter, const frame *f, size_t room)
+{
+    print_letter(letter);
+    print_number(f->bandwidth);
+    print_string(f->cc[0], f->length[0]);
+    print_string(f->cc[1], f->length[1]);
+    print_number(room);
+    print_end();
+}
+
+void print_read(chance *c, unsigned long k)
+{
+    frame f;
+    (void)k;
+    draw_frame(c, &f);
+    print_frame('R', &f, draw_words_room(c, &f));
+}
+
+void print_list(chance *c, unsigned long k)
+{
+    frame f;
+    (void)k;
+    draw_frame(c, &f);
+    print_frame('L', &f, draw_listing_room(c, &f));
+}
+
+void print_write(chance *c, unsigned long k)
+{
+    words_case w;
+    (void)k;
+    draw_words(c, &w);
+    print_letter('W');
+    print_number(w.bandwidth);
+    print_string(w.bytes, w.length);
+    print_number(w.room[0]);
+    print_number(w.room[1]);
+    print_end();
+}
+
+void print_text(chance *c, unsigned long k)
+{
+    static uint8_t text[MOST_TEXT];
+    size_t n = draw_text(c, text);
+    (void)k;
+    print_letter('T');
+    print_string(text, n);
+    print_end();
+}
