@@ -1,2 +1,5 @@
 pub mod Names
 pub mod Values
+pub mod Index
+pub mod Tones
+pub mod Runs

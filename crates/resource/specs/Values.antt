@@ -67,3 +67,7 @@ pieces v =
 -- punctured (26) or unassigned (27) position and a place with no field here (28, 29, 30) none
 unfoldable pub fieldsOf : ℕ → ℕ
 fieldsOf v = cond (ltb v 64) (length (pieces v)) (cond (carried v) (v % 8 + 1) 0)
+
+-- the pieces of a position that is given to itself: 28 and 64 to 71 leave it whole, a 242
+unfoldable pub ownPieces : ℕ → List Piece
+ownPieces v = cond (eqb v 28 || within 64 71 v) (Part S242 1 ∷ []) (pieces v)

@@ -31,6 +31,12 @@ pub enum Piece {
     With26(u16),
 }
 
+// The subcarriers from lo to hi, counted from the channel's lower edge.
+pub struct Run {
+    pub lo: u32,
+    pub hi: u32,
+}
+
 pub fn is_carried(v: u16) -> bool
     ensures { λ r. ⌜ r ≡ carried v ⌝ }
 {

@@ -1,0 +1,191 @@
+-- Where subcarriers lie: a piece's inside its own position, a larger resource's inside its places; and no two pieces of a value share one.
+-- Assumes nothing.
+use mathlib.Core.Path.{_≡_, refl, sym, subst}
+use mathlib.Core.Logic.{_≢_, _⊎_, inl, inr, ⊎-elim}
+use mathlib.Core.Bool.{Bool, true, false, cond, _&&_, _||_}
+use mathlib.Core.List.{List, [], _∷_, _++_}
+use Prim.Native.Nat.{ℕ, zero, suc, _+_, _-_, _*_, _/_, _%_, _^_, _≤_, _<_}
+use native.Mathlib.Nat.{eq-or-lt-of-le}
+use native.Mathlib.Omega.{arith}
+use borrow.Author.Tests.{lt-leb, le-leb, le-ltb, ne-eqb}
+use lib.Dec.{T, leb, eqb, leb→le, le→leb}
+use lib.ListN.{length, getD}
+use Rattle.resource.specs.declared.Size.{Size}
+use Rattle.resource.specs.declared.Size.the-variants.{S26, S52, S106, S242, S484, S996}
+use Rattle.resource.specs.declared.Piece.{Piece}
+use Rattle.resource.specs.declared.Piece.the-variants.{Part, With26}
+use Rattle.resource.specs.declared.Resource.{Resource}
+use Rattle.resource.specs.declared.Resource.the-variants.{Single, Joined}
+use Rattle.resource.specs.declared.Run.{Run}
+use Rattle.resource.specs.Values.{pieces, ownPieces}
+use Rattle.resource.specs.Index.{indexOf, resourceAt, leavingOut, positionOf, placeOf}
+use Rattle.resource.specs.Runs.{In, edge, the242, runsOf, wide, wideWith26, three, narrow, narrowWith26, offset26, offset52, offset106}
+use Rattle.resource.proofs.Test.{below-or, both-left, both-right, below, every-below}
+use Rattle.resource.proofs.Everywhere.{everywhere, at-position}
+
+-- ---- runs that rise from b on and end below e; one may touch the next
+abbrev pub ascending : ℕ → ℕ → List Run → Bool
+ascending b e [] = leb b e
+ascending b e (r ∷ rs) = leb b (r .lo) && (leb (r .lo) (r .hi) && ascending (suc (r .hi)) e rs)
+
+in-left : (x : ℕ) (xs ys : List Run) → In x xs → In x (xs ++ ys)
+in-left x [] ys h = absurd h
+in-left x (a ∷ xs) ys (inl h) = inl h
+in-left x (a ∷ xs) ys (inr h) = inr (in-left x xs ys h)
+
+in-right : (x : ℕ) (xs ys : List Run) → In x ys → In x (xs ++ ys)
+in-right x [] ys h = h
+in-right x (a ∷ xs) ys h = inr (in-right x xs ys h)
+
+module _ (e : ℕ) where
+  parts : (b : ℕ) (r : Run) (rs : List Run) → T (ascending b e (r ∷ rs)) → (b ≤ r .lo) × (r .lo ≤ r .hi) × T (ascending (suc (r .hi)) e rs)
+  parts b r rs t =
+      let u = both-right (leb b (r .lo)) (leb (r .lo) (r .hi) && ascending (suc (r .hi)) e rs) t in (
+        leb→le b (r .lo) (both-left (leb b (r .lo)) (leb (r .lo) (r .hi) && ascending (suc (r .hi)) e rs) t),
+        leb→le (r .lo) (r .hi) (both-left (leb (r .lo) (r .hi)) (ascending (suc (r .hi)) e rs) u),
+        both-right (leb (r .lo) (r .hi)) (ascending (suc (r .hi)) e rs) u,
+      )
+
+  ends : (b : ℕ) (rs : List Run) → T (ascending b e rs) → b ≤ e
+  ends b [] t = leb→le b e t
+  ends b (r ∷ rs) t = let u = parts b r rs t in omega (arith, ends (suc (r .hi)) rs (u .2))
+
+  -- what ascends lies between the bounds
+  pub bounded : (b x : ℕ) (rs : List Run) → T (ascending b e rs) → In x rs → (b ≤ x) × (x < e)
+  bounded b x [] t h = absurd h
+  bounded b x (r ∷ rs) t (inl h) = let u = parts b r rs t in omega (arith, ends (suc (r .hi)) rs (u .2))
+  bounded b x (r ∷ rs) t (inr h) = let u = parts b r rs t in omega (arith, bounded (suc (r .hi)) x rs (u .2) h)
+
+  -- what stands later lies higher
+  higher : (b x y : ℕ) (xs ys : List Run) → T (ascending b e (xs ++ ys)) → In x xs → In y ys → x < y
+  higher b x y [] ys t h g = absurd h
+  higher b x y (r ∷ xs) ys t (inl h) g =
+      let u = parts b r (xs ++ ys) t in
+      omega (arith, bounded (suc (r .hi)) y (xs ++ ys) (u .2) (in-right y xs ys g))
+  higher b x y (r ∷ xs) ys t (inr h) g = let u = parts b r (xs ++ ys) t in higher (suc (r .hi)) x y xs ys (u .2) h g
+
+  rest : (b : ℕ) (xs ys : List Run) → T (ascending b e (xs ++ ys)) → (c : ℕ) × (b ≤ c) × T (ascending c e ys)
+  rest b [] ys t = (b, omega arith, t)
+  rest b (r ∷ xs) ys t =
+      let u = parts b r (xs ++ ys) t in
+      let w = rest (suc (r .hi)) xs ys (u .2) in
+      (w .0, omega (arith, w .1), w .2)
+
+-- ---- the pieces of a value, one after the other
+abbrev pub gather : (Piece → List Run) → List Piece → List Run
+gather f [] = []
+gather f (x ∷ xs) = f x ++ gather f xs
+
+module _ (f : Piece → List Run) (d : Piece) where
+  gathered : (xs : List Piece) (k u : ℕ) → k < length xs → In u (f (getD xs k d)) → In u (gather f xs)
+  gathered [] k u l h = absurd (omega arith)
+  gathered (x ∷ xs) zero u l h = in-left u (f x) (gather f xs) h
+  gathered (x ∷ xs) (suc k) u l h = in-right u (f x) (gather f xs) (gathered xs k u (omega arith) h)
+
+  rise : (e b : ℕ) (xs : List Piece) → T (ascending b e (gather f xs)) → (k l u w : ℕ) → k < l → l < length xs
+      → In u (f (getD xs k d)) → In w (f (getD xs l d)) → u < w
+  rise e b [] t k l u w i j p q = absurd (omega arith)
+  rise e b (x ∷ xs) t k zero u w i j p q = absurd (omega arith)
+  rise e b (x ∷ xs) t zero (suc l) u w i j p q =
+      higher e b u w (f x) (gather f xs) t p (gathered xs l w (omega arith) q)
+  rise e b (x ∷ xs) t (suc k) (suc l) u w i j p q =
+      let c = rest e b (f x) (gather f xs) t in
+      rise e (c .0) xs (c .2) k l u w (omega arith) (omega arith) p q
+
+-- ---- computed for every value at every position of every bandwidth
+abbrev runs-at : ℕ → ℕ → ℕ → Piece → List Run
+runs-at n g p x = runsOf n g (resourceAt p x)
+
+abbrev ascends : ℕ → ℕ → ℕ → ℕ → Bool
+ascends n g p v = ascending (256 * (4 * g + p)) (256 * (4 * g + p) + 256) (gather (runs-at n g p) (ownPieces v))
+
+ascend : T (everywhere (λ n g p. below (ascends n g p) 72))
+unfolding pieces ownPieces indexOf resourceAt positionOf placeOf runsOf wide wideWith26 three narrow narrowWith26 offset26 offset52 offset106
+ascend = tt
+
+-- from 72 on no value leaves its position to itself
+pub no-pieces : (v : ℕ) → 72 ≤ v → ownPieces v ≡ []
+unfolding ownPieces pieces
+no-pieces v h =
+    rw (ne-eqb v 28 (λ e. omega arith), lt-leb v 71 (omega arith), le-leb 64 v (omega arith), le-ltb v 16 (omega arith), le-ltb v 20 (omega arith), le-ltb v 24 (omega arith), ne-eqb v 24 (λ e. omega arith), ne-eqb v 25 (λ e. omega arith), ne-eqb v 48 (λ e. omega arith), ne-eqb v 50 (λ e. omega arith))
+
+module _ (b g p v : ℕ) (h : b < 5) (i : p < 4) (j : 4 * g + p < 2 ^ b) where
+  ascends-at : T (ascends (2 ^ b) g p v)
+  ascends-at =
+      ⊎-elim
+      (λ l. every-below (ascends (2 ^ b) g p) 72 (at-position (λ n g p. below (ascends n g p) 72) b g p ascend h i j) v l)
+      (λ l. rw (no-pieces v l) (le→leb (256 * (4 * g + p)) (256 * (4 * g + p) + 256) (omega arith)))
+      (below-or v 72)
+
+  -- a piece's subcarriers lie in its own position
+  pub piece-inside : (d : Piece) (k u : ℕ) → k < length (ownPieces v) → In u (runsOf (2 ^ b) g (resourceAt p (getD (ownPieces v) k d))) → u / 256 ≡ 4 * g + p
+  piece-inside d k u l m =
+      let w = bounded (256 * (4 * g + p) + 256) (256 * (4 * g + p)) u (gather (runs-at (2 ^ b) g p) (ownPieces v)) ascends-at
+      (gathered (runs-at (2 ^ b) g p) d (ownPieces v) k u l m) in
+      omega arith
+
+  -- and no two pieces share one
+  pub pieces-apart : (d : Piece) (k l u : ℕ) → k ≢ l → k < length (ownPieces v) → l < length (ownPieces v)
+      → In u (runsOf (2 ^ b) g (resourceAt p (getD (ownPieces v) k d))) → In u (runsOf (2 ^ b) g (resourceAt p (getD (ownPieces v) l d))) → ⊥
+  pieces-apart d k l u n c e m o =
+      let r : (x y : ℕ) → x < y → y < length (ownPieces v) → In u (runs-at (2 ^ b) g p (getD (ownPieces v) x d)) → In u (runs-at (2 ^ b) g p (getD (ownPieces v) y d)) → u < u
+      = λ x y q z a f. rise (runs-at (2 ^ b) g p) d (256 * (4 * g + p) + 256) (256 * (4 * g + p)) (ownPieces v) ascends-at x y u u q z a f in
+      ⊎-elim
+      (λ q. let z = r k l q e m o in omega arith)
+      (λ q. ⊎-elim (λ f. n (sym f)) (λ f. let z = r l k f c o m in omega arith) (eq-or-lt-of-le q))
+      (below-or k l)
+
+-- ---- the larger resources
+edge-low : (t : Bool) → (3 ≤ cond t 12 3) × (cond t 12 3 ≤ 12)
+edge-low true = (omega arith, omega arith)
+edge-low false = (omega arith, omega arith)
+
+-- a 242's subcarriers lie in its position
+in-242 : (p u : ℕ) → (the242 p .lo ≤ u) × (u ≤ the242 p .hi) → u / 256 ≡ p
+in-242 p u h = let e = edge-low (eqb (p % 2) 0) in omega arith
+
+in-two : (a c u : ℕ) → In u (the242 a ∷ the242 c ∷ []) → (u / 256 ≡ a) ⊎ (u / 256 ≡ c)
+in-two a c u (inl h) = inl (in-242 a u h)
+in-two a c u (inr (inl h)) = inr (in-242 c u h)
+in-two a c u (inr (inr h)) = absurd h
+
+in-three : (a c d u : ℕ) → In u (the242 a ∷ the242 c ∷ the242 d ∷ []) → (u / 256 ≡ a) ⊎ ((u / 256 ≡ c) ⊎ (u / 256 ≡ d))
+in-three a c d u (inl h) = inl (in-242 a u h)
+in-three a c d u (inr h) = inr (in-two c d u h)
+
+-- of more than one position
+module _ (n g : ℕ) (m : n ≢ 1) where
+  -- a 484's in its pair
+  pub pair-inside : (p u : ℕ) → p < 4 → In u (runsOf n g (resourceAt p (Part S484 1))) → u / 256 / 2 ≡ (4 * g + p) / 2
+  unfolding runsOf resourceAt indexOf positionOf wide
+  pair-inside p u h i =
+      let q = 4 * g + 2 * (p / 2 + 1 - 1) in
+      ⊎-elim (λ e. omega arith) (λ e. omega arith) (in-two (2 * (q / 2)) (2 * (q / 2) + 1) u (rw (ne-eqb n 1 m) at i))
+
+  -- a 996's in its segment
+  pub whole-inside : (p u : ℕ) → In u (runsOf n g (resourceAt p (Part S996 1))) → u / 256 / 4 ≡ g
+  unfolding runsOf resourceAt indexOf positionOf wide
+  whole-inside p u i =
+      let j : In u (wide (4 * g + 0) S996 0) = rw (ne-eqb n 1 m) at i in
+      ⊎-elim (λ e. omega arith) (⊎-elim (λ e. omega arith) (λ e. absurd e)) j
+
+-- a 484+242's in its segment, and not in the position that it leaves out
+three-places : (g k x y z u : ℕ) → x < 4 → y < 4 → z < 4 → x ≢ k → y ≢ k → z ≢ k
+    → In u (the242 (4 * g + x) ∷ the242 (4 * g + y) ∷ the242 (4 * g + z) ∷ []) → (u / 256 / 4 ≡ g) × (u / 256 ≢ 4 * g + k)
+three-places g k x y z u a c d nx ny nz i =
+    ⊎-elim (place x a nx) (⊎-elim (place y c ny) (place z d nz)) (in-three (4 * g + x) (4 * g + y) (4 * g + z) u i)
+  where
+    place : (j : ℕ) → j < 4 → j ≢ k → u / 256 ≡ 4 * g + j → (u / 256 / 4 ≡ g) × (u / 256 ≢ 4 * g + k)
+    place j l n e = (omega arith, λ f. n (omega arith))
+
+pub three-inside : (n g k u : ℕ) → k < 4 → In u (runsOf n g (leavingOut k)) → (u / 256 / 4 ≡ g) × (u / 256 ≢ 4 * g + k)
+unfolding runsOf three
+three-inside n g zero u h i =
+    three-places g 0 1 2 3 u (omega arith) (omega arith) (omega arith) (λ e. omega arith) (λ e. omega arith) (λ e. omega arith) i
+three-inside n g (suc zero) u h i =
+    three-places g 1 0 2 3 u (omega arith) (omega arith) (omega arith) (λ e. omega arith) (λ e. omega arith) (λ e. omega arith) i
+three-inside n g (suc (suc zero)) u h i =
+    three-places g 2 0 1 3 u (omega arith) (omega arith) (omega arith) (λ e. omega arith) (λ e. omega arith) (λ e. omega arith) i
+three-inside n g (suc (suc (suc zero))) u h i =
+    three-places g 3 0 1 2 u (omega arith) (omega arith) (omega arith) (λ e. omega arith) (λ e. omega arith) (λ e. omega arith) i
+three-inside n g (suc (suc (suc (suc k)))) u h i = absurd (omega arith)
