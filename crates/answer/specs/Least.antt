@@ -105,3 +105,26 @@ least-all p n e k l = go (p k) refl
     go : (t : Bool) → p k ≡ t → t ≡ false
     go true f = let z : least p n ≤ k = least-below p n k l f in let w : _≡_ {A = ℕ} 0 1 = omega arith in cc
     go false f = refl
+
+-- the lowest passes
+pub least-holds : (p : ℕ → Bool) (n : ℕ) → least p n < n → p (least p n) ≡ true
+unfolding least
+least-holds p zero l = absurd (omega arith)
+least-holds p (suc n) l = go (ltb (least p n) n) (p n) refl refl (least-holds p n) l
+  where
+    go : (b c : Bool) → ltb (least p n) n ≡ b → p n ≡ c → (least p n < n → p (least p n) ≡ true)
+        → cond b (least p n) (cond c n (suc n)) < suc n → p (cond b (least p n) (cond c n (suc n))) ≡ true
+    go true c e f ih l = ih (ltb-true (least p n) n e)
+    go false true e f ih l = f
+    go false false e f ih l = absurd (omega arith)
+
+-- and none below it does
+pub least-before : (p : ℕ → Bool) (n k : ℕ) → k < least p n → p k ≡ false
+least-before p n k l = go (p k) refl
+  where
+    go : (t : Bool) → p k ≡ t → t ≡ false
+    go true f =
+        let h = least-le p n in
+        let z : least p n ≤ k = least-below p n k (omega arith) f in
+        let w : _≡_ {A = ℕ} 0 1 = omega arith in cc
+    go false f = refl

@@ -1,0 +1,46 @@
+-- The third demand, as far as it speaks of plans and of the answer. Assumes nothing.
+use mathlib.Core.Path.{_≡_, refl, sym, _∙_}
+use mathlib.Core.Logic.{_⊎_, inl, inr}
+use mathlib.Core.List.{List}
+use Prim.Native.Nat.{ℕ, _≤_, _<_}
+use native.Mathlib.Omega.{arith}
+use lib.ListN.{length}
+use Rattle.answer.specs.Answer.{no}
+use Rattle.answer.specs.declared.Out.{Out}
+use Rattle.answer.specs.declared.Out.the-variants.{Pass, Refuse}
+use Rattle.plan.specs.declared.Owner.{Owner}
+use Rattle.plan.specs.Plan.{at, Signals}
+use Rattle.plan.specs.Layout.{segments, Plan, PlanOfEight, SegmentPlan, Laid, accepted, no-plan, over-eight}
+use Rattle.plan.specs.Guess.{onlyPlan, layoutOf}
+use Rattle.plan.proofs.Only.{signalled}
+use Rattle.plan.proofs.Laid.{row-ends, part-plan, whole-signals, layout-laid, laid-is}
+
+module _ (row : List ℕ) where
+  -- a row is accepted exactly when a plan signals it with at most eight User fields on each resource
+  pub accepted-plan : Laid row Pass → PlanOfEight row 0 (length row)
+  accepted-plan (accepted w) = w
+
+  pub plan-accepted : PlanOfEight row 0 (length row) → layoutOf row ≡ Pass
+  plan-accepted w = sym (laid-is row Pass (accepted w))
+
+  -- any plan that signals the row is the only plan, at every position of the row ..
+  pub only-plan : (o : ℕ → Owner) → Signals o (at row) 0 (length row) → (p : ℕ) → p < length row → o p ≡ onlyPlan (at row) p
+  only-plan o w p u = signalled o (at row) 0 (length row) (row-ends row) w p (omega arith) u
+
+  -- .. so no two differ
+  pub one-plan : (o o′ : ℕ → Owner) → Signals o (at row) 0 (length row) → Signals o′ (at row) 0 (length row)
+      → (p : ℕ) → p < length row → o p ≡ o′ p
+  one-plan o o′ w w′ p u = only-plan o w p u ∙ sym (only-plan o′ w′ p u)
+
+  -- a row has a plan exactly when each of its segments has
+  pub plan-parts : Plan row 0 (length row) → (s : ℕ) → s < segments row → SegmentPlan row s
+  plan-parts w s l = part-plan row w s
+
+  pub parts-plan : ((s : ℕ) → s < segments row → SegmentPlan row s) → Plan row 0 (length row)
+  parts-plan f = (onlyPlan (at row), whole-signals row f)
+
+  -- a row that is not accepted is refused for its layout
+  pub refused-layout : (x : Out) → Laid row x → (x ≡ Pass) ⊎ ((s : ℕ) × ((x ≡ Refuse (no 7 0 s)) ⊎ (x ≡ Refuse (no 8 0 s))))
+  refused-layout x (accepted w) = inl refl
+  refused-layout x (no-plan s l n f) = inr (s, inl refl)
+  refused-layout x (over-eight s l p n f) = inr (s, inr refl)

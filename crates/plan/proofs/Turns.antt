@@ -1,0 +1,35 @@
+-- What one turn of the loops over a segment's places finds. Assumes nothing.
+use mathlib.Core.Path.{_≡_, sym, _∙_}
+use mathlib.Core.Bool.{Bool, true, false}
+use Prim.Native.Nat.{ℕ, _+_, _*_, _/_, _%_, _≤_, _<_}
+use native.Mathlib.Omega.{arith}
+use lib.Dec.{leb}
+use borrow.Author.Tests.{le-leb, lt-leb}
+use Rattle.plan.specs.declared.Owner.{Owner}
+use Rattle.plan.specs.Decides.{Decides}
+use Rattle.plan.specs.Plan.{Fits}
+use Rattle.plan.specs.Fields.{total}
+use Rattle.plan.specs.Guess.{firstThree, choose, onlyPlan, fitting}
+use Rattle.plan.proofs.Tests.{decides, same-test}
+use Rattle.plan.proofs.Fitting.{fits-tested}
+use Rattle.plan.proofs.Only.{in-segment}
+
+module _ (row : ℕ → ℕ) (s i k u : ℕ) (o : Owner) (l : i < 4) (ek : k ≡ firstThree row (4 * s) 4) (eu : u ≡ row (4 * s))
+    (eo : o ≡ choose k u (row (2 * ((4 * s + i) / 2))) ((4 * s + i) % 4)) where
+  pub only-in : o ≡ onlyPlan row (4 * s + i)
+  only-in = eo ∙ rw (ek, eu) (in-segment row s (4 * s + i) (omega arith))
+
+  pub fit-turn : (v : ℕ) (t : Bool) → v ≡ row (4 * s + i) → Decides t (Fits o (4 * s + i) v)
+      → fitting (onlyPlan row (4 * s + i)) (4 * s + i) (row (4 * s + i)) ≡ t
+  fit-turn v t ev d =
+      same-test
+      (decides (fitting (onlyPlan row (4 * s + i)) (4 * s + i) (row (4 * s + i))) (Fits (onlyPlan row (4 * s + i)) (4 * s + i) (row (4 * s + i)))
+      (fits-tested (onlyPlan row (4 * s + i)) (4 * s + i) (row (4 * s + i))))
+      (rw (← only-in, ← ev) d)
+
+  module _ (n : ℕ) (en : n ≡ total o row (4 * s + i)) where
+    pub eight-turn : n ≤ 8 → leb (total (onlyPlan row (4 * s + i)) row (4 * s + i)) 8 ≡ true
+    eight-turn h = rw (← only-in, ← en) (le-leb n 8 h)
+
+    pub over-turn : 8 < n → leb (total (onlyPlan row (4 * s + i)) row (4 * s + i)) 8 ≡ false
+    over-turn h = rw (← only-in, ← en) (lt-leb n 8 h)

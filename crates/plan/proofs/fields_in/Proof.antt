@@ -1,0 +1,72 @@
+-- `plan::fields_in` meets its contract. Assumes nothing.
+use native.Mathlib.Numerals.{add-one}
+use Rattle.plan.specs.Fields.{shares, fieldsIn}
+use Rattle.plan.specs.Plan.{at, span}
+use Prim.Native.Nat.{_+_, _-_, _*_, _≤_}
+use mathlib.Core.Path.{_≡_, refl, _∙_}
+use native.Mathlib.Omega.{arith}
+use borrow.Author.Needs.{needs}
+use Rattle.plan.proofs.fields_in.Statement.{statement}
+use Rattle.plan.proofs.fields_in.Tie as tie
+
+abbrev Inv-loop : tie.InvT-loop
+Inv-loop channel o row p n b sum₀ i₀ sum i = (i ≤ n) × (sum ≤ 8 * i) × (sum ≡ shares channel o (at row) b i)
+
+abbrev μ-loop : tie.MeasureT-loop
+μ-loop channel o row p n b sum₀ i₀ sum i = n - i
+
+span-of-requires : tie.Need-span-of-requires Inv-loop μ-loop
+span-of-requires c κs = search needs
+
+span-start-requires : tie.Need-span-start-requires Inv-loop μ-loop
+span-start-requires c κs = search needs
+
+loop-holds : tie.Need-loop-holds Inv-loop μ-loop
+loop-holds c = (omega arith, omega arith, refl)
+
+add-channel-share : tie.Need-add-channel-share Inv-loop μ-loop
+add-channel-share c = search needs
+
+add-value-at : tie.Need-add-value-at Inv-loop μ-loop
+add-value-at c = search needs
+
+value-at-requires : tie.Need-value-at-requires Inv-loop μ-loop
+value-at-requires c κs = search needs
+
+channel-share-requires : tie.Need-channel-share-requires Inv-loop μ-loop
+channel-share-requires c κs = search needs
+
+add-sum : tie.Need-add-sum Inv-loop μ-loop
+add-sum c = search needs
+
+add-i : tie.Need-add-i Inv-loop μ-loop
+add-i c = search needs
+
+loop-less : tie.Need-loop-less Inv-loop μ-loop
+loop-less c = search needs
+
+loop-again : tie.Need-loop-again Inv-loop μ-loop
+loop-again c = (omega arith, omega arith, rw (add-one (c .before .before .before .loop .i)) (cc (c .channel-share .ensures .1, c .before .value-at .ensures, c .before .before .before .loop .inv .2)))
+
+returns : tie.Need-returns Inv-loop μ-loop
+unfolding fieldsIn
+returns c = (omega arith, (let e : c .before .loop .i ≡ span (c .before .before .before .before .before .args .o) = omega arith in c .before .loop .inv .2 ∙ cc (e, c .before .before .before .span-of .ensures .2, c .before .before .span-start .ensures .1)))
+
+pub fields-in-spec : {M : Type 1} → statement M
+fields-in-spec =
+    tie.close
+    (tie.spec
+    Inv-loop
+    μ-loop
+    span-of-requires
+    span-start-requires
+    loop-holds
+    add-channel-share
+    add-value-at
+    value-at-requires
+    channel-share-requires
+    add-sum
+    add-i
+    loop-less
+    loop-again
+    returns)

@@ -1,0 +1,54 @@
+-- `plan::span_start` meets its contract. Assumes nothing.
+use native.Mathlib.Omega.{arith}
+use borrow.Author.Needs.{needs}
+use Rattle.plan.proofs.span_start.Statement.{statement}
+use Rattle.plan.proofs.span_start.Tie as tie
+
+enum-told : tie.Need-enum-told
+enum-told c = search needs
+
+enum-told-2 : tie.Need-enum-told-2
+enum-told-2 c = search needs
+
+mul-result : tie.Need-mul-result
+mul-result c = search needs
+
+enum-told-3 : tie.Need-enum-told-3
+enum-told-3 c = search needs
+
+mul-result-2 : tie.Need-mul-result-2
+mul-result-2 c = search needs
+
+enum-told-4 : tie.Need-enum-told-4
+enum-told-4 c = search needs
+
+mul-result-3 : tie.Need-mul-result-3
+mul-result-3 c = search needs
+
+returns : tie.Need-returns
+returns c = rw (c .enum-told .given .1) (search needs)
+
+returns-2 : tie.Need-returns-2
+returns-2 c = rw (c .enum-told2 .given .1) (search needs)
+
+returns-3 : tie.Need-returns-3
+returns-3 c = rw (c .enum-told3 .given .1) (search needs)
+
+returns-4 : tie.Need-returns-4
+returns-4 c = rw (c .enum-told4 .given .1) (search needs)
+
+pub span-start-spec : {M : Type 1} → statement M
+span-start-spec =
+    tie.close
+    (tie.spec
+    enum-told
+    enum-told-2
+    mul-result
+    enum-told-3
+    mul-result-2
+    enum-told-4
+    mul-result-3
+    returns
+    returns-2
+    returns-3
+    returns-4)
