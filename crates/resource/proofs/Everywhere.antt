@@ -9,15 +9,7 @@ use Rattle.resource.specs.declared.Size.the-variants.{S26, S52, S106, S2
 use Rattle.resource.specs.declared.Piece.{Piece}
 use Rattle.resource.specs.declared.Piece.the-variants.{Part, With26}
 use Rattle.resource.specs.Index.{isPiece, fromPositions, exists}
-use Rattle.resource.proofs.Test.{both-left, both-right, below, every-below}
-
--- where c holds, so does t
-abbrev pub wherever : Bool → Bool → Bool
-wherever c t = not c || t
-
-pub met : (c t : Bool) → T (wherever c t) → T c → T t
-met true t h k = h
-met false t h k = absurd k
+use Rattle.resource.proofs.Test.{both-left, both-right, wherever, met, below, every-below}
 
 within-small : (a b i : ℕ) → T (leb a i && leb i b) → b ≤ 9 → i < 10
 within-small a b i t h = let l = leb→le i b (both-right (leb a i) (leb i b) t) in omega arith

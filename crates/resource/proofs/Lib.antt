@@ -4,3 +4,4 @@ pub mod Everywhere
 pub mod Index
 pub mod Tones
 pub mod Apart
+pub mod Starts

@@ -1,12 +1,12 @@
 -- Rules that the checker computes at every number below a bound, or at every key of a `match`. Assumes nothing.
 use mathlib.Core.Path.{_≡_, refl}
 use mathlib.Core.Logic.{_⊎_, inl, inr, ⊎-elim}
-use mathlib.Core.Bool.{Bool, true, false, _&&_, _||_}
+use mathlib.Core.Bool.{Bool, true, false, not, _&&_, _||_}
 use mathlib.Core.List.{List, [], _∷_}
 use Prim.Native.Nat.{ℕ, zero, suc, _≤_, _<_}
 use native.Mathlib.Nat.{not-suc-le-zero, le-of-suc-le-suc, eq-or-lt-of-le}
 use borrow.Author.Tests.{ltb-true, ltb-false}
-use lib.Dec.{T, ltb}
+use lib.Dec.{T, ltb, leb, le→leb}
 use mir.Facts.{or-yes}
 use mir.Val.{hasKey}
 use types.Run.{OneOf, hit}
@@ -26,6 +26,14 @@ pub both-right : (a b : Bool) → T (a && b) → T b
 both-right true b t = t
 both-right false b t = absurd t
 
+-- where c holds, so does t
+abbrev pub wherever : Bool → Bool → Bool
+wherever c t = not c || t
+
+pub met : (c t : Bool) → T (wherever c t) → T c → T t
+met true t h k = h
+met false t h k = absurd k
+
 -- the test passes at every number below n
 abbrev pub below : (ℕ → Bool) → ℕ → Bool
 below f zero = true
@@ -38,6 +46,10 @@ every-below f (suc n) t k h =
     (λ (e : k ≡ n). rw e (both-left (f n) (below f n) t))
     (λ (l : k < n). every-below f n (both-right (f n) (below f n) t) k l)
     (eq-or-lt-of-le (le-of-suc-le-suc h))
+
+pub every-between : (f : ℕ → Bool) (a b v : ℕ) → T (below (λ v. wherever (leb a v) (f v)) b) → a ≤ v → v < b → T (f v)
+every-between f a b v t h l =
+    met (leb a v) (f v) (every-below (λ v. wherever (leb a v) (f v)) b t v l) (le→leb a v h)
 
 -- the test passes at every key
 abbrev pub at-each : (ℕ → Bool) → List ℕ → Bool

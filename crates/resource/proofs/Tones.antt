@@ -20,8 +20,8 @@ use Rattle.resource.specs.Names.{nameOf}
 use Rattle.resource.specs.Index.{indexOf, resourceAt, leavingOut, isPiece, fromPositions, exists, positionOf, placeOf}
 use Rattle.resource.specs.Tones.{Span, _to_, sameℤ, tonesAt, tonesOfThree}
 use Rattle.resource.specs.Runs.{signed, spanOf, count, rising, runsOf, wide, wideWith26, three, narrow, narrowWith26, offset26, offset52, offset106}
-use Rattle.resource.proofs.Test.{both-left, both-right, below, every-below}
-use Rattle.resource.proofs.Everywhere.{wherever, met, every-piece, at-piece, everywhere, at-position}
+use Rattle.resource.proofs.Test.{both-left, both-right, wherever, met}
+use Rattle.resource.proofs.Everywhere.{every-piece, at-piece, everywhere, at-position}
 
 -- ---- equal by computation
 same-eq : (a b : ℤ) → T (sameℤ a b) → a ≡ b

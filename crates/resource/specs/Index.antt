@@ -15,7 +15,7 @@ use Rattle.resource.specs.Values.{within}
 -- "At position p of its segment, i the place among the nine, four or two of its kind, from 1: 26 has index 9p+i, plus 1 where p is
 -- 2 or 3 (19 doesn't exist); 52 4p+i; 106 2p+i; .. 242 p+1; 484 1 or 2; 996 1"
 unfoldable pub indexOf : ℕ → Size → ℕ → ℕ
-indexOf p S26 i = 9 * p + i + cond (ltb p 2) 0 1
+indexOf p S26 i = cond (ltb p 2) (9 * p + i) (9 * p + i + 1)
 indexOf p S52 i = 4 * p + i
 indexOf p S106 i = 2 * p + i
 indexOf p S242 i = p + 1
