@@ -1,0 +1,49 @@
+-- `vectors::words::words` is safe: there is at most one word more than bytes. Assumes nothing.
+use Prim.Native.Nat.{_≤_, _+_, _-_}
+use lib.ListN.{length}
+use native.Mathlib.Omega.{arith}
+use mathlib.Core.Logic.{⊎-elim}
+use borrow.Author.Needs.{needs}
+use Rattle.vectors.proofs.words.words.Statement.{statement}
+use Rattle.vectors.proofs.words.words.Tie as tie
+
+abbrev Inv-loop : tie.InvT-loop
+Inv-loop s n₀ i₀ n i = (i ≤ length s) × (n ≤ i + 1) × (1 ≤ n)
+
+abbrev μ-loop : tie.MeasureT-loop
+μ-loop s n₀ i₀ n i = length s - i
+
+loop-holds : tie.Need-loop-holds Inv-loop μ-loop
+loop-holds c = search needs
+
+shared-slice-read-if1 : tie.Need-shared-slice-read-if1 Inv-loop μ-loop
+shared-slice-read-if1 c = search needs
+
+add-n : tie.Need-add-n Inv-loop μ-loop
+add-n c = search needs
+
+add-i : tie.Need-add-i Inv-loop μ-loop
+add-i c = search needs
+
+loop-less : tie.Need-loop-less Inv-loop μ-loop
+loop-less c = search needs
+
+loop-again : tie.Need-loop-again Inv-loop μ-loop
+loop-again c = ⊎-elim (λ w. omega arith) (λ w. omega arith) (c .if1 .came)
+
+returns : tie.Need-returns Inv-loop μ-loop
+returns c = search needs
+
+pub words-spec : {M : Type 1} → statement M
+words-spec =
+    tie.close
+    (tie.spec
+    Inv-loop
+    μ-loop
+    loop-holds
+    shared-slice-read-if1
+    add-n
+    add-i
+    loop-less
+    loop-again
+    returns)
