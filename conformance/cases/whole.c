@@ -23,7 +23,7 @@ void print_row(chance *c, unsigned long k)
     print_end();
 }
 
-static void print_frame(char letter, const frame *f, size_t room)
+void print_frame(char letter, const frame *f, size_t room)
 {
     print_letter(letter);
     print_number(f->bandwidth);
@@ -49,17 +49,22 @@ void print_list(chance *c, unsigned long k)
     print_frame('L', &f, draw_listing_room(c, &f));
 }
 
+void print_words(const words_case *w)
+{
+    print_letter('W');
+    print_number(w->bandwidth);
+    print_string(w->bytes, w->length);
+    print_number(w->room[0]);
+    print_number(w->room[1]);
+    print_end();
+}
+
 void print_write(chance *c, unsigned long k)
 {
     words_case w;
     (void)k;
     draw_words(c, &w);
-    print_letter('W');
-    print_number(w.bandwidth);
-    print_string(w.bytes, w.length);
-    print_number(w.room[0]);
-    print_number(w.room[1]);
-    print_end();
+    print_words(&w);
 }
 
 void print_text(chance *c, unsigned long k)

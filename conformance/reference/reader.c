@@ -313,3 +313,15 @@ answer reference_read(uint32_t bandwidth, const uint8_t *cc1, size_t cc1_length,
         words[k] = r.word[k];
     return a;
 }
+
+/* "words then being little-endian. For the reader's room only whole words count". */
+answer reference_read_bytes(uint32_t bandwidth, const uint8_t *cc1, size_t cc1_length, const uint8_t *cc2,
+                            size_t cc2_length, uint8_t *words, size_t length)
+{
+    uint32_t word[MOST_WORDS];
+    size_t room = length / 4 < MOST_WORDS ? length / 4 : MOST_WORDS; /* no frame needs more */
+    answer a = reference_read(bandwidth, cc1, cc1_length, cc2, cc2_length, word, room);
+    for (uint64_t k = 0; a.number == 0 && k < a.place; k++)
+        put_field(words, length, 32 * k, 32, word[k]);
+    return a;
+}

@@ -106,6 +106,8 @@ answer read_frame(uint32_t bandwidth, const uint8_t *cc1, size_t cc1_length, con
                   size_t cc2_length, reading *r);
 answer reference_read(uint32_t bandwidth, const uint8_t *cc1, size_t cc1_length, const uint8_t *cc2,
                       size_t cc2_length, uint32_t *words, size_t room);
+answer reference_read_bytes(uint32_t bandwidth, const uint8_t *cc1, size_t cc1_length, const uint8_t *cc2,
+                            size_t cc2_length, uint8_t *words, size_t length);
 
 /* writer.c */
 answer reference_write(uint32_t bandwidth, const uint32_t *words, size_t count, uint8_t *cc1, size_t cc1_room,

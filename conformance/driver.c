@@ -1,0 +1,311 @@
+/* driver SEED COUNT: holds the C entries of libbrachymel.a to the reference.
+ *
+ * Draws COUNT calls from the seed, and then calls over every length from 0, and compares with the reference
+ * the answer and every byte that was lent, and those around it. Each buffer lies against a page that cannot
+ * be touched, before it or after it, or at an odd address between bytes that must stay as they are; an empty
+ * one is NULL now and then. What the buffers held before is a pattern that changes from call to call.
+ * Every answer number has to be met. The last line is 'N passed, M failed'.
+ */
+#define _DEFAULT_SOURCE
+#include "brachymel.h"
+#include "cases/print.h"
+#include "reference/reference.h"
+
+#include <signal.h>
+#include <stdio.h>
+#include <stdlib.h>
+#include <string.h>
+#include <sys/mman.h>
+#include <unistd.h>
+
+#define ARENA 32768
+#define GUARD 64
+
+static unsigned long long seed;
+static unsigned long calls, wrong;
+static const char *in_call = "no call";
+
+/* ---- memory to lend */
+
+typedef struct {
+    uint8_t *memory; /* ARENA bytes, between two pages that cannot be touched */
+    uint8_t *lent;   /* what is lent of it */
+    size_t length;
+    uint8_t *low, *high;          /* what is watched: the lent bytes and up to GUARD on either side */
+    uint8_t should_be[ARENA];     /* what the watched bytes should hold after the call */
+} arena;
+
+static arena cc1, cc2, other;
+
+static void prepare(arena *a)
+{
+    size_t page = (size_t)sysconf(_SC_PAGESIZE);
+    uint8_t *whole = mmap(NULL, ARENA + 2 * page, PROT_READ | PROT_WRITE, MAP_PRIVATE | MAP_ANONYMOUS, -1, 0);
+    if (whole == MAP_FAILED || ARENA % page != 0 || mprotect(whole, page, PROT_NONE) != 0
+        || mprotect(whole + page + ARENA, page, PROT_NONE) != 0) {
+        printf("driver: no memory with guard pages\n0 passed, 1 failed\n");
+        exit(2);
+    }
+    a->memory = whole + page;
+}
+
+/* Lends `length` bytes, which hold `held`, or a pattern where that is NULL. */
+static void lend(arena *a, chance *c, const uint8_t *held, size_t length)
+{
+    uint8_t salt = (uint8_t)draw(c);
+    switch (below(c, 3)) {
+    case 0: a->lent = a->memory; break;
+    case 1: a->lent = a->memory + ARENA - length; break;
+    default: a->lent = a->memory + GUARD + below(c, 64); a->lent += (uintptr_t)a->lent % 2 == 0;
+    }
+    a->length = length;
+    a->low = (size_t)(a->lent - a->memory) < GUARD ? a->memory : a->lent - GUARD;
+    a->high = (size_t)(a->memory + ARENA - (a->lent + length)) < GUARD ? a->memory + ARENA : a->lent + length + GUARD;
+    for (uint8_t *p = a->low; p < a->high; p++)
+        *p = (uint8_t)((p - a->low) * 29 + salt);
+    if (held != NULL && length != 0)
+        memcpy(a->lent, held, length);
+    memcpy(a->should_be, a->low, (size_t)(a->high - a->low));
+}
+
+/* Where the reference writes what this buffer should hold. */
+static uint8_t *expected(arena *a)
+{
+    return a->should_be + (a->lent - a->low);
+}
+
+static uint8_t *pointer(arena *a, chance *c)
+{
+    return a->length == 0 && one_in(c, 2) ? NULL : a->lent;
+}
+
+static int is_as_it_should_be(const arena *a)
+{
+    return memcmp(a->low, a->should_be, (size_t)(a->high - a->low)) == 0;
+}
+
+/* ---- the three entries */
+
+enum { READ, WRITE, LIST, ENTRIES };
+static const char *const entry_name[ENTRIES] = {"brachymel_read", "brachymel_write", "brachymel_list"};
+static unsigned long met[ENTRIES][32];
+
+static int compare(int entry, answer should, brachymel_answer is)
+{
+    int right = should.number == is.number && should.channel == is.channel && should.place == is.place;
+    int kept = is_as_it_should_be(&cc1) && is_as_it_should_be(&cc2) && is_as_it_should_be(&other);
+    calls++;
+    met[entry][should.number]++;
+    if (right && kept)
+        return 1;
+    if (++wrong <= 5)
+        printf("driver: WRONG, call %lu: %s answers %lu %lu %llu, the reference %lu %lu %llu; what was lent is %s\n", calls,
+               entry_name[entry], (unsigned long)is.number, (unsigned long)is.channel, (unsigned long long)is.place,
+               (unsigned long)should.number, (unsigned long)should.channel, (unsigned long long)should.place,
+               kept ? "as it should be" : "not as it should be");
+    return 0;
+}
+
+static void call_read(chance *c, const frame *f, size_t bytes)
+{
+    answer should;
+    brachymel_answer is;
+    lend(&cc1, c, f->cc[0], f->length[0]);
+    lend(&cc2, c, f->cc[1], f->length[1]);
+    lend(&other, c, NULL, bytes);
+    should = reference_read_bytes(f->bandwidth, f->cc[0], f->length[0], f->cc[1], f->length[1], expected(&other), bytes);
+    in_call = entry_name[READ];
+    is = brachymel_read(f->bandwidth, pointer(&cc1, c), f->length[0], pointer(&cc2, c), f->length[1], pointer(&other, c), bytes);
+    in_call = "no call";
+    if (!compare(READ, should, is) && wrong <= 5) {
+        printf("words_len=%lu, as a case: ", (unsigned long)bytes);
+        print_frame('R', f, bytes / 4);
+    }
+}
+
+static void call_list(chance *c, const frame *f, size_t room)
+{
+    answer should;
+    brachymel_answer is;
+    lend(&cc1, c, f->cc[0], f->length[0]);
+    lend(&cc2, c, f->cc[1], f->length[1]);
+    lend(&other, c, NULL, room);
+    should = reference_list(f->bandwidth, f->cc[0], f->length[0], f->cc[1], f->length[1], expected(&other), room);
+    in_call = entry_name[LIST];
+    is = brachymel_list(f->bandwidth, pointer(&cc1, c), f->length[0], pointer(&cc2, c), f->length[1], pointer(&other, c), room);
+    in_call = "no call";
+    if (!compare(LIST, should, is) && wrong <= 5)
+        print_frame('L', f, room);
+}
+
+static void call_write(chance *c, const words_case *w)
+{
+    answer should;
+    brachymel_answer is;
+    lend(&other, c, w->bytes, w->length);
+    lend(&cc1, c, NULL, w->room[0]);
+    lend(&cc2, c, NULL, w->room[1]);
+    should = reference_write_bytes(w->bandwidth, w->bytes, w->length, expected(&cc1), w->room[0], expected(&cc2), w->room[1]);
+    in_call = entry_name[WRITE];
+    is = brachymel_write(w->bandwidth, pointer(&other, c), w->length, pointer(&cc1, c), w->room[0], pointer(&cc2, c), w->room[1]);
+    in_call = "no call";
+    if (!compare(WRITE, should, is) && wrong <= 5)
+        print_words(w);
+}
+
+/* ---- which calls */
+
+static void any_call(chance *c)
+{
+    static frame f;
+    static words_case w;
+    switch (below(c, 8)) {
+    case 0:
+        draw_frame(c, &f);
+        call_list(c, &f, draw_listing_room(c, &f));
+        break;
+    case 1:
+    case 2:
+        draw_words(c, &w);
+        call_write(c, &w);
+        break;
+    default:
+        draw_frame(c, &f);
+        call_read(c, &f, 4 * draw_words_room(c, &f) + (one_in(c, 4) ? (size_t)below(c, 4) : 0));
+    }
+}
+
+/* A good frame of each bandwidth, every length of either channel and every room. */
+static void every_length(chance *c, unsigned bandwidth)
+{
+    static frame f;
+    static words_case w;
+    uint8_t words[BRACHYMEL_WORDS_SIZE];
+    unsigned row[16];
+    size_t whole[2], bytes;
+    answer a;
+    do {
+        draw_good_row(c, positions_of(bandwidth), row);
+        build_frame(c, bandwidth, row, &f);
+        a = reference_read_bytes(bandwidth, f.cc[0], f.length[0], f.cc[1], f.length[1], words, sizeof words);
+    } while (a.number != 0);
+    bytes = 4 * (size_t)a.place;
+    for (size_t n = 0; n <= bytes + 8; n++)
+        call_read(c, &f, n);
+    whole[0] = f.length[0];
+    whole[1] = f.length[1];
+    for (unsigned ch = 0; ch < 2; ch++) {
+        for (size_t n = 0; n <= 520; n++) {
+            f.length[ch] = n;
+            call_read(c, &f, bytes);
+        }
+        f.length[ch] = whole[ch];
+    }
+    a = reference_list(bandwidth, f.cc[0], f.length[0], f.cc[1], f.length[1], expected(&other), 12000);
+    for (size_t n = 0; n <= a.place + 2; n += n + 200 < a.place ? 1 + (size_t)below(c, 60) : 1)
+        call_list(c, &f, n);
+    w.bandwidth = bandwidth;
+    memcpy(w.bytes, words, bytes);
+    w.length = bytes;
+    for (unsigned ch = 0; ch < 2; ch++)
+        for (size_t n = 0; n <= 300; n++) {
+            w.room[ch] = n;
+            w.room[1 - ch] = 257 + (size_t)below(c, 300);
+            call_write(c, &w);
+        }
+    w.room[0] = w.room[1] = 257;
+    for (w.length = 0; w.length < MOST_WORD_BYTES; w.length++)
+        call_write(c, &w);
+}
+
+/* The largest of everything: 320 MHz, all 0. */
+static void largest(chance *c)
+{
+    static frame f;
+    static words_case w;
+    static const unsigned zeros[16] = {0};
+    answer a;
+    build_frame(c, 4, zeros, &f);
+    for (unsigned ch = 0; ch < 2; ch++)
+        for (unsigned j = 0; j < 72; j++)
+            put_field(f.cc[ch], MOST_LENT, user_field_at(4, j), 11, 2007 + j % 41);
+    mend_checks(&f);
+    f.length[0] = f.length[1] = BRACHYMEL_CHANNEL_SIZE;
+    for (size_t n = BRACHYMEL_WORDS_SIZE - 5; n <= BRACHYMEL_WORDS_SIZE + 5; n++)
+        call_read(c, &f, n);
+    for (size_t n = BRACHYMEL_LISTING_SIZE - 5; n <= BRACHYMEL_LISTING_SIZE + 5; n++)
+        call_list(c, &f, n);
+    a = reference_read_bytes(4, f.cc[0], f.length[0], f.cc[1], f.length[1], w.bytes, sizeof w.bytes);
+    w.bandwidth = 4;
+    w.length = 4 * (size_t)a.place;
+    for (size_t n = BRACHYMEL_CHANNEL_SIZE - 5; n <= BRACHYMEL_CHANNEL_SIZE + 5; n++) {
+        w.room[0] = w.room[1] = n;
+        call_write(c, &w);
+    }
+}
+
+/* ---- the run */
+
+static void fell(int signal)
+{
+    char text[200];
+    int n = snprintf(text, sizeof text, "driver: WRONG, signal %d in %s, call %lu of seed %llu\n0 passed, 1 failed\n", signal,
+                     in_call, calls + 1, seed);
+    if (write(1, text, (size_t)n) < 0)
+        _exit(3);
+    _exit(1);
+}
+
+/* Each entry's answers, with how often each was met; one that was not met is a failure of this driver. */
+static unsigned not_met(void)
+{
+    static const char *const numbers[ENTRIES] = {
+        "\0\1\2\3\4\5\6\7\10\11\12\13\14", "\0\1\15\16", "\0\1\2\3\4\5\6\7\10\11\12\13\27"};
+    static const unsigned how_many[ENTRIES] = {13, 4, 13};
+    unsigned missing = 0;
+    for (unsigned e = 0; e < ENTRIES; e++) {
+        printf("driver: %s:", entry_name[e]);
+        for (unsigned k = 0; k < how_many[e]; k++) {
+            unsigned number = (unsigned char)numbers[e][k];
+            printf(" %u:%lu", number, met[e][number]);
+            if (met[e][number] == 0)
+                missing++;
+        }
+        printf("\n");
+    }
+    if (missing != 0)
+        printf("driver: %u answers were not met\n", missing);
+    return missing;
+}
+
+int main(int argc, char **argv)
+{
+    chance c;
+    unsigned long count;
+    unsigned missing;
+    if (argc != 3) {
+        fprintf(stderr, "usage: driver SEED COUNT\n");
+        return 2;
+    }
+    seed = strtoull(argv[1], NULL, 10);
+    count = strtoul(argv[2], NULL, 10);
+    printf("driver: seed %llu\n", seed);
+    fflush(stdout);
+    signal(SIGSEGV, fell);
+    signal(SIGBUS, fell);
+    signal(SIGILL, fell);
+    signal(SIGFPE, fell);
+    signal(SIGABRT, fell);
+    prepare(&cc1);
+    prepare(&cc2);
+    prepare(&other);
+    c = chance_from(seed, 'C');
+    largest(&c);
+    for (unsigned bandwidth = 0; bandwidth <= 4; bandwidth++)
+        every_length(&c, bandwidth);
+    while (calls < count)
+        any_call(&c);
+    missing = not_met();
+    printf("%lu passed, %lu failed\n", calls - wrong, wrong + missing);
+    return wrong + missing == 0 ? 0 : 1;
+}

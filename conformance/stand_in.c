@@ -1,0 +1,54 @@
+/* The C entries, carried out by the reference: what the driver is tried on where there is no library. With
+ * FAULT set to a number it is wrong in one way, which the driver has to see; with NO_READ it leaves
+ * brachymel_read to another. */
+#include "brachymel.h"
+#include "reference/reference.h"
+
+#ifndef FAULT
+#define FAULT 0
+#endif
+
+static brachymel_answer as_answer(answer a)
+{
+    brachymel_answer b = {a.number, a.channel, a.place};
+    return b;
+}
+
+#ifndef NO_READ
+brachymel_answer brachymel_read(uint32_t bandwidth, const uint8_t *cc1, size_t cc1_len, const uint8_t *cc2, size_t cc2_len,
+                                uint8_t *words, size_t words_len)
+{
+    answer a = reference_read_bytes(bandwidth, cc1, cc1_len, cc2, cc2_len, words, words_len);
+    if (FAULT == 1 && a.number == 12 && words_len > 0)
+        words[0] = (uint8_t)(words[0] + 1); /* a refusal that writes */
+    if (FAULT == 2 && a.number == 0 && words_len > 4 * a.place)
+        words[4 * a.place] = 0; /* one word past the count */
+    if (FAULT == 3 && a.number == 11)
+        a.place += 22;
+    if (FAULT == 4 && a.number == 9)
+        a.place = *(const volatile uint8_t *)(cc1 + cc1_len) ? 0 : 8; /* reads past the end */
+    if (FAULT == 5 && a.number == 2)
+        a.number = 3;
+    return as_answer(a);
+}
+#endif
+
+brachymel_answer brachymel_write(uint32_t bandwidth, const uint8_t *words, size_t words_len,
+                                 uint8_t *cc1, size_t cc1_len, uint8_t *cc2, size_t cc2_len)
+{
+    answer a = reference_write_bytes(bandwidth, words, words_len, cc1, cc1_len, cc2, cc2_len);
+    if (FAULT == 6 && a.number == 0 && bandwidth == 0 && cc2_len > 0)
+        cc2[cc2_len - 1] = 0; /* channel 2 at 20 MHz */
+    if (FAULT == 7 && a.number == 14 && a.channel == 2)
+        cc1[0] ^= 1;
+    return as_answer(a);
+}
+
+brachymel_answer brachymel_list(uint32_t bandwidth, const uint8_t *cc1, size_t cc1_len, const uint8_t *cc2, size_t cc2_len,
+                                uint8_t *text, size_t text_len)
+{
+    answer a = reference_list(bandwidth, cc1, cc1_len, cc2, cc2_len, text, text_len);
+    if (FAULT == 8 && a.number == 0)
+        text[a.place] = 0; /* a zero after the text */
+    return as_answer(a);
+}

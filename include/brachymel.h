@@ -1,0 +1,86 @@
+/* brachymel.h: the EHT-SIG field of a downlink OFDMA EHT MU PPDU (Wi-Fi 7, IEEE 802.11be), read into the
+ * radiotap EHT words, written from them, and listed as text.
+ *
+ * Link with libbrachymel.a, which is built for x86-64 Linux. C99; usable from C++.
+ *
+ * - A frame is two content channels, as sent in ONE 80 MHz segment: decoded bits, packed lowest bit first
+ *   in each byte, so that a channel's first bit is the lowest bit of its byte 0.
+ * - The bandwidth code is 0, 1, 2, 3, 4 for 20, 40, 80, 160, 320 MHz. At 20 MHz there is no channel 2: lend
+ *   it empty.
+ * - Words are 32-bit numbers as little-endian bytes: known, nine data words, one word per User field, those of
+ *   channel 1 first. The buffers need no alignment.
+ * - Nothing has to be checked before a call: any bytes, any code and any length get an answer. An answer other
+ *   than 0 is a refusal, and a refused call writes nothing. Bytes past what an accepted call writes keep what
+ *   they held.
+ * - A length is that of the memory lent, in bytes. An empty buffer may be lent as NULL, 0. Buffers that one
+ *   call writes must not overlap each other, nor those that it reads.
+ * - The functions keep no state and allocate nothing: any number of threads may call them at once, each with
+ *   buffers of its own.
+ */
+#ifndef BRACHYMEL_H
+#define BRACHYMEL_H
+
+#include <stddef.h>
+#include <stdint.h>
+
+#ifdef __cplusplus
+extern "C" {
+#endif
+
+/* What comes back. Number 0 is an acceptance, any other the refusal of that number: the first that applies, in
+ * the order of the numbers. Channel is 1 or 2, or 0 where none is named. Bits count from 0 in their channel,
+ * and 20 MHz positions are grouped in segments of 80 MHz, which count from 0. */
+typedef struct {
+    uint32_t number;
+    uint32_t channel;
+    uint64_t place;
+} brachymel_answer;
+
+enum {
+    BRACHYMEL_ACCEPTED = 0,          /* 0, what was written: words (read), bytes per channel (write), bytes (list) */
+    BRACHYMEL_BANDWIDTH = 1,         /* bandwidth code above 4: 0, 0 */
+    BRACHYMEL_CHANNEL_LENGTH = 2,    /* a channel over 512 bytes, or channel 2 not empty at 20 MHz: that channel, 0 */
+    BRACHYMEL_COMMON_SHORT = 3,      /* common field cut short: channel, bits lent */
+    BRACHYMEL_COMMON_CHECK = 4,      /* common check or tail wrong: channel, first check bit */
+    BRACHYMEL_OVERFLOW = 5,          /* channel 1's LTF symbols 5 to 7: 1, 6; else the channels' overflows differ: 2, lowest differing bit */
+    BRACHYMEL_VALUE = 6,             /* RU Allocation value not carried: channel, its first bit */
+    BRACHYMEL_NO_PLAN = 7,           /* the row has no layout: 0, lowest such segment */
+    BRACHYMEL_TOO_MANY_FIELDS = 8,   /* a resource has over eight User fields: 0, lowest such segment */
+    BRACHYMEL_USER_SHORT = 9,        /* User blocks cut short: channel, bits lent */
+    BRACHYMEL_USER_CHECK = 10,       /* User check or tail wrong: channel, first check bit */
+    BRACHYMEL_STATION_TWICE = 11,    /* a STA-ID from 1 to 2006 seen before: channel, first bit of the later field */
+    BRACHYMEL_WORDS_ROOM = 12,       /* read: fewer words lent than needed: 0, words needed */
+    BRACHYMEL_WORDS = 13,            /* write: no accepted channels read to exactly these words: 0, 0 */
+    BRACHYMEL_CHANNEL_ROOM = 14,     /* write: a channel buffer is too short: channel, bytes needed */
+    BRACHYMEL_TEXT = 22,             /* the program's input text is not its three lines: 0, first wrong line (0: too long); no call here gives it */
+    BRACHYMEL_LISTING_ROOM = 23      /* list: the text buffer is too short: 0, bytes needed */
+};
+
+/* Sizes, in bytes, that always suffice. */
+enum {
+    BRACHYMEL_CHANNEL_LIMIT = 512,   /* a longer channel is refused */
+    BRACHYMEL_WORDS_SIZE = 616,      /* 154 words: 10, and 144 User fields */
+    BRACHYMEL_CHANNEL_SIZE = 257,    /* a channel that is written */
+    BRACHYMEL_LISTING_SIZE = 10131   /* a listing */
+};
+
+/* Reads two channels into words. Refusals 1 to 12. Only whole words of the buffer count. */
+brachymel_answer brachymel_read(uint32_t bandwidth, const uint8_t *cc1, size_t cc1_len, const uint8_t *cc2, size_t cc2_len,
+                                uint8_t *words, size_t words_len);
+
+/* Writes the channels that read to these words: both with the same number of bytes, just enough for the
+ * longer, padding zero. Refusals 1, 13, 14, in this order; a length that is not divisible by four is 13. At 20
+ * MHz channel 2 is neither measured nor touched. */
+brachymel_answer brachymel_write(uint32_t bandwidth, const uint8_t *words, size_t words_len,
+                                 uint8_t *cc1, size_t cc1_len, uint8_t *cc2, size_t cc2_len);
+
+/* Reads two channels and lists their resources and stations as text: lines that each end with a line feed, and
+ * no terminating zero. Refusals 1 to 11, then 23. */
+brachymel_answer brachymel_list(uint32_t bandwidth, const uint8_t *cc1, size_t cc1_len, const uint8_t *cc2, size_t cc2_len,
+                                uint8_t *text, size_t text_len);
+
+#ifdef __cplusplus
+}
+#endif
+
+#endif
