@@ -1,0 +1,17 @@
+-- `words::known_word` meets its contract. Assumes nothing.
+use borrow.Author.Tests.{lt-ltb, le-ltb}
+use Rattle.words.specs.Words.{known}
+use native.Mathlib.Omega.{arith}
+use Rattle.words.proofs.known_word.Statement.{statement}
+use Rattle.words.proofs.known_word.Tie as tie
+
+returns : tie.Need-returns
+unfolding known
+returns c = rw (lt-ltb (c .before .args .bw) 3 (omega arith))
+
+returns-2 : tie.Need-returns-2
+unfolding known
+returns-2 c = rw (le-ltb (c .before .args .bw) 3 (omega arith))
+
+pub known-word-spec : {M : Type 1} → statement M
+known-word-spec = tie.close (tie.spec returns returns-2)

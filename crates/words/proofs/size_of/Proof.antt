@@ -1,0 +1,15 @@
+-- `words::size_of` meets its contract. Assumes nothing.
+use native.Mathlib.Omega.{arith}
+use Rattle.words.specs.Laws.{size-is}
+use borrow.Author.Needs.{needs}
+use Rattle.words.proofs.size_of.Statement.{statement}
+use Rattle.words.proofs.size_of.Tie as tie
+
+add-result : tie.Need-add-result
+add-result c = search needs
+
+returns : tie.Need-returns
+returns c = let e = size-is (c .args .g) (omega arith) in (omega arith, e)
+
+pub size-of-spec : {M : Type 1} → statement M
+size-of-spec = tie.close (tie.spec add-result returns)

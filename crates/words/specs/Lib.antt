@@ -1,0 +1,4 @@
+pub mod Pack
+pub mod Words
+pub mod Back
+pub mod Laws
