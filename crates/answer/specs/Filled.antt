@@ -9,7 +9,7 @@ use Prim.Native.Nat.{ℕ, zero, suc, _+_, _-_, _≤_, _<_}
 use native.Mathlib.Omega.{arith}
 use native.Mathlib.Numerals.{add-one}
 use native.Mathlib.Nat.{eq-or-lt-of-le, add-zero, add-suc}
-use lib.ListN.{length, getD, set, take, drop, length-append, length-take, length-drop, List·getD-append}
+use lib.ListN.{length, getD, set, take, drop, length-append, length-drop, List·getD-append}
 use lib.Dec.{ltb}
 use borrow.Author.Tests.{ltb-true, ltb-false}
 use lib.Seq.{drop-cons, set-at, getD-at, take-at, drop-at, take-all, take-append-le, getD-append-add, getD-drop, drop-append-add, drop-drop, drop-length, ext-getD}

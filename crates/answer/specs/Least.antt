@@ -1,4 +1,6 @@
 -- The lowest number below a bound that passes a test; the bound where none does. Assumes nothing.
+--
+-- 01, "What comes back": "inside one, channel 1 first, lowest bit first"; "lowest differing bit"; "lowest such segment".
 use mathlib.Core.Path.{_≡_, refl, sym, _∙_, ap}
 use mathlib.Core.Bool.{Bool, true, false, cond}
 use mathlib.Core.Logic.{⊎-elim}
@@ -6,8 +8,8 @@ use Prim.Native.Nat.{ℕ, zero, suc, _+_, _≤_, _<_}
 use native.Mathlib.Omega.{arith}
 use native.Mathlib.Numerals.{add-one}
 use native.Mathlib.Nat.{eq-or-lt-of-le}
-use lib.Dec.{ltb, leb, eqb}
-use borrow.Author.Tests.{lt-ltb, le-ltb, ltb-true, ltb-false}
+use lib.Dec.{ltb}
+use borrow.Author.Tests.{lt-ltb, le-ltb, ltb-true}
 
 unfoldable pub least : (ℕ → Bool) → ℕ → ℕ
 least p zero = zero
