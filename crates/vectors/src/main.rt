@@ -20,12 +20,13 @@ fn each(s: &[u8]) {
     }
 }
 
-// All of standard input that there is room for.
+// All of standard input that there is room for. (A longer one would be cut, and its missing lines seen.)
 fn run(text: &mut [u8]) {
     let n = io::read_full(STDIN_FILENO, text);
     each(&text[..n]);
 }
 
+// As a reference to an array, so that no proof has to count its bytes.
 fn lend(text: &mut [u8; 1048576]) {
     run(text);
 }
