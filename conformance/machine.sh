@@ -14,20 +14,30 @@ need() { # COMMAND PACKAGE..
     command -v "$wanted" >/dev/null 2>&1 || { echo "there is no $wanted: install the packages $*"; exit 2; }
 }
 
-# The library is for x86-64, and so is all that links with it: sets x86_cc, the compiler with its flags, and
-# emulator, which is empty where none is needed. The emulator is the kit's: it stands beside `rt`.
-for_x86_64() {
+# Sets kit, what the kit of `rt` has for this machine, and emulator, which is empty where none is needed.
+find_kit() {
     machine=$(uname -m) emulator=''
+    kit=${RATTLE_HOME:-$(dirname "$(readlink -f "$(command -v rt)")")/..}/on/$machine/toolchain
+    [ "$machine" = x86_64 ] || emulator=$kit/bin/qemu-x86_64
+    [ -z "$emulator" ] || [ -x "$emulator" ] || { echo "the kit of rt has no emulator for $machine"; exit 2; }
+}
+
+# Sets as_kit, the words before a program of `rt` that run it as `rt` does: under the kit's C library.
+run_as_kit() {
+    find_kit
+    as_kit="$emulator $kit/lib/ld-linux-x86-64.so.2 --library-path $kit/lib"
+}
+
+# The library is for x86-64, and so is all that links with it. Sets x86_cc, the compiler with its flags.
+for_x86_64() {
+    find_kit
     if [ "$machine" = x86_64 ]; then
         need cc gcc libc6-dev
         x86_cc=cc
-        return
+    else
+        need x86_64-linux-gnu-gcc gcc-x86-64-linux-gnu libc6-dev-amd64-cross
+        x86_cc='x86_64-linux-gnu-gcc -static'
     fi
-    need x86_64-linux-gnu-gcc gcc-x86-64-linux-gnu libc6-dev-amd64-cross
-    x86_cc='x86_64-linux-gnu-gcc -static'
-    kit=${RATTLE_HOME:-$(dirname "$(readlink -f "$(command -v rt)")")/..}
-    emulator=$kit/on/$machine/toolchain/bin/qemu-x86_64
-    [ -x "$emulator" ] || { echo "the kit of rt has no emulator for $machine"; exit 2; }
 }
 
 flags='-std=c99 -Wall -Wextra -Werror -O2'

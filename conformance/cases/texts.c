@@ -66,9 +66,12 @@ size_t draw_text(chance *c, uint8_t text[MOST_TEXT])
 {
     frame f;
     size_t n;
-    draw_frame(c, &f);
+    if (one_in(c, 2))
+        draw_good_frame(c, &f);
+    else
+        draw_frame(c, &f);
     n = put_frame((char *)text, &f);
-    return one_in(c, 2) ? damage_text(c, (char *)text, n) : n;
+    return one_in(c, 3) ? damage_text(c, (char *)text, n) : n;
 }
 
 /* Room for a listing: plenty, just enough, one too few, or any. */

@@ -1,4 +1,5 @@
 /* reference: reads case lines on standard input and writes one line for each.
+ * reference --program: reads a text and writes what the program should.
  * reference --self-test: holds the reference to 01's bench checks and to 004's example.
  * conformance/README.md has the form of a case. */
 #include "reference.h"
@@ -291,13 +292,24 @@ static void run_case(char *line)
     putchar('\n');
 }
 
+static int as_program(void)
+{
+    static uint8_t text[8193]; /* a longer text is as wrong as one of this length */
+    static char out[MOST_LISTING];
+    size_t n = fread(text, 1, sizeof text, stdin);
+    n = reference_program(text, n, out);
+    return fwrite(out, 1, n, stdout) == n && fflush(stdout) == 0 ? 0 : 2;
+}
+
 int main(int argc, char **argv)
 {
     static char line[LONGEST_LINE];
     if (argc == 2 && strcmp(argv[1], "--self-test") == 0)
         return self_test();
+    if (argc == 2 && strcmp(argv[1], "--program") == 0)
+        return as_program();
     if (argc != 1) {
-        fprintf(stderr, "usage: reference <cases, or reference --self-test\n");
+        fprintf(stderr, "usage: reference <cases, reference --program <text, or reference --self-test\n");
         return 2;
     }
     while (fgets(line, sizeof line, stdin) != NULL) {
