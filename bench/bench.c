@@ -1,8 +1,9 @@
-/* bench [MILLISECONDS]: times brachymel_read and the C baseline on the same frames.
+/* bench [MILLISECONDS]: times the library's entries and the C baseline on the same frames.
  *
- * For each kind of frame the two are timed in turn, round by round, in one process, and the best round of
- * each counts: nanoseconds per frame, and the ratio. Before that both are held to the reference on every
- * frame. The frames: of each bandwidth with few User fields, drawn at random, and all 0; and of each refusal.
+ * For each kind of frame the library, the baseline, and the baseline with its check worked out bit by bit are
+ * timed in turn, round by round, in one process; the best round of each counts: nanoseconds per frame, and the
+ * library's ratio to either. Before that all three are held to the reference on every frame. The frames: of
+ * each bandwidth with few User fields, drawn at random, and all 0; and of each refusal.
  */
 #define _POSIX_C_SOURCE 200809L
 #include "cases/cases.h"
@@ -15,15 +16,24 @@
 #include <time.h>
 
 #define FRAMES 64
-#define ROUNDS 41
+#define ROUNDS 30
 
-typedef brachymel_answer reader(uint32_t, const uint8_t *, size_t, const uint8_t *, size_t, uint8_t *, size_t);
+typedef brachymel_answer reads(uint32_t, const uint8_t *, size_t, const uint8_t *, size_t, uint8_t *, size_t);
+typedef brachymel_answer writes(uint32_t, const uint8_t *, size_t, uint8_t *, size_t, uint8_t *, size_t);
 
-static frame frames[FRAMES];
-static size_t room[FRAMES];
+enum { PROVED, FAST, BITWISE, SIDES };
+static reads *const read_of[SIDES] = {brachymel_read, fast_read, bitwise_read};
+static writes *const write_of[SIDES] = {brachymel_write, fast_write, bitwise_write};
+static reads *const list_of[SIDES] = {brachymel_list, fast_list, bitwise_list};
+static const char *const side_name[SIDES] = {"the library", "the baseline", "the bit-by-bit baseline"};
+
+enum { READ, WRITE, LIST };
+static int entry;
+static frame frames[FRAMES];                    /* to read and list */
+static words_case words[FRAMES];                /* to write */
+static size_t room[FRAMES];                     /* of words (bytes) or text */
+static uint8_t buffer[2][BRACHYMEL_LISTING_SIZE];
 static double round_ns = 1e6;
-static double sum_of_ratios;
-static unsigned kinds;
 
 static double now(void)
 {
@@ -32,134 +42,234 @@ static double now(void)
     return 1e9 * (double)t.tv_sec + (double)t.tv_nsec;
 }
 
-static uint64_t run_once(reader *read)
+static brachymel_answer call(int side, unsigned k)
 {
-    static uint8_t words[BRACHYMEL_WORDS_SIZE];
-    uint64_t places = 0;
-    for (unsigned k = 0; k < FRAMES; k++) {
-        const frame *f = &frames[k];
-        places += read(f->bandwidth, f->cc[0], f->length[0], f->cc[1], f->length[1], words, room[k]).place;
-    }
-    return places;
+    const frame *f = &frames[k];
+    const words_case *w = &words[k];
+    if (entry == WRITE)
+        return write_of[side](w->bandwidth, w->bytes, w->length, buffer[0], w->room[0], buffer[1], w->room[1]);
+    return (entry == READ ? read_of : list_of)[side](f->bandwidth, f->cc[0], f->length[0], f->cc[1], f->length[1],
+                                                     buffer[0], room[k]);
+}
+
+static answer should_be(unsigned k)
+{
+    const frame *f = &frames[k];
+    const words_case *w = &words[k];
+    if (entry == WRITE)
+        return reference_write_bytes(w->bandwidth, w->bytes, w->length, buffer[0], w->room[0], buffer[1], w->room[1]);
+    return (entry == READ ? reference_read_bytes : reference_list)(f->bandwidth, f->cc[0], f->length[0], f->cc[1],
+                                                                   f->length[1], buffer[0], room[k]);
 }
 
 /* Nanoseconds for one frame, over a round of `times` passes. */
-static double round_of(reader *read, unsigned times)
+static double round_of(int side, unsigned times)
 {
     static volatile uint64_t kept;
     double began = now();
-    for (unsigned k = 0; k < times; k++)
-        kept += run_once(read);
+    for (unsigned n = 0; n < times; n++)
+        for (unsigned k = 0; k < FRAMES; k++)
+            kept += call(side, k).place;
     return (now() - began) / times / FRAMES;
 }
 
-static void hold_to_reference(reader *read, const char *name, const frame *f, size_t bytes)
+static void hold_to_reference(int side)
 {
-    uint8_t is_words[BRACHYMEL_WORDS_SIZE], words[BRACHYMEL_WORDS_SIZE];
-    answer should;
-    brachymel_answer is;
-    memset(words, 0x5A, sizeof words);
-    memset(is_words, 0x5A, sizeof is_words);
-    should = reference_read_bytes(f->bandwidth, f->cc[0], f->length[0], f->cc[1], f->length[1], words, bytes);
-    is = read(f->bandwidth, f->cc[0], f->length[0], f->cc[1], f->length[1], is_words, bytes);
-    if (is.number != should.number || is.channel != should.channel || is.place != should.place
-        || memcmp(is_words, words, sizeof words) != 0) {
-        printf("bench: %s is not what the reference says\n", name);
-        exit(1);
+    static uint8_t right[2][BRACHYMEL_LISTING_SIZE];
+    for (unsigned k = 0; k < FRAMES; k++) {
+        answer should;
+        brachymel_answer is;
+        memset(buffer, 0x5A, sizeof buffer);
+        should = should_be(k);
+        memcpy(right, buffer, sizeof buffer);
+        memset(buffer, 0x5A, sizeof buffer);
+        is = call(side, k);
+        if (is.number != should.number || is.channel != should.channel || is.place != should.place
+            || memcmp(buffer, right, sizeof buffer) != 0) {
+            printf("bench: %s is not what the reference says\n", side_name[side]);
+            exit(1);
+        }
     }
 }
 
-static void time_kind(const char *name)
+/* The best round of each side, the three taking turns. */
+static void best_of(double best[SIDES])
 {
-    double proved = 1e18, baseline = 1e18, one;
+    double one;
     unsigned times = 1;
-    for (unsigned k = 0; k < FRAMES; k++) {
-        hold_to_reference(brachymel_read, "brachymel_read", &frames[k], room[k]);
-        hold_to_reference(fast_read, "the baseline", &frames[k], room[k]);
+    for (int side = 0; side < SIDES; side++) {
+        hold_to_reference(side);
+        best[side] = 1e18;
     }
-    one = round_of(brachymel_read, 1) * FRAMES;
+    one = round_of(PROVED, 1) * FRAMES;
     if (one < round_ns)
         times = (unsigned)(round_ns / one) + 1;
-    for (unsigned r = 0; r < ROUNDS; r++) {
-        double a, b;
-        if (r % 2 == 0) {
-            a = round_of(brachymel_read, times);
-            b = round_of(fast_read, times);
-        } else {
-            b = round_of(fast_read, times);
-            a = round_of(brachymel_read, times);
+    for (int r = 0; r < ROUNDS; r++)
+        for (int s = 0; s < SIDES; s++) {
+            int side = (r + s) % SIDES;
+            double ns = round_of(side, times);
+            best[side] = ns < best[side] ? ns : best[side];
         }
-        proved = a < proved ? a : proved;
-        baseline = b < baseline ? b : baseline;
-    }
-    printf("%-24s %12.1f %12.1f %8.2f\n", name, proved, baseline, proved / baseline);
-    fflush(stdout);
-    sum_of_ratios += proved / baseline;
-    kinds++;
 }
 
-static uint32_t answer_number(const frame *f, size_t bytes)
+static void print_kind(const char *name)
 {
-    uint8_t words[BRACHYMEL_WORDS_SIZE];
-    return reference_read_bytes(f->bandwidth, f->cc[0], f->length[0], f->cc[1], f->length[1], words, bytes).number;
+    double best[SIDES];
+    best_of(best);
+    printf("%-34s %10.1f %10.1f %7.2f %14.1f %7.2f\n", name, best[PROVED], best[FAST], best[PROVED] / best[FAST],
+           best[BITWISE], best[PROVED] / best[BITWISE]);
+    fflush(stdout);
+}
+
+/* ---- the frames */
+
+static uint32_t number_of(const frame *f, size_t bytes)
+{
+    uint8_t got[BRACHYMEL_WORDS_SIZE];
+    return reference_read_bytes(f->bandwidth, f->cc[0], f->length[0], f->cc[1], f->length[1], got, bytes).number;
+}
+
+/* Words and rooms to go with the frames, where these are good. */
+static void complete(void)
+{
+    for (unsigned k = 0; k < FRAMES; k++) {
+        frame *f = &frames[k];
+        words_case *w = &words[k];
+        answer a = reference_read_bytes(f->bandwidth, f->cc[0], f->length[0], f->cc[1], f->length[1], w->bytes,
+                                        sizeof w->bytes);
+        w->bandwidth = f->bandwidth;
+        w->length = 4 * (size_t)a.place;
+        w->room[0] = w->room[1] = BRACHYMEL_CHANNEL_SIZE;
+        room[k] = entry == LIST ? BRACHYMEL_LISTING_SIZE : BRACHYMEL_WORDS_SIZE;
+    }
 }
 
 static void of_row(chance *c, unsigned bandwidth, const unsigned *row)
 {
-    for (unsigned k = 0; k < FRAMES; k++) {
+    for (unsigned k = 0; k < FRAMES; k++)
         build_frame(c, bandwidth, row, &frames[k]);
-        room[k] = BRACHYMEL_WORDS_SIZE;
-    }
+    complete();
 }
 
 static void of_random_rows(chance *c, unsigned bandwidth)
 {
-    for (unsigned k = 0; k < FRAMES; k++) {
+    for (unsigned k = 0; k < FRAMES; k++)
         do {
             unsigned row[16];
             draw_good_row(c, positions_of(bandwidth), row);
             build_frame(c, bandwidth, row, &frames[k]);
-        } while (answer_number(&frames[k], BRACHYMEL_WORDS_SIZE) != 0);
-        room[k] = BRACHYMEL_WORDS_SIZE;
+        } while (number_of(&frames[k], BRACHYMEL_WORDS_SIZE) != 0);
+    complete();
+}
+
+/* Frames that reading or listing refuses with this number. */
+static void of_refusal(chance *c, uint32_t number)
+{
+    for (unsigned k = 0; k < FRAMES; k++)
+        do {
+            draw_frame(c, &frames[k]);
+            room[k] = number == 12 ? 36 : number == 23 ? 100 : entry == LIST ? BRACHYMEL_LISTING_SIZE : BRACHYMEL_WORDS_SIZE;
+        } while (should_be(k).number != number);
+}
+
+static void of_written_refusal(chance *c, uint32_t number)
+{
+    for (unsigned k = 0; k < FRAMES; k++)
+        do {
+            draw_words(c, &words[k]);
+            words[k].room[0] = words[k].room[1] = number == 14 ? 4 : BRACHYMEL_CHANNEL_SIZE;
+        } while (should_be(k).number != number);
+}
+
+/* Every station 2046, which may repeat, so that there is nothing for the repeat check to find. */
+static void of_one_station(void)
+{
+    for (unsigned k = 0; k < FRAMES; k++) {
+        frame *f = &frames[k];
+        for (unsigned ch = 0; ch < 2; ch++) {
+            unsigned n = 0;
+            for (unsigned j = 0; j < subfields_of(f->bandwidth); j++)
+                n += fields_of(field_of(f->cc[ch], MOST_LENT, subfield_at(f->bandwidth, j), 9));
+            for (unsigned j = 0; j < n; j++)
+                put_field(f->cc[ch], MOST_LENT, user_field_at(f->bandwidth, j), 11, 2046);
+        }
+        mend_checks(f);
+    }
+    complete();
+}
+
+/* ---- the tables */
+
+static void print_head(const char *what)
+{
+    printf("\n%-34s %10s %10s %7s %14s %7s\n", what, "proved, ns", "in C, ns", "ratio", "bit by bit, ns", "ratio");
+}
+
+static void print_accepted(chance *c, const char *what)
+{
+    static const unsigned few[5][16] = {{64}, {72, 29}, {80, 30, 30, 30}, {80, 30, 30, 30, 80, 30, 30, 30},
+                                        {80, 30, 30, 30, 80, 30, 30, 30, 80, 30, 30, 30, 80, 30, 30, 30}},
+                          zeros[16] = {0}, mhz[5] = {20, 40, 80, 160, 320};
+    char name[60];
+    print_head(what);
+    for (unsigned bandwidth = 0; bandwidth < 5; bandwidth++) {
+        of_row(c, bandwidth, few[bandwidth]);
+        sprintf(name, "%u MHz, few fields", mhz[bandwidth]);
+        print_kind(name);
+        of_random_rows(c, bandwidth);
+        sprintf(name, "%u MHz, random", mhz[bandwidth]);
+        print_kind(name);
+        of_row(c, bandwidth, zeros);
+        sprintf(name, "%u MHz, all 0", mhz[bandwidth]);
+        print_kind(name);
     }
 }
 
-static void of_refusal(chance *c, uint32_t number)
+static void print_refusals(chance *c, uint32_t first, uint32_t last)
 {
-    for (unsigned k = 0; k < FRAMES; k++) {
-        do {
-            draw_frame(c, &frames[k]);
-            room[k] = number == 12 ? 4 * (size_t)below(c, 10) : BRACHYMEL_WORDS_SIZE;
-        } while (answer_number(&frames[k], room[k]) != number);
+    char name[60];
+    for (uint32_t number = first; number <= last; number++) {
+        if (entry == WRITE)
+            of_written_refusal(c, number);
+        else
+            of_refusal(c, number);
+        sprintf(name, "refusal %lu", (unsigned long)number);
+        print_kind(name);
+    }
+}
+
+/* How reading grows with the number of User fields: 320 MHz, some positions 0 and the others punctured. */
+static void print_growth(chance *c)
+{
+    char name[60];
+    print_head("reading at 320 MHz, by fields");
+    for (unsigned full = 0; full <= 16; full += 4) {
+        unsigned row[16];
+        for (unsigned p = 0; p < 16; p++)
+            row[p] = p < full ? 0 : 26;
+        of_row(c, 4, row);
+        sprintf(name, "%u fields, stations drawn", 9 * full);
+        print_kind(name);
+        of_one_station();
+        sprintf(name, "%u fields, one that may repeat", 9 * full);
+        print_kind(name);
     }
 }
 
 int main(int argc, char **argv)
 {
-    static const unsigned few[5][16] = {{64}, {72, 29}, {80, 30, 30, 30}, {80, 30, 30, 30, 80, 30, 30, 30},
-                                        {80, 30, 30, 30, 80, 30, 30, 30, 80, 30, 30, 30, 80, 30, 30, 30}},
-                          zeros[16] = {0}, mhz[5] = {20, 40, 80, 160, 320};
     chance c = chance_from(1, 'B');
-    char name[40];
     if (argc == 2)
         round_ns = 1e6 * atof(argv[1]);
-    printf("%-24s %12s %12s %8s\n", "frames", "proved, ns", "in C, ns", "ratio");
-    for (unsigned bandwidth = 0; bandwidth < 5; bandwidth++) {
-        of_row(&c, bandwidth, few[bandwidth]);
-        sprintf(name, "%u MHz, few fields", mhz[bandwidth]);
-        time_kind(name);
-        of_random_rows(&c, bandwidth);
-        sprintf(name, "%u MHz, random", mhz[bandwidth]);
-        time_kind(name);
-        of_row(&c, bandwidth, zeros);
-        sprintf(name, "%u MHz, all 0", mhz[bandwidth]);
-        time_kind(name);
-    }
-    for (uint32_t number = 1; number <= 12; number++) {
-        of_refusal(&c, number);
-        sprintf(name, "refusal %lu", (unsigned long)number);
-        time_kind(name);
-    }
-    printf("mean ratio over %u kinds: %.2f\n", kinds, sum_of_ratios / kinds);
+    entry = READ;
+    print_accepted(&c, "reading");
+    print_refusals(&c, 1, 12);
+    print_growth(&c);
+    entry = WRITE;
+    print_accepted(&c, "writing");
+    print_refusals(&c, 13, 14);
+    entry = LIST;
+    print_accepted(&c, "listing");
+    print_refusals(&c, 23, 23);
     return 0;
 }

@@ -1,12 +1,24 @@
-/* A fast reader in C, the baseline that the proved one is timed against.
+/* A fast reader, writer and lister in C, the baseline that the proved ones are timed against.
  *
  * A channel is read through windows of 64 bits, of which a block's 54 are one. The check is worked out a
  * byte at a time, the bytes' shares looked up side by side. Each value has a mask of the owners it fits at
  * each position, so that a segment's plan is found by a few ANDs. Repeated stations are found in a bitmap.
+ * The writer judges the words as they stand, with no reading back.
+ *
+ * Compiled with BITWISE, the check is worked out bit by bit; with AS_LIBRARY, the functions have the
+ * library's names.
  */
 #include "fast.h"
 
 #include <string.h>
+
+#if defined AS_LIBRARY
+#define NAME(x) brachymel_##x
+#elif defined BITWISE
+#define NAME(x) bitwise_##x
+#else
+#define NAME(x) fast_##x
+#endif
 
 enum {
     SELF = 1,       /* the position itself */
@@ -18,7 +30,6 @@ enum {
 static uint8_t fits[5][128];   /* owners that a value fits at each of four positions; at [4], in a short segment */
 static uint8_t fields_of[128];
 static uint8_t carried[128];
-static uint8_t share[7][256];  /* of the register, by a byte and how many bytes follow it */
 
 static void prepare_value(unsigned v)
 {
@@ -49,10 +60,30 @@ static void prepare_value(unsigned v)
     }
 }
 
-__attribute__((constructor)) static void prepare(void)
+static inline uint64_t low(uint64_t w, unsigned bits)
 {
-    for (unsigned v = 0; v < 128; v++)
-        prepare_value(v);
+    return w & ((UINT64_C(1) << bits) - 1);
+}
+
+/* ---- the check: of `bits` bits (8 to 54), the first sent lowest */
+
+#ifdef BITWISE
+static void prepare_check(void)
+{
+}
+
+static unsigned check(uint64_t covered, unsigned bits)
+{
+    unsigned r = 0xFF;
+    for (unsigned k = 0; k < bits; k++, covered >>= 1)
+        r = (r ^ covered) & 1 ? r >> 1 ^ 0xE0 : r >> 1;
+    return ~r & 0xF;
+}
+#else
+static uint8_t share[7][256];  /* of the register, by a byte and how many bytes follow it */
+
+static void prepare_check(void)
+{
     for (unsigned b = 0; b < 256; b++) {
         unsigned r = b;
         for (unsigned k = 0; k < 8; k++)
@@ -62,6 +93,30 @@ __attribute__((constructor)) static void prepare(void)
     for (unsigned k = 1; k < 7; k++)
         for (unsigned b = 0; b < 256; b++)
             share[k][b] = share[0][share[k - 1][b]];
+}
+
+/* The register's ones are put into the first byte, and zeros before it fill up the bytes without a trace. */
+static inline unsigned check(uint64_t covered, unsigned bits)
+{
+    unsigned bytes = (bits + 7) / 8, r = 0;
+    uint64_t v = (covered ^ 0xFF) << (8 * bytes - bits);
+    for (unsigned k = 0; k < bytes; k++)
+        r ^= share[bytes - 1 - k][v >> 8 * k & 0xFF];
+    return ~r & 0xF;
+}
+#endif
+
+__attribute__((constructor)) static void prepare(void)
+{
+    for (unsigned v = 0; v < 128; v++)
+        prepare_value(v);
+    prepare_check();
+}
+
+/* Check and tail together: the tail is zero. */
+static inline int right(uint64_t w, unsigned bits)
+{
+    return low(w >> bits, 10) == check(low(w, bits), bits);
 }
 
 /* At least 57 bits from bit `at` on; 0 past the end. */
@@ -76,28 +131,6 @@ static inline uint64_t window(const uint8_t *s, size_t length, size_t at)
     return w >> at % 8;
 }
 
-static inline uint64_t low(uint64_t w, unsigned bits)
-{
-    return w & ((UINT64_C(1) << bits) - 1);
-}
-
-/* The check of `bits` bits (8 to 54), the first sent lowest. The register's ones are put into the first
- * byte, and zeros before it fill up the bytes without a trace. */
-static inline unsigned check(uint64_t covered, unsigned bits)
-{
-    unsigned bytes = (bits + 7) / 8, r = 0;
-    uint64_t v = (covered ^ 0xFF) << (8 * bytes - bits);
-    for (unsigned k = 0; k < bytes; k++)
-        r ^= share[bytes - 1 - k][v >> 8 * k & 0xFF];
-    return ~r & 0xF;
-}
-
-/* Check and tail together: the tail is zero. */
-static inline int right(uint64_t w, unsigned bits)
-{
-    return low(w >> bits, 10) == check(low(w, bits), bits);
-}
-
 static inline brachymel_answer say(uint32_t number, uint32_t channel, uint64_t place)
 {
     brachymel_answer a = {number, channel, place};
@@ -106,69 +139,230 @@ static inline brachymel_answer say(uint32_t number, uint32_t channel, uint64_t p
 
 /* ---- the plan */
 
-/* Adds up a resource's fields: over eight is 8; two or more make its places shared. */
-static inline unsigned sum(unsigned fields, unsigned places, unsigned *shared)
-{
-    if (fields >= 2)
-        *shared |= places;
-    return fields > 8 ? 8 : 0;
-}
+typedef struct {
+    unsigned positions, n[2];  /* positions; User fields of each channel */
+    unsigned shared;           /* which positions are places of a shared resource */
+    uint8_t v[16], owner[16];  /* the row, and the owner of each position */
+} plan;
 
 static inline unsigned several(unsigned v)
 {
     return v > 64;
 }
 
-/* The plan of a segment of four: 0, 7 or 8, and which positions are places of a shared resource. */
-static unsigned segment(const uint8_t *v, unsigned *shared)
+/* Gives some of four positions to one larger resource; over eight fields are 8. */
+static inline unsigned give(plan *l, unsigned first, unsigned places, unsigned owner)
 {
-    unsigned m[4], own, refused = 0;
+    unsigned fields = 0;
+    for (unsigned p = 0; p < 4; p++)
+        if (places >> p & 1) {
+            fields += fields_of[l->v[first + p]];
+            l->owner[first + p] = (uint8_t)owner;
+        }
+    if (fields >= 2)
+        l->shared |= places << first;
+    return fields > 8 ? 8 : 0;
+}
+
+static inline void give_itself(plan *l, unsigned p)
+{
+    l->owner[p] = SELF;
+    l->shared |= several(l->v[p]) << p;
+}
+
+/* The plan of a segment of four: 0, 7 or 8. */
+static unsigned segment(plan *l, unsigned first)
+{
+    const uint8_t *v = l->v + first;
+    unsigned m[4], all, refused = 0;
     for (unsigned p = 0; p < 4; p++)
         m[p] = fits[p][v[p]];
-    own = m[0] & m[1] & m[2] & m[3];
-    if (own & SELF) {
-        *shared = several(v[0]) | several(v[1]) << 1 | several(v[2]) << 2 | several(v[3]) << 3;
+    all = m[0] & m[1] & m[2] & m[3];
+    if (all & SELF) {
+        for (unsigned p = 0; p < 4; p++)
+            give_itself(l, first + p);
         return 0;
     }
-    *shared = 0;
-    if (own & WHOLE)
-        return sum(fields_of[v[0]] + fields_of[v[1]] + fields_of[v[2]] + fields_of[v[3]], 15, shared);
+    if (all & WHOLE)
+        return give(l, first, 15, WHOLE);
     for (unsigned p = 0; p < 4; p++) {
         if (v[p] >= 96) {
-            unsigned k = (v[p] - 96u) / 8, fields = 0, bit = (unsigned)BUT_FIRST << k;
-            for (unsigned q = 0; q < 4; q++) {
-                if (!(m[q] & (q == k ? (unsigned)SELF : bit)))
+            unsigned k = (v[p] - 96u) / 8, owner = (unsigned)BUT_FIRST << k;
+            for (unsigned q = 0; q < 4; q++)
+                if (!(m[q] & (q == k ? (unsigned)SELF : owner)))
                     return 7;
-                fields += q == k ? 0 : fields_of[v[q]];
-            }
-            *shared = several(v[k]) << k;
-            return sum(fields, 15 & ~(1u << k), shared);
+            give_itself(l, first + k);
+            return give(l, first, 15 & ~(1u << k), owner);
         }
     }
     for (unsigned p = 0; p < 4; p += 2) {
         unsigned both = m[p] & m[p + 1];
-        if (both & SELF)
-            *shared |= (several(v[p]) | several(v[p + 1]) << 1) << p;
-        else if (both & PAIR)
-            refused |= sum(fields_of[v[p]] + fields_of[v[p + 1]], 3u << p, shared);
-        else
+        if (both & SELF) {
+            give_itself(l, first + p);
+            give_itself(l, first + p + 1);
+        } else if (both & PAIR) {
+            refused |= give(l, first, 3u << p, PAIR);
+        } else {
             return 7;
+        }
     }
     return refused;
 }
 
-static unsigned short_segment(const uint8_t *v, unsigned positions, unsigned *shared)
+static unsigned short_segment(plan *l)
 {
-    unsigned both = fits[4][v[0]] & (positions == 2 ? fits[4][v[1]] : (unsigned)SELF);
-    *shared = 0;
+    unsigned both = fits[4][l->v[0]] & (l->positions == 2 ? fits[4][l->v[1]] : (unsigned)SELF);
     if (both & SELF) {
-        *shared = several(v[0]) | (positions == 2 ? several(v[1]) << 1 : 0);
+        for (unsigned p = 0; p < l->positions; p++)
+            give_itself(l, p);
         return 0;
     }
-    return both & PAIR ? sum(fields_of[v[0]] + fields_of[v[1]], 3, shared) : 7;
+    return both & PAIR ? give(l, 0, 3, PAIR) : 7;
 }
 
-/* ---- the words */
+/* 0, 7 or 8 with the segment. */
+static brachymel_answer lay_out(plan *l)
+{
+    unsigned over = 0, over_at = 0;
+    l->shared = 0;
+    if (l->positions < 4)
+        return say(short_segment(l), 0, 0);
+    for (unsigned p = 0; p < l->positions; p += 4) {
+        unsigned refused = segment(l, p);
+        if (refused == 7)
+            return say(7, 0, p / 4);
+        if (refused == 8 && !over) {
+            over = 1;
+            over_at = p / 4;
+        }
+    }
+    return over ? say(8, 0, over_at) : say(0, 0, 0);
+}
+
+/* ---- the channels */
+
+static const uint8_t first_bits[5] = {26, 26, 35, 35, 35}, further_bits[5] = {0, 0, 0, 18, 54},
+    common_of[5] = {36, 36, 45, 73, 109};
+
+typedef struct {
+    plan plan;
+    uint64_t head;         /* the first bits of channel 1 */
+    unsigned second_check; /* of channel 1 */
+    unsigned total;
+    uint32_t field[144];   /* User fields, channel 1's first */
+} parsed;
+
+static inline unsigned end_of(unsigned bandwidth, unsigned n)
+{
+    return common_of[bandwidth] + n / 2 * 54 + n % 2 * 32;
+}
+
+/* A STA-ID from 1 to 2006 that was there before: the number of the later field, or total. */
+static unsigned repeated(const uint32_t *field, unsigned total, unsigned shift)
+{
+    uint64_t seen[32];
+    memset(seen, 0, sizeof seen);
+    for (unsigned k = 0; k < total; k++) {
+        unsigned id = field[k] >> shift & 0x7FF;
+        uint64_t bit = UINT64_C(1) << id % 64;
+        if (id - 1 < 2006 && seen[id / 64] & bit)
+            return k;
+        seen[id / 64] |= bit;
+    }
+    return total;
+}
+
+static brachymel_answer parse(uint32_t bandwidth, const uint8_t *cc1, size_t cc1_len, const uint8_t *cc2, size_t cc2_len,
+                              parsed *f)
+{
+    const uint8_t *cc[2] = {cc1, cc2};
+    size_t len[2] = {cc1_len, cc2_len};
+    uint64_t w[2] = {0, 0};
+    plan *l = &f->plan;
+    unsigned channels, first, further, common, k;
+    brachymel_answer a;
+
+    if (bandwidth > 4)
+        return say(1, 0, 0);
+    channels = bandwidth == 0 ? 1 : 2;
+    first = first_bits[bandwidth];
+    further = further_bits[bandwidth];
+    common = common_of[bandwidth];
+    l->positions = 1u << bandwidth;
+    if (cc1_len > 512)
+        return say(2, 1, 0);
+    if (cc2_len > 512 || (bandwidth == 0 && cc2_len != 0))
+        return say(2, 2, 0);
+    for (unsigned c = 0; c < channels; c++)
+        if (8 * len[c] < common)
+            return say(3, c + 1, 8 * len[c]);
+    f->second_check = 0;
+    for (unsigned c = 0; c < channels; c++) {
+        w[c] = window(cc[c], len[c], 0);
+        if (!right(w[c], first))
+            return say(4, c + 1, first);
+        if (further != 0) {
+            uint64_t covered = low(window(cc[c], len[c], first + 10), further);
+            unsigned sent = (unsigned)low(window(cc[c], len[c], first + 10 + further), 10);
+            if (sent != check(covered, further))
+                return say(4, c + 1, first + 10 + further);
+            if (c == 0)
+                f->second_check = sent;
+        }
+    }
+    f->head = w[0];
+    if (low(w[0] >> 6, 3) >= 5)
+        return say(5, 1, 6);
+    if (channels == 2 && low(w[0] ^ w[1], 17) != 0)
+        return say(5, 2, (uint64_t)__builtin_ctzll(w[0] ^ w[1]));
+    l->n[0] = l->n[1] = 0;
+    for (unsigned c = 0; c < channels; c++) {
+        uint64_t values = w[c] >> 17;
+        for (unsigned p = c, at = 17; p < l->positions; p += 2, at += 9, values >>= 9) {
+            unsigned value;
+            if (p / 2 == 2) {
+                at = first + 10;
+                values = window(cc[c], len[c], at);
+            }
+            value = (unsigned)low(values, 9);
+            if (value >= 128 || !carried[value])
+                return say(6, c + 1, at);
+            l->v[p] = (uint8_t)value;
+            l->n[c] += fields_of[value];
+        }
+    }
+    a = lay_out(l);
+    if (a.number != 0)
+        return a;
+    for (unsigned c = 0; c < channels; c++)
+        if (8 * len[c] < end_of(bandwidth, l->n[c]))
+            return say(9, c + 1, 8 * len[c]);
+    f->total = 0;
+    for (unsigned c = 0; c < channels; c++) {
+        unsigned at = common, j = 0;
+        for (; j + 2 <= l->n[c]; j += 2, at += 54) {
+            uint64_t block = window(cc[c], len[c], at);
+            if (!right(block, 44))
+                return say(10, c + 1, at + 44);
+            f->field[f->total++] = (uint32_t)low(block, 22);
+            f->field[f->total++] = (uint32_t)low(block >> 22, 22);
+        }
+        if (j < l->n[c]) {
+            uint64_t block = window(cc[c], len[c], at);
+            if (!right(block, 22))
+                return say(10, c + 1, at + 22);
+            f->field[f->total++] = (uint32_t)low(block, 22);
+        }
+    }
+    k = repeated(f->field, f->total, 0);
+    if (k < f->total) {
+        unsigned c = k >= l->n[0], j = c ? k - l->n[0] : k;
+        return say(11, c + 1, common + j / 2 * 54 + j % 2 * 22);
+    }
+    return say(0, 0, 0);
+}
+
+/* ---- words */
 
 static inline uint32_t alone_word(uint32_t f)
 {
@@ -181,158 +375,426 @@ static inline uint32_t shared_word(uint32_t f)
     return 0x47 | (f & 0x7FF) << 8 | (f & 0x7800) << 9 | (f & 0x8000) << 4 | (f & 0x3F0000) << 8;
 }
 
-static inline void put(uint8_t *words, size_t k, uint32_t word)
+static inline uint32_t alone_field(uint32_t w)
+{
+    return (w >> 8 & 0x7FF) | (w >> 9 & 0x7800) | (w >> 13 & 0x8000) | (w >> 8 & 0xF0000) | (w >> 9 & 0x100000)
+        | (w << 2 & 0x200000);
+}
+
+static inline uint32_t shared_field(uint32_t w)
+{
+    return (w >> 8 & 0x7FF) | (w >> 9 & 0x7800) | (w >> 4 & 0x8000) | (w >> 8 & 0x3F0000);
+}
+
+static inline void put_word(uint8_t *words, size_t k, uint32_t word)
 {
     memcpy(words + 4 * k, &word, 4); /* x86-64 is little-endian */
 }
 
-static uint32_t first_data(uint64_t w, unsigned first)
+static inline uint32_t get_word(const uint8_t *words, size_t k)
+{
+    uint32_t word;
+    memcpy(&word, words + 4 * k, 4);
+    return word;
+}
+
+/* The ten words before the User words. */
+static void head_words(unsigned bandwidth, uint64_t overflow, unsigned first_check, unsigned second_check, const plan *l,
+                       uint32_t data[10])
 {
     static const uint32_t size_gi[4] = {2 << 9, 2 << 9 | 1 << 7, 3 << 9, 3 << 9 | 2 << 7};
-    return (uint32_t)(low(w, 4) << 3 | size_gi[w >> 4 & 3] | low(w >> 6, 11) << 11 | low(w >> first, 4) << 22);
-}
-
-static void put_words(unsigned bandwidth, uint64_t w, unsigned first, unsigned second_check, const uint8_t *v,
-                      unsigned shared, const uint32_t *field, unsigned n1, uint8_t *words)
-{
-    unsigned positions = 1u << bandwidth, at[2] = {0, n1};
-    uint32_t data[10] = {0};
+    memset(data, 0, 10 * sizeof *data);
     data[0] = bandwidth >= 3 ? 0x1E1F6 : 0x61F6;
-    data[1] = first_data(w, first);
-    data[2] = (uint32_t)v[0] << 13 | 0x400000;
-    for (unsigned p = 1, k = 3, shift = 0; p < positions; p++) {
-        data[k] |= (uint32_t)(v[p] | 0x200) << shift;
+    data[1] = (uint32_t)(low(overflow, 4) << 3 | size_gi[overflow >> 4 & 3] | low(overflow >> 6, 11) << 11 | first_check << 22);
+    data[2] = (uint32_t)l->v[0] << 13 | 0x400000;
+    for (unsigned p = 1, k = 3, shift = 0; p < l->positions; p++) {
+        data[k] |= (uint32_t)(l->v[p] | 0x200) << shift;
         shift += 10;
-        if (shift == 30)
-            shift = 0, k++;
+        if (shift == 30) {
+            shift = 0;
+            k++;
+        }
     }
     data[8] = second_check;
-    for (unsigned k = 0; k < 10; k++)
-        put(words, k, data[k]);
-    for (unsigned p = 0; p < positions; p++) {
-        unsigned j = at[p % 2], end = j + fields_of[v[p]];
-        if (shared >> p & 1)
-            for (; j < end; j++)
-                put(words, 10 + j, shared_word(field[j]));
-        else
-            for (; j < end; j++)
-                put(words, 10 + j, alone_word(field[j]));
-        at[p % 2] = end;
-    }
 }
 
-/* ---- the reader */
-
-static const uint8_t first_bits[5] = {26, 26, 35, 35, 35}, further_bits[5] = {0, 0, 0, 18, 54},
-    common_of[5] = {36, 36, 45, 73, 109};
-
-brachymel_answer fast_read(uint32_t bandwidth, const uint8_t *cc1, size_t cc1_len, const uint8_t *cc2, size_t cc2_len,
-                           uint8_t *words, size_t words_len)
+brachymel_answer NAME(read)(uint32_t bandwidth, const uint8_t *cc1, size_t cc1_len, const uint8_t *cc2, size_t cc2_len,
+                            uint8_t *words, size_t words_len)
 {
-    const uint8_t *cc[2] = {cc1, cc2};
-    size_t len[2] = {cc1_len, cc2_len};
-    uint64_t w[2] = {0, 0}, seen[32];
-    uint32_t field[144];
-    uint8_t v[16];
-    unsigned channels, first, further, common, positions, n[2] = {0, 0}, shared = 0, total = 0, second_check = 0;
-    unsigned over = 0, over_at = 0;
+    parsed f;
+    uint32_t data[10];
+    unsigned at[2];
+    brachymel_answer a = parse(bandwidth, cc1, cc1_len, cc2, cc2_len, &f);
+    if (a.number != 0)
+        return a;
+    if (words_len / 4 < 10 + f.total)
+        return say(12, 0, 10 + f.total);
+    head_words(bandwidth, f.head, (unsigned)low(f.head >> first_bits[bandwidth], 4), f.second_check, &f.plan, data);
+    memcpy(words, data, sizeof data);
+    at[0] = 0;
+    at[1] = f.plan.n[0];
+    for (unsigned p = 0; p < f.plan.positions; p++) {
+        unsigned j = at[p % 2], end = j + fields_of[f.plan.v[p]];
+        if (f.plan.shared >> p & 1)
+            for (; j < end; j++)
+                put_word(words, 10 + j, shared_word(f.field[j]));
+        else
+            for (; j < end; j++)
+                put_word(words, 10 + j, alone_word(f.field[j]));
+        at[p % 2] = end;
+    }
+    return say(0, 0, 10 + f.total);
+}
+
+/* ---- the writer */
+
+/* Puts bits into a channel that is zero from there on. There are always eight bytes left. */
+static inline void or_bits(uint8_t *s, unsigned at, uint64_t bits)
+{
+    uint64_t w;
+    memcpy(&w, s + at / 8, 8);
+    w |= bits << at % 8;
+    memcpy(s + at / 8, &w, 8);
+}
+
+/* A block of at most 54 bits, which with its place in the first byte may take nine bytes. */
+static inline void or_block(uint8_t *s, unsigned at, uint64_t covered, unsigned bits)
+{
+    uint64_t w = covered | (uint64_t)check(covered, bits) << bits;
+    or_bits(s, at, low(w, 32));
+    or_bits(s, at + 32, w >> 32);
+}
+
+/* The overflow that data[0] tells of, or -1 where none does. */
+static int overflow_of(uint32_t data_0)
+{
+    static const int8_t gi_ltf[16] = {-1, -1, -1, -1, -1, -1, -1, -1, 0, 1, -1, -1, 2, -1, 3, -1};
+    int g = gi_ltf[data_0 >> 7 & 15];
+    if (g < 0 || (data_0 & 0xFC000007) != 0 || (data_0 >> 11 & 7) >= 5)
+        return -1;
+    return (int)((data_0 >> 3 & 15) | (uint32_t)g << 4 | (data_0 >> 11 & 0x7FF) << 6);
+}
+
+brachymel_answer NAME(write)(uint32_t bandwidth, const uint8_t *words, size_t words_len, uint8_t *cc1, size_t cc1_len,
+                             uint8_t *cc2, size_t cc2_len)
+{
+    uint8_t cc[2][BRACHYMEL_CHANNEL_SIZE + 15];
+    uint64_t covered[2], more[2];
+    uint32_t data[10], field[144];
+    unsigned channels, first, further, at[2], ends[2], second_check = 0;
+    size_t count = words_len / 4, bytes;
+    int overflow;
+    plan l;
 
     if (bandwidth > 4)
         return say(1, 0, 0);
+    if (words_len % 4 != 0 || count < 10 || count > 154)
+        return say(13, 0, 0);
     channels = bandwidth == 0 ? 1 : 2;
     first = first_bits[bandwidth];
     further = further_bits[bandwidth];
-    common = common_of[bandwidth];
-    positions = 1u << bandwidth;
-    if (cc1_len > 512)
-        return say(2, 1, 0);
-    if (cc2_len > 512 || (bandwidth == 0 && cc2_len != 0))
-        return say(2, 2, 0);
-    for (unsigned c = 0; c < channels; c++)
-        if (8 * len[c] < common)
-            return say(3, c + 1, 8 * len[c]);
+    l.positions = 1u << bandwidth;
+    overflow = overflow_of(get_word(words, 1));
+    if (overflow < 0)
+        return say(13, 0, 0);
+    l.n[0] = l.n[1] = 0;
+    covered[0] = covered[1] = (uint64_t)overflow;
+    more[0] = more[1] = 0;
+    for (unsigned p = 0; p < l.positions; p++) {
+        unsigned value = p == 0 ? get_word(words, 2) >> 13 & 0x1FF : get_word(words, 3 + (p - 1) / 3) >> (p - 1) % 3 * 10 & 0x1FF;
+        if (value >= 128 || !carried[value])
+            return say(13, 0, 0);
+        l.v[p] = (uint8_t)value;
+        l.n[p % 2] += fields_of[value];
+        if (p < 4)
+            covered[p % 2] |= (uint64_t)value << (17 + p / 2 * 9);
+        else
+            more[p % 2] |= (uint64_t)value << (p - 4) / 2 * 9;
+    }
+    if (count != 10 + l.n[0] + l.n[1] || lay_out(&l).number != 0)
+        return say(13, 0, 0);
+    if (further != 0)
+        second_check = check(more[0], further);
+    head_words(bandwidth, (uint64_t)overflow, check(covered[0], first), second_check, &l, data);
+    if (memcmp(words, data, sizeof data) != 0)
+        return say(13, 0, 0);
+    at[0] = 0;
+    at[1] = l.n[0];
+    for (unsigned p = 0; p < l.positions; p++) {
+        unsigned j = at[p % 2], end = j + fields_of[l.v[p]], shared = l.shared >> p & 1;
+        for (; j < end; j++) {
+            uint32_t w = get_word(words, 10 + j);
+            if ((w & 0xC00000FF) != (shared ? 0x47u : 0x3Fu))
+                return say(13, 0, 0);
+            field[j] = shared ? shared_field(w) : alone_field(w);
+        }
+        at[p % 2] = end;
+    }
+    if (repeated(field, l.n[0] + l.n[1], 0) < l.n[0] + l.n[1])
+        return say(13, 0, 0);
+    ends[0] = end_of(bandwidth, l.n[0]);
+    ends[1] = channels == 2 ? end_of(bandwidth, l.n[1]) : 0;
+    bytes = ((ends[0] > ends[1] ? ends[0] : ends[1]) + 7) / 8;
+    if (cc1_len < bytes)
+        return say(14, 1, bytes);
+    if (channels == 2 && cc2_len < bytes)
+        return say(14, 2, bytes);
     for (unsigned c = 0; c < channels; c++) {
-        w[c] = window(cc[c], len[c], 0);
-        if (!right(w[c], first))
-            return say(4, c + 1, first);
+        const uint32_t *x = field + (c == 0 ? 0 : l.n[0]);
+        unsigned to = common_of[bandwidth], j = 0;
+        memset(cc[c], 0, bytes + 15);
+        or_block(cc[c], 0, covered[c], first);
         if (further != 0) {
-            uint64_t covered = low(window(cc[c], len[c], first + 10), further);
-            unsigned sent = (unsigned)low(window(cc[c], len[c], first + 10 + further), 10);
-            if (sent != check(covered, further))
-                return say(4, c + 1, first + 10 + further);
-            if (c == 0)
-                second_check = sent;
+            or_bits(cc[c], first + 10, low(more[c], 32));
+            or_bits(cc[c], first + 10 + 32, more[c] >> 32);
+            or_bits(cc[c], first + 10 + further, check(more[c], further));
         }
+        for (; j + 2 <= l.n[c]; j += 2, to += 54)
+            or_block(cc[c], to, x[j] | (uint64_t)x[j + 1] << 22, 44);
+        if (j < l.n[c])
+            or_block(cc[c], to, x[j], 22);
     }
-    if (low(w[0] >> 6, 3) >= 5)
-        return say(5, 1, 6);
-    if (channels == 2 && low(w[0] ^ w[1], 17) != 0)
-        return say(5, 2, (uint64_t)__builtin_ctzll(w[0] ^ w[1]));
-    for (unsigned c = 0; c < channels; c++) {
-        uint64_t values = w[c] >> 17;
-        unsigned p = c, at = 17, k = 0;
-        for (; p < positions; k++, p += 2, at += 9, values >>= 9) {
-            unsigned value;
-            if (k == 2) {
-                at = first + 10;
-                values = window(cc[c], len[c], at);
+    memcpy(cc1, cc[0], bytes);
+    if (channels == 2)
+        memcpy(cc2, cc[1], bytes);
+    return say(0, 0, bytes);
+}
+
+/* ---- the listing */
+
+static inline char *put_text(char *t, const char *s, size_t n)
+{
+    memcpy(t, s, n);
+    return t + n;
+}
+
+#define PUT(t, s) put_text(t, s, sizeof(s) - 1)
+
+static char *put_number(char *t, unsigned n)
+{
+    char digits[10];
+    unsigned k = 0;
+    do
+        digits[k++] = (char)('0' + n % 10);
+    while ((n /= 10) != 0);
+    while (k > 0)
+        *t++ = digits[--k];
+    return t;
+}
+
+static char *put_run(char *t, int first, int last)
+{
+    if (first < 0)
+        *t++ = '-';
+    t = put_number(t, (unsigned)(first < 0 ? -first : first));
+    *t++ = ':';
+    if (last < 0)
+        *t++ = '-';
+    return put_number(t, (unsigned)(last < 0 ? -last : last));
+}
+
+static char *put_resource(char *t, const char *name, size_t name_length, unsigned index, unsigned seg, unsigned users)
+{
+    t = PUT(t, "ru=");
+    t = put_text(t, name, name_length);
+    t = PUT(t, " index=");
+    t = put_number(t, index);
+    t = PUT(t, " segment=");
+    t = put_number(t, seg);
+    t = PUT(t, " users=");
+    t = put_number(t, users);
+    return PUT(t, " tones=");
+}
+
+#define RESOURCE(t, name, index, seg, users) put_resource(t, name, sizeof(name) - 1, index, seg, users)
+
+/* The lowest subcarrier of a position's 242, from 40 MHz on: each position is 256 wide. */
+static int lowest(unsigned p, unsigned positions)
+{
+    return 256 * (int)p + (p % 2 == 0 ? 12 : 3) - 128 * (int)positions;
+}
+
+static char *put_242(char *t, unsigned p, unsigned positions)
+{
+    if (positions == 1)
+        return PUT(t, "-122:-2,2:122");
+    return put_run(t, lowest(p, positions), lowest(p, positions) + 241);
+}
+
+/* The pieces of a value, in rising frequency: size (0: 26, 1: 52, 2: 106, 3: 106+26) and place from 1. */
+static unsigned pieces(unsigned v, uint8_t size[9], uint8_t place[9])
+{
+    unsigned n = 0;
+#define PIECE(s, i) (size[n] = (uint8_t)(s), place[n++] = (uint8_t)(i))
+#define SLOT(k, first26, one) do { if (one) PIECE(1, k); else { PIECE(0, first26); PIECE(0, (first26) + 1); } } while (0)
+    if (v <= 15) {
+        SLOT(1, 1, v & 8); SLOT(2, 3, v & 4); PIECE(0, 5); SLOT(3, 6, v & 2); SLOT(4, 8, v & 1);
+    } else if (v <= 19) {
+        SLOT(1, 1, v & 2); SLOT(2, 3, v & 1); PIECE(0, 5); PIECE(2, 2);
+    } else if (v <= 23) {
+        PIECE(2, 1); PIECE(0, 5); SLOT(3, 6, v & 2); SLOT(4, 8, v & 1);
+    } else if (v == 24) {
+        PIECE(1, 1); PIECE(1, 2); PIECE(1, 3); PIECE(1, 4);
+    } else if (v == 25) {
+        PIECE(2, 1); PIECE(0, 5); PIECE(2, 2);
+    } else if (v == 48) {
+        PIECE(3, 1); PIECE(2, 2);
+    } else if (v == 50) {
+        PIECE(2, 1); PIECE(3, 2);
+    }
+    return n;
+}
+
+static char *put_piece(char *t, unsigned size, unsigned i, unsigned p, unsigned positions)
+{
+    static const int16_t at_26[10] = {0, 1, 27, 55, 81, 108, 135, 161, 189, 215}, at_52[5] = {0, 1, 55, 135, 189},
+        at_106[3] = {0, 1, 135}, own_26[10] = {0, -121, -95, -68, -42, 0, 17, 43, 70, 96}, own_52[5] = {0, -121, -68, 17, 70},
+        own_106[3] = {0, -122, 17};
+    unsigned q = p % 4;
+    int from = lowest(p, positions);
+    if (positions == 1) {
+        if (size == 0) {
+            t = RESOURCE(t, "26", i, 0, 1);
+            return i == 5 ? PUT(t, "-16:-4,4:16") : put_run(t, own_26[i], own_26[i] + 25);
+        }
+        if (size == 1)
+            return put_run(RESOURCE(t, "52", i, 0, 1), own_52[i], own_52[i] + 51);
+        if (size == 2)
+            return put_run(RESOURCE(t, "106", i, 0, 1), own_106[i], own_106[i] + 105);
+        t = RESOURCE(t, "106+26", i, 0, 1);
+        return i == 1 ? PUT(t, "-122:-4,4:16") : PUT(t, "-16:-4,4:122");
+    }
+    if (size == 0)
+        return put_run(RESOURCE(t, "26", 9 * q + i + (q >= 2), p / 4, 1), from + at_26[i], from + at_26[i] + 25);
+    if (size == 1)
+        return put_run(RESOURCE(t, "52", 4 * q + i, p / 4, 1), from + at_52[i], from + at_52[i] + 51);
+    if (size == 2)
+        return put_run(RESOURCE(t, "106", 2 * q + i, p / 4, 1), from + at_106[i], from + at_106[i] + 105);
+    t = RESOURCE(t, "106+26", 2 * q + i, p / 4, 1);
+    if (i == 1) {
+        t = put_run(t, from + 1, from + 106);
+        *t++ = ',';
+        return put_run(t, from + 108, from + 133);
+    }
+    t = put_run(t, from + 108, from + 133);
+    *t++ = ',';
+    return put_run(t, from + 135, from + 240);
+}
+
+/* A larger resource, at its lowest place p. */
+static char *put_larger(char *t, const plan *l, unsigned p)
+{
+    unsigned first = p / 4 * 4, owner = l->owner[p], users = 0, k = 0, sep = 0;
+    for (unsigned q = p; q < first + 4 && q < l->positions && (owner != PAIR || q < p + 2); q++)
+        users += l->owner[q] == owner ? fields_of[l->v[q]] : 0;
+    if (owner == WHOLE) {
+        int centre = 256 * (int)first + 512 - 128 * (int)l->positions;
+        t = RESOURCE(t, "996", 1, p / 4, users);
+        t = put_run(t, centre - 500, centre - 3);
+        *t++ = ',';
+        return put_run(t, centre + 3, centre + 500);
+    }
+    if (owner == PAIR) {
+        t = RESOURCE(t, "484", p % 4 / 2 + 1, p / 4, users);
+        t = put_242(t, p, l->positions);
+        *t++ = ',';
+        return put_242(t, p + 1, l->positions);
+    }
+    while (owner != (unsigned)BUT_FIRST << k)
+        k++;
+    t = RESOURCE(t, "484+242", k + 1, p / 4, users);
+    for (unsigned q = first; q < first + 4; q++) {
+        if (q == first + k)
+            continue;
+        if (sep++)
+            *t++ = ',';
+        t = put_242(t, q, l->positions);
+    }
+    return t;
+}
+
+/* The ru= lines; for each field, in its channel's order, the resource that owns it. */
+static char *put_resources(char *t, const plan *l, uint8_t *owning, unsigned *resources)
+{
+    unsigned at[2] = {0, l->n[0]}, r = 0, larger[4] = {0, 0, 0, 0}; /* pair, whole, but-one in this segment, by owner */
+    for (unsigned p = 0; p < l->positions; p++) {
+        unsigned v = l->v[p], owner = l->owner[p], *slot = &larger[owner == PAIR ? p % 4 / 2 : owner == WHOLE ? 2 : 3];
+        unsigned fields = fields_of[v];
+        uint8_t *mine = owning + at[p % 2];
+        at[p % 2] += fields;
+        if (p % 4 == 0)
+            memset(larger, 0, sizeof larger);
+        if (owner != SELF) {
+            if (*slot == 0) {
+                t = put_larger(t, l, p);
+                *t++ = '\n';
+                *slot = ++r;
             }
-            value = (unsigned)low(values, 9);
-            if (value >= 128 || !carried[value])
-                return say(6, c + 1, at);
-            v[p] = (uint8_t)value;
-            n[c] += fields_of[value];
-        }
-    }
-    if (positions < 4) {
-        unsigned refused = short_segment(v, positions, &shared);
-        if (refused != 0)
-            return say(refused, 0, 0);
-    } else {
-        for (unsigned p = 0; p < positions; p += 4) {
-            unsigned part, refused = segment(v + p, &part);
-            if (refused == 7)
-                return say(7, 0, p / 4);
-            if (refused == 8 && !over) {
-                over = 1;
-                over_at = p / 4;
+            memset(mine, (int)*slot, fields);
+        } else if (v == 28 || v >= 64) {
+            t = put_242(RESOURCE(t, "242", p % 4 + 1, p / 4, fields), p, l->positions);
+            *t++ = '\n';
+            memset(mine, (int)++r, fields);
+        } else {
+            uint8_t size[9], place[9];
+            unsigned n = pieces(v, size, place);
+            for (unsigned k = 0; k < n; k++) {
+                t = put_piece(t, size[k], place[k], p, l->positions);
+                *t++ = '\n';
+                mine[k] = (uint8_t)++r;
             }
-            shared |= part << p;
-        }
-        if (over)
-            return say(8, 0, over_at);
-    }
-    for (unsigned c = 0; c < channels; c++)
-        if (8 * len[c] < common + n[c] / 2 * 54 + n[c] % 2 * 32)
-            return say(9, c + 1, 8 * len[c]);
-    for (unsigned c = 0; c < channels; c++) {
-        unsigned at = common, j = 0;
-        for (; j + 2 <= n[c]; j += 2, at += 54) {
-            uint64_t block = window(cc[c], len[c], at);
-            if (!right(block, 44))
-                return say(10, c + 1, at + 44);
-            field[total++] = (uint32_t)low(block, 22);
-            field[total++] = (uint32_t)low(block >> 22, 22);
-        }
-        if (j < n[c]) {
-            uint64_t block = window(cc[c], len[c], at);
-            if (!right(block, 22))
-                return say(10, c + 1, at + 22);
-            field[total++] = (uint32_t)low(block, 22);
         }
     }
-    memset(seen, 0, sizeof seen);
-    for (unsigned k = 0; k < total; k++) {
-        unsigned id = field[k] & 0x7FF;
-        uint64_t bit = UINT64_C(1) << id % 64;
-        if (id - 1 < 2006 && seen[id / 64] & bit) {
-            unsigned c = k >= n[0], j = c ? k - n[0] : k;
-            return say(11, c + 1, common + j / 2 * 54 + j % 2 * 22);
+    *resources = r;
+    return t;
+}
+
+static unsigned count_resources(const plan *l)
+{
+    unsigned r = 0, seen = 0;
+    for (unsigned p = 0; p < l->positions; p++) {
+        unsigned v = l->v[p], owner = l->owner[p], bit = owner == PAIR ? 1u << p % 4 / 2 : 4;
+        if (p % 4 == 0)
+            seen = 0;
+        if (owner != SELF) {
+            r += !(seen & bit);
+            seen |= bit;
+        } else {
+            r += v == 28 || v >= 64 ? 1 : fields_of[v];
         }
-        seen[id / 64] |= bit;
     }
-    if (words_len / 4 < 10 + total)
-        return say(12, 0, 10 + total);
-    put_words(bandwidth, w[0], first, second_check, v, shared, field, n[0], words);
-    return say(0, 0, 10 + total);
+    return r;
+}
+
+brachymel_answer NAME(list)(uint32_t bandwidth, const uint8_t *cc1, size_t cc1_len, const uint8_t *cc2, size_t cc2_len,
+                            uint8_t *text, size_t text_len)
+{
+    char own[BRACHYMEL_LISTING_SIZE], *start, *t;
+    uint8_t owning[144];
+    unsigned resources;
+    parsed f;
+    size_t length;
+    brachymel_answer a = parse(bandwidth, cc1, cc1_len, cc2, cc2_len, &f);
+    if (a.number != 0)
+        return a;
+    start = text_len >= BRACHYMEL_LISTING_SIZE ? (char *)text : own;
+    t = PUT(start, "answer=0\nbw=");
+    *t++ = (char)('0' + bandwidth);
+    t = put_number(PUT(t, "\nresources="), count_resources(&f.plan));
+    t = put_number(PUT(t, "\nfields1="), f.plan.n[0]);
+    t = put_number(PUT(t, "\nfields2="), f.plan.n[1]);
+    t = put_number(PUT(t, "\nstations="), f.total);
+    *t++ = '\n';
+    t = put_resources(t, &f.plan, owning, &resources);
+    for (unsigned k = 0; k < f.total; k++) {
+        t = put_number(PUT(t, "sta="), f.field[k] & 0x7FF);
+        t = put_number(PUT(t, " resource="), owning[k]);
+        *t++ = '\n';
+    }
+    length = (size_t)(t - start);
+    if (text_len < length)
+        return say(23, 0, length);
+    if (start == own)
+        memcpy(text, own, length);
+    return say(0, 0, length);
 }

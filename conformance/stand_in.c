@@ -1,6 +1,5 @@
 /* The C entries, carried out by the reference: what the driver is tried on where there is no library. With
- * FAULT set to a number it is wrong in one way, which the driver has to see; with NO_READ it leaves
- * brachymel_read to another. */
+ * FAULT set to a number it is wrong in one way, which the driver has to see. */
 #include "brachymel.h"
 #include "reference/reference.h"
 
@@ -14,7 +13,6 @@ static brachymel_answer as_answer(answer a)
     return b;
 }
 
-#ifndef NO_READ
 brachymel_answer brachymel_read(uint32_t bandwidth, const uint8_t *cc1, size_t cc1_len, const uint8_t *cc2, size_t cc2_len,
                                 uint8_t *words, size_t words_len)
 {
@@ -31,7 +29,6 @@ brachymel_answer brachymel_read(uint32_t bandwidth, const uint8_t *cc1, size_t c
         a.number = 3;
     return as_answer(a);
 }
-#endif
 
 brachymel_answer brachymel_write(uint32_t bandwidth, const uint8_t *words, size_t words_len,
                                  uint8_t *cc1, size_t cc1_len, uint8_t *cc2, size_t cc2_len)
