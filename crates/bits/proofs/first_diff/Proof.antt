@@ -1,23 +1,14 @@
 -- `bits::first_diff` meets its contract. Assumes nothing.
 use Prim.Native.Nat.{ℕ, _+_, _-_, _≤_, _<_}
 use mathlib.Core.Path.{_≡_, sym, _∙_, ap}
-use mathlib.Core.Bool.{Bool, true, false, not}
-use mathlib.Core.List.{List}
+use mathlib.Core.Bool.{true, false}
 use native.Mathlib.Omega.{arith}
-use borrow.Author.Tests.{eq-eqb, ne-eqb}
 use Rattle.answer.specs.Least.{least, least-start, least-step, least-stop, least-end}
-use Rattle.bits.specs.Bits.{bit, differs}
+use Rattle.bits.specs.Bits.{differs}
+use Rattle.bits.specs.Differs.{differ, agree}
 use borrow.Author.Needs.{needs}
 use Rattle.bits.proofs.first_diff.Statement.{statement}
 use Rattle.bits.proofs.first_diff.Tie as tie
-
-differ : (s t : List ℕ) (i : ℕ) → (bit s i ≡ bit t i → ⊥) → differs s t i ≡ true
-unfolding differs
-differ s t i d = ap not (ne-eqb (bit s i) (bit t i) d)
-
-agree : (s t : List ℕ) (i : ℕ) → bit s i ≡ bit t i → differs s t i ≡ false
-unfolding differs
-agree s t i e = ap not (eq-eqb (bit s i) (bit t i) e)
 
 abbrev Inv-loop : tie.InvT-loop
 Inv-loop s t at n k₀ k = (k ≤ n) × (least (λ i. differs s t (at + i)) k ≡ k)

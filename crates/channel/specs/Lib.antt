@@ -1,0 +1,3 @@
+pub mod Layout
+pub mod Checks
+pub mod Laws
