@@ -1,4 +1,4 @@
--- `text::+put_decs` meets its contract. Assumes nothing.
+-- `text::put_decs` meets its contract. Assumes nothing.
 use borrow.Author.Needs.{needs}
 use native.Mathlib.Omega.{arith}
 use mathlib.Core.Path.{_≡_, refl, sym, ap, subst, _∙_}
@@ -11,6 +11,7 @@ use borrow.Fn.PlainCycle.{Measures, is, falls, and}
 use Rattle.text.proofs.put_decs.Reads as put-decs
 use Rattle.text.proofs.put_decs.Kinds as put-decs-kinds
 use Rattle.text.proofs.+put_decs.Lts-put_decs as put-decs-lts
+use Rattle.text.proofs.put.Reads as put-reads
 use Rattle.text.proofs.+put_decs.{statement}
 use Rattle.text.proofs.+put_decs.Tie.{close}
 
