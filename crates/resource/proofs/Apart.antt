@@ -19,7 +19,7 @@ use Rattle.resource.specs.declared.Resource.the-variants.{Single, Joined
 use Rattle.resource.specs.declared.Run.{Run}
 use Rattle.resource.specs.Values.{pieces, ownPieces}
 use Rattle.resource.specs.Index.{indexOf, resourceAt, leavingOut, positionOf, placeOf}
-use Rattle.resource.specs.Runs.{In, edge, the242, runsOf, wide, wideWith26, three, narrow, narrowWith26, offset26, offset52, offset106}
+use Rattle.resource.specs.Runs.{In, edge, the242, runsOf, wide, wideWith26, three, narrow, narrowWith26, offset26, offset52, offset106, narrow26, narrow52, narrow106}
 use Rattle.resource.proofs.Test.{below-or, both-left, both-right, below, every-below}
 use Rattle.resource.proofs.Everywhere.{everywhere, at-position}
 
@@ -100,7 +100,7 @@ abbrev ascends : ℕ → ℕ → ℕ → ℕ → Bool
 ascends n g p v = ascending (256 * (4 * g + p)) (256 * (4 * g + p) + 256) (gather (runs-at n g p) (ownPieces v))
 
 ascend : T (everywhere (λ n g p. below (ascends n g p) 72))
-unfolding pieces ownPieces indexOf resourceAt positionOf placeOf runsOf wide wideWith26 three narrow narrowWith26 offset26 offset52 offset106
+unfolding pieces ownPieces indexOf resourceAt positionOf placeOf runsOf wide wideWith26 three narrow narrowWith26 offset26 offset52 offset106 narrow26 narrow52 narrow106
 ascend = tt
 
 -- from 72 on no value leaves its position to itself

@@ -1,12 +1,13 @@
 -- Rules that the checker computes at every number below a bound, or at every key of a `match`. Assumes nothing.
-use mathlib.Core.Path.{_≡_, refl}
+use mathlib.Core.Path.{_≡_, refl, sym}
 use mathlib.Core.Logic.{_⊎_, inl, inr, ⊎-elim}
 use mathlib.Core.Bool.{Bool, true, false, not, _&&_, _||_}
 use mathlib.Core.List.{List, [], _∷_}
 use Prim.Native.Nat.{ℕ, zero, suc, _≤_, _<_}
 use native.Mathlib.Nat.{not-suc-le-zero, le-of-suc-le-suc, eq-or-lt-of-le}
 use borrow.Author.Tests.{ltb-true, ltb-false}
-use lib.Dec.{T, ltb, leb, le→leb}
+use lib.Dec.{T, ltb, leb, le→leb, eqb, eqb→eq}
+use lib.ListN.{length, getD, List·getD-eq-default}
 use mir.Facts.{or-yes}
 use mir.Val.{hasKey}
 use types.Run.{OneOf, hit}
@@ -75,3 +76,11 @@ pub no-key : (f : ℕ → Bool) (kss : List (List ℕ)) (v : ℕ) → T (key-or 
 no-key f [] v t m = t
 no-key f (ks ∷ kss) v t m =
     ⊎-elim (λ h. absurd (m .1 (hit ks v h))) (λ h. no-key f kss v h (m .0)) (or-yes (hasKey ks v) (key-or f kss v) t)
+
+-- what a `match` that lists a table leaves over: nothing is there
+pub none-listed : (l : List ℕ) (kss : List (List ℕ)) (j : ℕ) → T (below (key-or (λ i. eqb 0 (getD l i 0)) kss) (length l)) → Missed kss j → 0 ≡ getD l j 0
+none-listed l kss j t m =
+    ⊎-elim
+    (λ h. eqb→eq 0 (getD l j 0) (no-key (λ i. eqb 0 (getD l i 0)) kss j (every-below (key-or (λ i. eqb 0 (getD l i 0)) kss) (length l) t j h) m))
+    (λ h. sym (List·getD-eq-default l 0 h))
+    (below-or j (length l))

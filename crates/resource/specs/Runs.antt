@@ -1,12 +1,12 @@
 -- The subcarriers of a resource as natural numbers, counted from the channel's lower edge: in a channel of n positions u stands for the
--- subcarrier u - 128 n. From 40 MHz every position is then 256 wide. `proofs/Tones.antt` shows that these are 01's. Assumes nothing.
+-- subcarrier u - 128 n. From 40 MHz every position is then 256 wide. `proofs/Agree.antt` shows that these are 01's. Assumes nothing.
 use mathlib.Core.Logic.{_⊎_}
 use mathlib.Core.Bool.{Bool, true, false, cond, _&&_}
 use mathlib.Core.List.{List, [], _∷_, _++_, map}
 use Prim.Native.Nat.{ℕ, suc, _+_, _-_, _*_, _/_, _%_, _≤_}
 use lib.Dec.{leb, eqb}
 use lib.IntN.{ℤ, pos, _-ℤ_}
-use lib.ListN.{getD}
+use lib.ListN.{length, take, getD}
 use Rattle.resource.specs.declared.Size.{Size}
 use Rattle.resource.specs.declared.Size.the-variants.{S26, S52, S106, S242, S484, S996}
 use Rattle.resource.specs.declared.Pairing.the-variants.{P106And26, P484And242}
@@ -15,6 +15,7 @@ use Rattle.resource.specs.declared.Piece.the-variants.{Part, With26}
 use Rattle.resource.specs.declared.Resource.{Resource}
 use Rattle.resource.specs.declared.Resource.the-variants.{Single, Joined}
 use Rattle.resource.specs.declared.Run.{Run}
+use Rattle.resource.specs.declared.Tones.{Tones}
 use Rattle.resource.specs.Index.{positionOf, placeOf}
 use Rattle.resource.specs.Tones.{Span, _to_}
 
@@ -88,18 +89,26 @@ three g k =
     ∷ []
 
 -- ---- at 20 MHz
+-- where the j-th of its kind starts; the middle 26 is in two parts
+unfoldable pub narrow26 : ℕ → ℕ
+narrow26 j = getD (7 ∷ 33 ∷ 60 ∷ 86 ∷ 0 ∷ 145 ∷ 171 ∷ 198 ∷ 224 ∷ []) j 0
+
+unfoldable pub narrow52 : ℕ → ℕ
+narrow52 j = getD (7 ∷ 60 ∷ 145 ∷ 198 ∷ []) j 0
+
+unfoldable pub narrow106 : ℕ → ℕ
+narrow106 j = getD (6 ∷ 145 ∷ []) j 0
+
 unfoldable pub narrow : Size → ℕ → List Run
-narrow S26 j =
-    cond (eqb j 4) (runOf 112 13 ∷ runOf 132 13 ∷ [])
-    (runOf (getD (7 ∷ 33 ∷ 60 ∷ 86 ∷ 0 ∷ 145 ∷ 171 ∷ 198 ∷ 224 ∷ []) j 0) 26 ∷ [])
-narrow S52 j = runOf (getD (7 ∷ 60 ∷ 145 ∷ 198 ∷ []) j 0) 52 ∷ []
-narrow S106 j = runOf (getD (6 ∷ 145 ∷ []) j 0) 106 ∷ []
+narrow S26 j = cond (eqb j 4) (runOf 112 13 ∷ runOf 132 13 ∷ []) (runOf (narrow26 j) 26 ∷ [])
+narrow S52 j = runOf (narrow52 j) 52 ∷ []
+narrow S106 j = runOf (narrow106 j) 106 ∷ []
 narrow S242 j = runOf 6 121 ∷ runOf 130 121 ∷ []
 narrow S484 j = []
 narrow S996 j = []
 
 unfoldable pub narrowWith26 : ℕ → List Run
-narrowWith26 j = cond (eqb j 0) (run 6 124 ∷ run 132 144 ∷ []) (run 112 124 ∷ run 132 250 ∷ [])
+narrowWith26 j = cond (eqb j 0) (runOf 6 119 ∷ runOf 132 13 ∷ []) (runOf 112 13 ∷ runOf 132 119 ∷ [])
 
 -- ---- the runs of a resource of segment g in a channel of n positions, found by its size and index
 unfoldable pub runsOf : ℕ → ℕ → Resource → List Run
@@ -107,3 +116,10 @@ runsOf n g (Single s i) = cond (eqb n 1) (narrow s (placeOf s i)) (wide (4 * g +
 runsOf n g (Joined P106And26 i) =
     cond (eqb n 1) (narrowWith26 ((i - 1) % 2)) (wideWith26 (4 * g + (i - 1) / 2) ((i - 1) % 2))
 runsOf n g (Joined P484And242 i) = three g (i - 1)
+
+-- ---- as the program holds them: at most three
+abbrev pub noRun : Run
+noRun = run 0 0
+
+unfoldable pub held : List Run → Tones
+held rs = record { count = length rs; runs = take 3 (rs ++ (noRun ∷ noRun ∷ noRun ∷ [])) }

@@ -3,9 +3,11 @@
 ghost use mathlib.Core.Path.{_≡_};
 ghost use Prim.Native.Nat.{_+_, _-_, _*_, _%_, _≤_, _<_};
 ghost use lib.ListN.{length};
+ghost use mathlib.Core.List.{[], _∷_};
 ghost use Rattle.resource.specs.Values.{carried, fieldsOf, ownPieces};
 ghost use Rattle.resource.specs.Starts.{starts, nthFrom, pieceFrom, pieceAt};
-ghost use Rattle.resource.specs.Index.{indexOf, resourceAt};
+ghost use Rattle.resource.specs.Index.{indexOf, resourceAt, past19, positionOf, placeOf};
+ghost use Rattle.resource.specs.Runs.{runOf, edge, the242, offset26, offset52, offset106, wide, wideWith26, three, narrow26, narrow52, narrow106, narrow, narrowWith26, runsOf, noRun, held};
 
 // A single resource's number of subcarriers.
 pub enum Size {
@@ -39,6 +41,12 @@ pub enum Piece {
 pub struct Run {
     pub lo: u32,
     pub hi: u32,
+}
+
+// The runs of a resource: the first `count` of three, rising.
+pub struct Tones {
+    pub count: u16,
+    pub runs: [Run; 3],
 }
 
 pub fn is_carried(v: u16) -> bool
@@ -179,5 +187,306 @@ pub fn resource_at(v: u16, p: u16, k: u16) -> Resource
     match piece_at(v, k) {
         Piece::Part(size, i) => Resource::Single(size, index_of(q, size, i)),
         Piece::With26(i) => Resource::Joined(Pairing::P106And26, 2 * q + i),
+    }
+}
+
+// n subcarriers from lo on.
+fn run_of(lo: u32, n: u32) -> Run
+    requires { ⌜ (lo < 536870912) × (0 < n) × (n < 1024) ⌝ }
+    ensures { λ r. ⌜ r ≡ runOf lo n ⌝ }
+{
+    Run { lo, hi: lo + n - 1 }
+}
+
+fn no_run() -> Run
+    ensures { λ r. ⌜ r ≡ noRun ⌝ }
+{
+    Run { lo: 0, hi: 0 }
+}
+
+fn no_tones() -> Tones
+    ensures { λ r. ⌜ r ≡ held [] ⌝ }
+{
+    Tones {
+        count: 0,
+        runs: [no_run(), no_run(), no_run()],
+    }
+}
+
+fn one_run(a: Run) -> Tones
+    ensures { λ r. ⌜ r ≡ held (a ∷ []) ⌝ }
+{
+    Tones {
+        count: 1,
+        runs: [a, no_run(), no_run()],
+    }
+}
+
+fn two_runs(a: Run, b: Run) -> Tones
+    ensures { λ r. ⌜ r ≡ held (a ∷ b ∷ []) ⌝ }
+{
+    Tones {
+        count: 2,
+        runs: [a, b, no_run()],
+    }
+}
+
+fn three_runs(a: Run, b: Run, c: Run) -> Tones
+    ensures { λ r. ⌜ r ≡ held (a ∷ b ∷ c ∷ []) ⌝ }
+{
+    Tones {
+        count: 3,
+        runs: [a, b, c],
+    }
+}
+
+// The lowest subcarrier of the 242 at position p.
+fn edge_of(p: u32) -> u32
+    requires { ⌜ p < 1048576 ⌝ }
+    ensures { λ r. ⌜ (r ≡ edge p) × (r < 268435456) ⌝ }
+{
+    if p % 2 == 0 {
+        256 * p + 12
+    } else {
+        256 * p + 3
+    }
+}
+
+fn run_242(p: u32) -> Run
+    requires { ⌜ p < 1048576 ⌝ }
+    ensures { λ r. ⌜ r ≡ the242 p ⌝ }
+{
+    run_of(edge_of(p), 242)
+}
+
+// How far above its 242's lowest subcarrier the j-th of its kind starts, from 40 MHz.
+fn offset_26(j: u16) -> u32
+    ensures { λ r. ⌜ (r ≡ offset26 j) × (r < 256) ⌝ }
+{
+    match j {
+        0 => 1,
+        1 => 27,
+        2 => 55,
+        3 => 81,
+        4 => 108,
+        5 => 135,
+        6 => 161,
+        7 => 189,
+        8 => 215,
+        _ => 0,
+    }
+}
+
+fn offset_52(j: u16) -> u32
+    ensures { λ r. ⌜ (r ≡ offset52 j) × (r < 256) ⌝ }
+{
+    match j {
+        0 => 1,
+        1 => 55,
+        2 => 135,
+        3 => 189,
+        _ => 0,
+    }
+}
+
+fn offset_106(j: u16) -> u32
+    ensures { λ r. ⌜ (r ≡ offset106 j) × (r < 256) ⌝ }
+{
+    match j {
+        0 => 1,
+        1 => 135,
+        _ => 0,
+    }
+}
+
+// The runs of the j-th single resource of its size at position p of the channel, from 40 MHz.
+fn wide_tones(p: u32, size: Size, j: u16) -> Tones
+    requires { ⌜ p < 1000000 ⌝ }
+    ensures { λ r. ⌜ r ≡ held (wide p size j) ⌝ }
+{
+    match size {
+        Size::S26 => one_run(run_of(edge_of(p) + offset_26(j), 26)),
+        Size::S52 => one_run(run_of(edge_of(p) + offset_52(j), 52)),
+        Size::S106 => one_run(run_of(edge_of(p) + offset_106(j), 106)),
+        Size::S242 => one_run(run_242(p)),
+        Size::S484 => two_runs(run_242(2 * (p / 2)), run_242(2 * (p / 2) + 1)),
+        Size::S996 => two_runs(
+            run_of(1024 * (p / 4) + 12, 498),
+            run_of(1024 * (p / 4) + 515, 498),
+        ),
+    }
+}
+
+fn wide_joined(p: u32, j: u16) -> Tones
+    requires { ⌜ p < 1000000 ⌝ }
+    ensures { λ r. ⌜ r ≡ held (wideWith26 p j) ⌝ }
+{
+    let e = edge_of(p);
+    if j == 0 {
+        two_runs(run_of(e + 1, 106), run_of(e + 108, 26))
+    } else {
+        two_runs(run_of(e + 108, 26), run_of(e + 135, 106))
+    }
+}
+
+// The three 242s of segment g but for place k.
+fn three_tones(g: u32, k: u16) -> Tones
+    requires { ⌜ g < 65536 ⌝ }
+    ensures { λ r. ⌜ r ≡ held (three g k) ⌝ }
+{
+    let p = 4 * g;
+    match k {
+        0 => three_runs(run_242(p + 1), run_242(p + 2), run_242(p + 3)),
+        1 => three_runs(run_242(p), run_242(p + 2), run_242(p + 3)),
+        2 => three_runs(run_242(p), run_242(p + 1), run_242(p + 3)),
+        _ => three_runs(run_242(p), run_242(p + 1), run_242(p + 2)),
+    }
+}
+
+// Where the j-th of its kind starts, at 20 MHz.
+fn narrow_26(j: u16) -> u32
+    ensures { λ r. ⌜ (r ≡ narrow26 j) × (r < 256) ⌝ }
+{
+    match j {
+        0 => 7,
+        1 => 33,
+        2 => 60,
+        3 => 86,
+        5 => 145,
+        6 => 171,
+        7 => 198,
+        8 => 224,
+        _ => 0,
+    }
+}
+
+fn narrow_52(j: u16) -> u32
+    ensures { λ r. ⌜ (r ≡ narrow52 j) × (r < 256) ⌝ }
+{
+    match j {
+        0 => 7,
+        1 => 60,
+        2 => 145,
+        3 => 198,
+        _ => 0,
+    }
+}
+
+fn narrow_106(j: u16) -> u32
+    ensures { λ r. ⌜ (r ≡ narrow106 j) × (r < 256) ⌝ }
+{
+    match j {
+        0 => 6,
+        1 => 145,
+        _ => 0,
+    }
+}
+
+// The runs of the j-th single resource of its size, at 20 MHz.
+fn narrow_tones(size: Size, j: u16) -> Tones
+    ensures { λ r. ⌜ r ≡ held (narrow size j) ⌝ }
+{
+    match size {
+        Size::S26 => {
+            if j == 4 {
+                two_runs(run_of(112, 13), run_of(132, 13))
+            } else {
+                one_run(run_of(narrow_26(j), 26))
+            }
+        }
+        Size::S52 => one_run(run_of(narrow_52(j), 52)),
+        Size::S106 => one_run(run_of(narrow_106(j), 106)),
+        Size::S242 => two_runs(run_of(6, 121), run_of(130, 121)),
+        Size::S484 => no_tones(),
+        Size::S996 => no_tones(),
+    }
+}
+
+// The middle 26 goes on in the 106 or the 106 in it.
+fn narrow_joined(j: u16) -> Tones
+    ensures { λ r. ⌜ r ≡ held (narrowWith26 j) ⌝ }
+{
+    if j == 0 {
+        two_runs(run_of(6, 119), run_of(132, 13))
+    } else {
+        two_runs(run_of(112, 13), run_of(132, 119))
+    }
+}
+
+// One less, or 0.
+fn one_less(i: u16) -> u16
+    ensures { λ r. ⌜ r ≡ i - 1 ⌝ }
+{
+    if i == 0 { 0 } else { i - 1 }
+}
+
+// The 26 of index i, counted from 0 in its segment.
+fn past_19(i: u16) -> u16
+    ensures { λ r. ⌜ r ≡ past19 i ⌝ }
+{
+    if i < 19 { one_less(i) } else { i - 2 }
+}
+
+// The position in its segment of the single resource of index i.
+fn position_of(size: Size, i: u16) -> u32
+    ensures { λ r. ⌜ (r ≡ positionOf size i) × (r < 131072) ⌝ }
+{
+    match size {
+        Size::S26 => (past_19(i) / 9) as u32,
+        Size::S52 => (one_less(i) / 4) as u32,
+        Size::S106 => (one_less(i) / 2) as u32,
+        Size::S242 => one_less(i) as u32,
+        Size::S484 => 2 * (one_less(i) as u32),
+        Size::S996 => 0,
+    }
+}
+
+// Its place there among those of its size, from 0.
+fn place_of(size: Size, i: u16) -> u16
+    ensures { λ r. ⌜ r ≡ placeOf size i ⌝ }
+{
+    match size {
+        Size::S26 => past_19(i) % 9,
+        Size::S52 => one_less(i) % 4,
+        Size::S106 => one_less(i) % 2,
+        Size::S242 => 0,
+        Size::S484 => 0,
+        Size::S996 => 0,
+    }
+}
+
+fn single_tones(n: u16, g: u16, size: Size, i: u16) -> Tones
+    ensures { λ r. ⌜ r ≡ held (runsOf n g (Resource.Single size i)) ⌝ }
+{
+    let j = place_of(size, i);
+    if n == 1 {
+        return narrow_tones(size, j);
+    }
+    wide_tones(4 * (g as u32) + position_of(size, i), size, j)
+}
+
+fn joined_tones(n: u16, g: u16, pairing: Pairing, i: u16) -> Tones
+    ensures { λ r. ⌜ r ≡ held (runsOf n g (Resource.Joined pairing i)) ⌝ }
+{
+    let k = one_less(i);
+    match pairing {
+        Pairing::P106And26 => {
+            if n == 1 {
+                narrow_joined(k % 2)
+            } else {
+                wide_joined(4 * (g as u32) + (k / 2) as u32, k % 2)
+            }
+        }
+        Pairing::P484And242 => three_tones(g as u32, k),
+    }
+}
+
+// The subcarriers of a resource of segment g in a channel of n positions.
+pub fn tones_of(n: u16, g: u16, r: Resource) -> Tones
+    ensures { λ t. ⌜ t ≡ held (runsOf n g r) ⌝ }
+{
+    match r {
+        Resource::Single(size, i) => single_tones(n, g, size, i),
+        Resource::Joined(pairing, i) => joined_tones(n, g, pairing, i),
     }
 }

@@ -1,0 +1,18 @@
+-- `resource::one_run` meets its contract. Assumes nothing.
+use Rattle.resource.specs.Runs.{held}
+use borrow.Author.Needs.{needs}
+use Rattle.resource.proofs.one_run.Statement.{statement}
+use Rattle.resource.proofs.one_run.Tie as tie
+
+no-run-requires : tie.Need-no-run-requires
+no-run-requires c κs = search needs
+
+no-run-requires-2 : tie.Need-no-run-requires-2
+no-run-requires-2 c κs = search needs
+
+returns : tie.Need-returns
+unfolding held
+returns c = rw (c .before .no-run .ensures, c .no-run2 .ensures)
+
+pub one-run-spec : {M : Type 1} → statement M
+one-run-spec = tie.close (tie.spec no-run-requires no-run-requires-2 returns)

@@ -1,0 +1,185 @@
+-- `resource::wide_tones` meets its contract. Assumes nothing.
+use Rattle.resource.specs.Runs.{wide}
+use mathlib.Core.Path.{_∙_}
+use borrow.Author.Needs.{needs}
+use Rattle.resource.proofs.wide_tones.Statement.{statement}
+use Rattle.resource.proofs.wide_tones.Tie as tie
+
+enum-told : tie.Need-enum-told
+enum-told c = search needs
+
+edge-of-requires : tie.Need-edge-of-requires
+edge-of-requires c κs = search needs
+
+offset-26-requires : tie.Need-offset-26-requires
+offset-26-requires c κs = search needs
+
+add-run-of : tie.Need-add-run-of
+add-run-of c = search needs
+
+run-of-requires : tie.Need-run-of-requires
+run-of-requires c κs = search needs
+
+one-run-requires : tie.Need-one-run-requires
+one-run-requires c κs = search needs
+
+enum-told-2 : tie.Need-enum-told-2
+enum-told-2 c = search needs
+
+edge-of-requires-2 : tie.Need-edge-of-requires-2
+edge-of-requires-2 c κs = search needs
+
+offset-52-requires : tie.Need-offset-52-requires
+offset-52-requires c κs = search needs
+
+add-run-of-2 : tie.Need-add-run-of-2
+add-run-of-2 c = search needs
+
+run-of-requires-2 : tie.Need-run-of-requires-2
+run-of-requires-2 c κs = search needs
+
+one-run-requires-2 : tie.Need-one-run-requires-2
+one-run-requires-2 c κs = search needs
+
+enum-told-3 : tie.Need-enum-told-3
+enum-told-3 c = search needs
+
+edge-of-requires-3 : tie.Need-edge-of-requires-3
+edge-of-requires-3 c κs = search needs
+
+offset-106-requires : tie.Need-offset-106-requires
+offset-106-requires c κs = search needs
+
+add-run-of-3 : tie.Need-add-run-of-3
+add-run-of-3 c = search needs
+
+run-of-requires-3 : tie.Need-run-of-requires-3
+run-of-requires-3 c κs = search needs
+
+one-run-requires-3 : tie.Need-one-run-requires-3
+one-run-requires-3 c κs = search needs
+
+enum-told-4 : tie.Need-enum-told-4
+enum-told-4 c = search needs
+
+run-242-requires : tie.Need-run-242-requires
+run-242-requires c κs = search needs
+
+one-run-requires-4 : tie.Need-one-run-requires-4
+one-run-requires-4 c κs = search needs
+
+enum-told-5 : tie.Need-enum-told-5
+enum-told-5 c = search needs
+
+mul-run-242 : tie.Need-mul-run-242
+mul-run-242 c = search needs
+
+run-242-requires-2 : tie.Need-run-242-requires-2
+run-242-requires-2 c κs = search needs
+
+mul-run-242-2 : tie.Need-mul-run-242-2
+mul-run-242-2 c = search needs
+
+add-run-242 : tie.Need-add-run-242
+add-run-242 c = search needs
+
+run-242-requires-3 : tie.Need-run-242-requires-3
+run-242-requires-3 c κs = search needs
+
+two-runs-requires : tie.Need-two-runs-requires
+two-runs-requires c κs = search needs
+
+enum-told-6 : tie.Need-enum-told-6
+enum-told-6 c = search needs
+
+mul-run-of : tie.Need-mul-run-of
+mul-run-of c = search needs
+
+add-run-of-4 : tie.Need-add-run-of-4
+add-run-of-4 c = search needs
+
+run-of-requires-4 : tie.Need-run-of-requires-4
+run-of-requires-4 c κs = search needs
+
+mul-run-of-2 : tie.Need-mul-run-of-2
+mul-run-of-2 c = search needs
+
+add-run-of-5 : tie.Need-add-run-of-5
+add-run-of-5 c = search needs
+
+run-of-requires-5 : tie.Need-run-of-requires-5
+run-of-requires-5 c κs = search needs
+
+two-runs-requires-2 : tie.Need-two-runs-requires-2
+two-runs-requires-2 c κs = search needs
+
+returns : tie.Need-returns
+unfolding wide
+returns c = c .one-run .ensures ∙ rw (c .before .run-of .ensures, c .before .before .offset-26 .ensures .0, c .before .before .before .edge-of .ensures .0, c .before .before .before .before .enum-told .given .1)
+
+returns-2 : tie.Need-returns-2
+unfolding wide
+returns-2 c = c .one-run2 .ensures ∙ rw (c .before .run-of2 .ensures, c .before .before .offset-52 .ensures .0, c .before .before .before .edge-of2 .ensures .0, c .before .before .before .before .enum-told2 .given .1)
+
+returns-3 : tie.Need-returns-3
+unfolding wide
+returns-3 c = c .one-run3 .ensures ∙ rw (c .before .run-of3 .ensures, c .before .before .offset-106 .ensures .0, c .before .before .before .edge-of3 .ensures .0, c .before .before .before .before .enum-told3 .given .1)
+
+returns-4 : tie.Need-returns-4
+unfolding wide
+returns-4 c = c .one-run4 .ensures ∙ rw (c .before .run-242 .ensures, c .before .before .enum-told4 .given .1)
+
+returns-5 : tie.Need-returns-5
+unfolding wide
+returns-5 c = c .two-runs .ensures ∙ rw (c .before .before .run-2422 .ensures, c .before .run-2423 .ensures, c .before .before .before .enum-told5 .given .1)
+
+returns-6 : tie.Need-returns-6
+unfolding wide
+returns-6 c = c .two-runs2 .ensures ∙ rw (c .before .before .run-of4 .ensures, c .before .run-of5 .ensures, c .before .before .before .enum-told6 .given .1)
+
+pub wide-tones-spec : {M : Type 1} → statement M
+wide-tones-spec =
+    tie.close
+    (tie.spec
+    enum-told
+    edge-of-requires
+    offset-26-requires
+    add-run-of
+    run-of-requires
+    one-run-requires
+    enum-told-2
+    edge-of-requires-2
+    offset-52-requires
+    add-run-of-2
+    run-of-requires-2
+    one-run-requires-2
+    enum-told-3
+    edge-of-requires-3
+    offset-106-requires
+    add-run-of-3
+    run-of-requires-3
+    one-run-requires-3
+    enum-told-4
+    run-242-requires
+    one-run-requires-4
+    enum-told-5
+    mul-run-242
+    run-242-requires-2
+    mul-run-242-2
+    add-run-242
+    run-242-requires-3
+    two-runs-requires
+    enum-told-6
+    mul-run-of
+    add-run-of-4
+    run-of-requires-4
+    mul-run-of-2
+    add-run-of-5
+    run-of-requires-5
+    two-runs-requires-2
+    returns
+    returns-2
+    returns-3
+    returns-4
+    returns-5
+    returns-6)
