@@ -1,3 +1,5 @@
 pub mod Layout
 pub mod Checks
 pub mod Laws
+pub mod Passing
+pub mod Padding
