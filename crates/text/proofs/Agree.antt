@@ -19,7 +19,7 @@ pub put-all-agrees : (κs : _) (a : _) (r r' : _) (s s' : _) → put-all.Post κ
 put-all-agrees κs a r r' s s' p q = wrote-agrees p q
 
 pub put-dec-agrees : (κs : _) (a : _) (r r' : _) (s s' : _) → put-dec.Post κs a r s → put-dec.Post κs a r' s' → (r ≡ r') × (now (s .0) ≡ now (s' .0))
-put-dec-agrees κs a r r' s s' p q = wrote-agrees p q
+put-dec-agrees κs a r r' s s' p q = wrote-agrees (p .0) (q .0)
 
 pub put-signed-agrees : (κs : _) (a : _) (r r' : _) (s s' : _) → put-signed.Post κs a r s → put-signed.Post κs a r' s' → (r ≡ r') × (now (s .0) ≡ now (s' .0))
-put-signed-agrees κs a r r' s s' p q = wrote-agrees p q
+put-signed-agrees κs a r r' s s' p q = wrote-agrees (p .0) (q .0)

@@ -51,6 +51,7 @@ fn put_decs(out: &mut [u8], at: usize, k: usize, n: u64) -> usize
 pub fn put_dec(out: &mut [u8], at: usize, n: u64) -> usize
     requires { ⌜ at + 20 ≤ 65536 ⌝ }
     ensures { λ r. ⌜ Wrote (now (out .entry)) at (dec n) (now (out .exit)) r ⌝ }
+    ensures bounded { λ r. ⌜ r ≤ at + 20 ⌝ }
 {
     put_decs(out, at, 20, n)
 }
@@ -59,6 +60,7 @@ pub fn put_dec(out: &mut [u8], at: usize, n: u64) -> usize
 pub fn put_signed(out: &mut [u8], at: usize, u: u64, zero: u64) -> usize
     requires { ⌜ at + 21 ≤ 65536 ⌝ }
     ensures { λ r. ⌜ Wrote (now (out .entry)) at (signed (pos u -ℤ pos zero)) (now (out .exit)) r ⌝ }
+    ensures bounded { λ r. ⌜ r ≤ at + 21 ⌝ }
 {
     if u < zero {
         let o = put(out, at, b'-');

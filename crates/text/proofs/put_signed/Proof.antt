@@ -1,5 +1,6 @@
 -- `text::put_signed` meets its contract. Assumes nothing.
 use borrow.Author.Needs.{needs}
+use native.Mathlib.Omega.{arith}
 use Rattle.text.specs.Laws.{after, signed-low, signed-high}
 use Rattle.text.proofs.put_signed.Statement.{statement}
 use Rattle.text.proofs.put_signed.Tie as tie
@@ -20,13 +21,13 @@ same-length : tie.Need-same-length
 same-length c = search needs
 
 returns : tie.Need-returns
-returns c = rw (signed-low _ _ (c .before .before .before .before .before .before .before .before .if1 .taken)) (after (c .before .before .before .before .before .before .put .ensures) (c .before .before .put-dec .ensures))
+returns c = (rw (signed-low _ _ (c .before .before .before .before .before .before .before .before .if1 .taken)) (after (c .before .before .before .before .before .before .put .ensures) (c .before .before .put-dec .ensures .0)), omega arith)
 
 same-length-2 : tie.Need-same-length-2
 same-length-2 c = search needs
 
 returns-2 : tie.Need-returns-2
-returns-2 c = rw (signed-high _ _ (c .before .before .before .before .if1 .left)) (c .before .before .put-dec2 .ensures)
+returns-2 c = (rw (signed-high _ _ (c .before .before .before .before .if1 .left)) (c .before .before .put-dec2 .ensures .0), omega arith)
 
 pub put-signed-spec : {M : Type 1} → statement M
 put-signed-spec =
