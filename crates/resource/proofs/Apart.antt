@@ -103,11 +103,16 @@ ascend : T (everywhere (λ n g p. below (ascends n g p) 72))
 unfolding pieces ownPieces indexOf resourceAt positionOf placeOf runsOf wide wideWith26 three narrow narrowWith26 offset26 offset52 offset106 narrow26 narrow52 narrow106
 ascend = tt
 
--- from 72 on no value leaves its position to itself
+-- from 51 on no value divides its position, and from 72 on none leaves it to itself
+pub not-divided : (v : ℕ) → 51 ≤ v → pieces v ≡ []
+unfolding pieces
+not-divided v h =
+    rw (le-ltb v 16 (omega arith), le-ltb v 20 (omega arith), le-ltb v 24 (omega arith), ne-eqb v 24 (λ e. omega arith), ne-eqb v 25 (λ e. omega arith), ne-eqb v 48 (λ e. omega arith), ne-eqb v 50 (λ e. omega arith))
+
 pub no-pieces : (v : ℕ) → 72 ≤ v → ownPieces v ≡ []
-unfolding ownPieces pieces
+unfolding ownPieces
 no-pieces v h =
-    rw (ne-eqb v 28 (λ e. omega arith), lt-leb v 71 (omega arith), le-leb 64 v (omega arith), le-ltb v 16 (omega arith), le-ltb v 20 (omega arith), le-ltb v 24 (omega arith), ne-eqb v 24 (λ e. omega arith), ne-eqb v 25 (λ e. omega arith), ne-eqb v 48 (λ e. omega arith), ne-eqb v 50 (λ e. omega arith))
+    rw (ne-eqb v 28 (λ e. omega arith), lt-leb v 71 (omega arith), le-leb 64 v (omega arith)) (not-divided v (omega arith))
 
 module _ (b g p v : ℕ) (h : b < 5) (i : p < 4) (j : 4 * g + p < 2 ^ b) where
   ascends-at : T (ascends (2 ^ b) g p v)

@@ -1,0 +1,13 @@
+-- `records::in_channel` meets its contract. Assumes nothing.
+use borrow.Author.Tests.{ne-eqb, eq-eqb}
+use Rattle.records.proofs.in_channel.Statement.{statement}
+use Rattle.records.proofs.in_channel.Tie as tie
+
+returns : tie.Need-returns
+returns c = rw (eq-eqb _ _ (c .if1 .taken))
+
+returns-2 : tie.Need-returns-2
+returns-2 c = rw (ne-eqb _ _ (c .if1 .left))
+
+pub in-channel-spec : {M : Type 1} → statement M
+in-channel-spec = tie.close (tie.spec returns returns-2)

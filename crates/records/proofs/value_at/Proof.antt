@@ -1,0 +1,22 @@
+-- `records::value_at` meets its contract. Assumes nothing.
+use lib.ListN.{List·getD-eq-default}
+use native.Mathlib.Omega.{arith}
+use mathlib.Core.Path.{_≡_, sym, _∙_, ap}
+use borrow.Author.Needs.{needs}
+use Rattle.records.proofs.value_at.Statement.{statement}
+use Rattle.records.proofs.value_at.Tie as tie
+
+mul-result : tie.Need-mul-result
+mul-result c = search needs
+
+shared-slice-read-result : tie.Need-shared-slice-read-result
+shared-slice-read-result c = search needs
+
+returns : tie.Need-returns
+returns c = search needs
+
+returns-2 : tie.Need-returns-2
+returns-2 c = sym (List·getD-eq-default (c .before .args .row .now) 0 (c .if1 .left))
+
+pub value-at-spec : {M : Type 1} → statement M
+value-at-spec = tie.close (tie.spec mul-result shared-slice-read-result returns returns-2)
