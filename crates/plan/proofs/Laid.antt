@@ -17,7 +17,7 @@ use Rattle.plan.specs.Decides.{Decides}
 use Rattle.plan.specs.Plan.{at, Fits, Signals}
 use Rattle.plan.specs.Fields.{total, Eight}
 use Rattle.plan.specs.Layout.{segments, segmentEnd, Plan, PlanOfEight, SegmentPlan, SegmentOfEight, Laid, accepted, no-plan, over-eight}
-use Rattle.plan.specs.Guess.{onlyPlan, fitting, every, fitsAt, planned, eightAt, withinEight, noPlan, isOver, unplanned, overEight, layoutOf}
+use Rattle.plan.specs.Guess.{onlyPlan, fitting, every, fitsAt, planned, eightAt, withinEight, noPlan, isOver, unplanned, overEight, answer7, answer8, layoutOf}
 use Rattle.plan.proofs.Tests.{Tested, decided, decides, ltb-decides, every-all, every-of}
 use Rattle.plan.proofs.Fitting.{fits-tested}
 use Rattle.plan.proofs.Only.{Ends, signalled, all-fit, only-signals}
@@ -120,7 +120,7 @@ whole-eight row f = (onlyPlan (at row), w, λ p l u. here p (f (p / 4) (omega ar
 
 -- ---- the answer is 01's
 pub layout-laid : (row : List ℕ) → Laid row (layoutOf row)
-unfolding layoutOf _or_ unplanned overEight
+unfolding layoutOf answer7 answer8 _or_ unplanned overEight
 layout-laid row = go (ltb (unplanned row) n) (ltb (overEight row) n) refl refl
   where
     n : ℕ

@@ -99,8 +99,13 @@ unplanned row = least (noPlan row) (segments row)
 unfoldable pub overEight : List ℕ → ℕ
 overEight row = least (isOver row) (segments row)
 
--- the answers 7 and 8
+-- "7 | no plan, even with any number of fields | 0, lowest such segment"
+unfoldable pub answer7 : List ℕ → Out
+answer7 row = refuseIf (ltb (unplanned row) (segments row)) (no 7 0 (unplanned row))
+
+-- "8 | plan, but a resource over eight fields | 0, lowest such segment"
+unfoldable pub answer8 : List ℕ → Out
+answer8 row = refuseIf (ltb (overEight row) (segments row)) (no 8 0 (overEight row))
+
 unfoldable pub layoutOf : List ℕ → Out
-layoutOf row =
-    refuseIf (ltb (unplanned row) (segments row)) (no 7 0 (unplanned row))
-    or refuseIf (ltb (overEight row) (segments row)) (no 8 0 (overEight row))
+layoutOf row = answer7 row or answer8 row

@@ -1,6 +1,6 @@
 -- `plan::layout` meets its contract. Assumes nothing.
 use mathlib.Core.Path.{_≡_, _∙_}
-use Rattle.plan.specs.Guess.{layoutOf}
+use Rattle.plan.specs.Guess.{answer7, answer8, layoutOf}
 use Rattle.plan.proofs.Laid.{layout-laid}
 use native.Mathlib.Omega.{arith}
 use borrow.Author.Needs.{needs}
@@ -26,7 +26,7 @@ or-else-requires : tie.Need-or-else-requires
 or-else-requires c κs = search needs
 
 returns : tie.Need-returns
-unfolding layoutOf
+unfolding layoutOf answer7 answer8
 returns c =
     let row = c .before .before .before .before .before .before .before .args .row .now in
     let e : c .or-else .result ≡ layoutOf row = c .or-else .ensures ∙ cc (c .before .refuse-if2 .ensures, c .before .before .refuse-if .ensures) in

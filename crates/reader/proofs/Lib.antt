@@ -1,0 +1,4 @@
+pub mod Seen
+pub mod Rows
+pub mod Grow
+pub mod Givers

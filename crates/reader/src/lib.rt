@@ -1,0 +1,317 @@
+// The reader: any bandwidth code, any bytes and any room to one answer, and the radiotap words of an accepted frame.
+use answer::Answer;
+use answer::Out;
+ghost use mathlib.Core.Path.{_≡_};
+ghost use mathlib.Core.List.{_++_};
+ghost use Prim.Native.Nat.{ℕ, _+_, _*_, _-_, _<_, _≤_};
+ghost use lib.Dec.{eqb};
+ghost use lib.ListN.{length, getD, drop};
+ghost use Rattle.answer.specs.Answer.{_or_};
+ghost use Rattle.answer.specs.Least.{least};
+ghost use Rattle.answer.specs.Filled.{filled};
+ghost use Rattle.channel.specs.Layout.{count};
+ghost use Rattle.reader.specs.Table.{check1, check2, check3, check4, check5, check6, check9, check10, check11, check12, stationOf, seenBefore, stationPlace, firstRepeated, stationTwice, wordCount, noRoom, readable};
+ghost use Rattle.reader.specs.Words.{runWord, userWordAt, headerOf, wordsIn, wordsOf};
+ghost use Rattle.reader.specs.Result.{answerOf, wordsAfter};
+ghost use Rattle.reader.specs.Stages.{Short, commonChecks, userChecks};
+
+// ---- the checks, each run only where the earlier ones pass
+
+fn first_checks(bw: u32, a: &[u8], b: &[u8]) -> Out
+    ensures { λ r. ⌜ r ≡ (check1 bw or check2 bw (now (a .entry)) (now (b .entry))) ⌝ }
+{
+    answer::or_else(
+        answer::refuse_if(4 < bw, 1, 0, 0),
+        answer::or_else(channel::too_long(bw, 1, a), channel::too_long(bw, 2, b)),
+    )
+}
+
+fn then_cut_common(prev: Out, bw: u32, a: &[u8], b: &[u8]) -> Out
+    requires { ⌜ (prev ≡ Out.Pass → Short (now a) (now b)) ⌝ }
+    ensures { λ r. ⌜ r ≡ (prev or check3 bw (now (a .entry)) (now (b .entry))) ⌝ }
+{
+    if let Out::Refuse(_) = prev {
+        return prev;
+    }
+    answer::or_else(channel::cut_common(bw, 1, a), channel::cut_common(bw, 2, b))
+}
+
+fn then_wrong_common(prev: Out, bw: u32, a: &[u8], b: &[u8]) -> Out
+    ensures { λ r. ⌜ r ≡ (prev or check4 bw (now (a .entry)) (now (b .entry))) ⌝ }
+{
+    if let Out::Refuse(_) = prev {
+        return prev;
+    }
+    answer::or_else(
+        channel::wrong_common(bw, 1, a),
+        channel::wrong_common(bw, 2, b),
+    )
+}
+
+fn then_overflow(prev: Out, bw: u32, a: &[u8], b: &[u8]) -> Out
+    ensures { λ r. ⌜ r ≡ (prev or check5 bw (now (a .entry)) (now (b .entry))) ⌝ }
+{
+    if let Out::Refuse(_) = prev {
+        return prev;
+    }
+    channel::overflow_differs(bw, a, b)
+}
+
+fn then_not_carried(prev: Out, bw: u32, a: &[u8], b: &[u8]) -> Out
+    ensures { λ r. ⌜ r ≡ (prev or check6 bw (now (a .entry)) (now (b .entry))) ⌝ }
+{
+    if let Out::Refuse(_) = prev {
+        return prev;
+    }
+    answer::or_else(
+        channel::not_carried(bw, 1, a),
+        channel::not_carried(bw, 2, b),
+    )
+}
+
+// 1 to 6.
+fn common_checks(bw: u32, a: &[u8], b: &[u8]) -> Out
+    ensures { λ r. ⌜ r ≡ commonChecks bw (now (a .entry)) (now (b .entry)) ⌝ }
+{
+    let r = first_checks(bw, a, b);
+    let r = then_cut_common(r, bw, a, b);
+    let r = then_wrong_common(r, bw, a, b);
+    let r = then_overflow(r, bw, a, b);
+    then_not_carried(r, bw, a, b)
+}
+
+// ---- the repeat check
+
+// The first place below n where a STA-ID stands; n where there is none.
+fn index_of(seen: &[u16; 144], n: usize, id: u16) -> usize
+    requires { ⌜ n ≤ 144 ⌝ }
+    ensures { λ r. ⌜ r ≡ least (λ i. eqb (getD (now (seen .entry)) i 0) id) n ⌝ }
+{
+    let mut i = 0;
+    while i < n {
+        if seen[i] == id {
+            return i;
+        }
+        i += 1;
+    }
+    i
+}
+
+fn seen_before(seen: &[u16; 144], j: usize, id: u16) -> bool
+    requires { ⌜ j ≤ 144 ⌝ }
+    ensures { λ r. ⌜ r ≡ seenBefore (λ i. getD (now (seen .entry)) i 0) j id ⌝ }
+{
+    (0 < id) & (id <= 2006) & (index_of(seen, j, id) < j)
+}
+
+// The STA-ID of User field j over both channels, n of which are channel 1's.
+fn station_at(bw: u32, a: &[u8], b: &[u8], n: usize, j: usize) -> u16
+    requires { ⌜ (n ≤ 72) × (j < n + 72) ⌝ }
+    ensures { λ r. ⌜ r ≡ stationOf bw (now (a .entry)) (now (b .entry)) n j ⌝ }
+{
+    if j < n {
+        bits::field_at(a, channel::user_bit(bw, j), 11) as u16
+    } else {
+        bits::field_at(b, channel::user_bit(bw, j - n), 11) as u16
+    }
+}
+
+// The first field whose STA-ID was seen before, of n in channel 1 and m in channel 2.
+fn first_repeated(bw: u32, a: &[u8], b: &[u8], n: usize, m: usize) -> usize
+    requires { ⌜ (n ≤ 72) × (m ≤ 72) ⌝ }
+    ensures { λ r. ⌜ r ≡ firstRepeated bw (now (a .entry)) (now (b .entry)) n m ⌝ }
+    ensures { λ r. ⌜ r ≤ n + m ⌝ }
+{
+    let mut seen = [0u16; 144];
+    let mut j = 0;
+    while j < n + m {
+        let id = station_at(bw, a, b, n, j);
+        if seen_before(&seen, j, id) {
+            return j;
+        }
+        seen[j] = id;
+        j += 1;
+    }
+    j
+}
+
+fn station_place(bw: u32, n: usize, j: usize) -> Answer
+    requires { ⌜ (n ≤ 72) × (j ≤ n + 72) ⌝ }
+    ensures { λ r. ⌜ r ≡ stationPlace bw n j ⌝ }
+{
+    if j < n {
+        Answer {
+            number: 11,
+            channel: 1,
+            place: channel::user_bit(bw, j),
+        }
+    } else {
+        Answer {
+            number: 11,
+            channel: 2,
+            place: channel::user_bit(bw, j - n),
+        }
+    }
+}
+
+fn station_twice(bw: u32, a: &[u8], b: &[u8], n: usize, m: usize) -> Out
+    requires { ⌜ (n ≤ 72) × (m ≤ 72) ⌝ }
+    ensures { λ r. ⌜ r ≡ stationTwice bw (now (a .entry)) (now (b .entry)) n m ⌝ }
+{
+    let j = first_repeated(bw, a, b, n, m);
+    let x = station_place(bw, n, j);
+    answer::refuse_if(j < n + m, x.number, x.channel, x.place)
+}
+
+// ---- 9 to 11, of n fields in channel 1 and m in channel 2
+
+fn then_wrong_users(prev: Out, bw: u32, a: &[u8], b: &[u8], n: usize, m: usize) -> Out
+    requires { ⌜ (n ≤ 72) × (m ≤ 72) × (n ≡ count bw 1 (now a)) × (m ≡ count bw 2 (now b)) ⌝ }
+    ensures { λ r. ⌜ r ≡ (prev or check10 bw (now (a .entry)) (now (b .entry))) ⌝ }
+{
+    if let Out::Refuse(_) = prev {
+        return prev;
+    }
+    answer::or_else(
+        channel::wrong_users(bw, 1, a, n),
+        channel::wrong_users(bw, 2, b, m),
+    )
+}
+
+fn then_twice(prev: Out, bw: u32, a: &[u8], b: &[u8], n: usize, m: usize) -> Out
+    requires { ⌜ (n ≤ 72) × (m ≤ 72) × (n ≡ count bw 1 (now a)) × (m ≡ count bw 2 (now b)) ⌝ }
+    ensures { λ r. ⌜ r ≡ (prev or check11 bw (now (a .entry)) (now (b .entry))) ⌝ }
+{
+    if let Out::Refuse(_) = prev {
+        return prev;
+    }
+    station_twice(bw, a, b, n, m)
+}
+
+fn then_users(prev: Out, bw: u32, a: &[u8], b: &[u8]) -> Out
+    requires { ⌜ Short (now a) (now b) ⌝ }
+    ensures { λ r. ⌜ r ≡ (prev or userChecks bw (now (a .entry)) (now (b .entry))) ⌝ }
+{
+    if let Out::Refuse(_) = prev {
+        return prev;
+    }
+    let n = channel::count_of(bw, 1, a);
+    let m = channel::count_of(bw, 2, b);
+    let r = answer::or_else(
+        channel::cut_users(bw, 1, a, n),
+        channel::cut_users(bw, 2, b, m),
+    );
+    let r = then_wrong_users(r, bw, a, b, n, m);
+    then_twice(r, bw, a, b, n, m)
+}
+
+// 1 to 11: what a frame is refused for, whatever the room.
+pub fn check_frame(bw: u32, a: &[u8], b: &[u8]) -> Out
+    ensures { λ r. ⌜ r ≡ readable bw (now (a .entry)) (now (b .entry)) ⌝ }
+{
+    let common = common_checks(bw, a, b);
+    if let Out::Refuse(_) = common {
+        return common;
+    }
+    let row = channel::fill_row(bw, a, b);
+    let n = channel::positions_of(bw);
+    then_users(plan::layout(&row[..n]), bw, a, b)
+}
+
+// How many words an accepted frame has.
+pub fn word_count(bw: u32, a: &[u8], b: &[u8]) -> usize
+    ensures { λ r. ⌜ (r ≤ 154) × (r ≡ wordCount bw (now (a .entry)) (now (b .entry))) ⌝ }
+{
+    10 + (channel::count_of(bw, 1, a) + channel::count_of(bw, 2, b))
+}
+
+// ---- the words
+
+// The words of m User fields of one format, from field j on.
+fn put_run(out: &mut [u32], bw: u32, s: &[u8], j: usize, m: usize, shared: bool)
+    requires { ⌜ (m ≤ length (now out)) × (j + m ≤ 72) ⌝ }
+    ensures { λ _. ⌜ now (out .exit) ≡ filled (runWord bw (now (s .entry)) j shared) m (now (out .entry)) ⌝ }
+{
+    let mut i = 0;
+    while i < m {
+        let f = bits::field_at(s, channel::user_bit(bw, j + i), 22);
+        out[i] = words::user_word(shared, f);
+        i += 1;
+    }
+}
+
+// The words of a channel's User fields.
+fn put_users(out: &mut [u32], bw: u32, c: u32, s: &[u8], row: &[u16])
+    requires { ⌜ (1 ≤ c) × (c ≤ 2) × (count bw c (now s) ≤ length (now out)) ⌝ }
+    ensures { λ _. ⌜ now (out .exit) ≡ filled (userWordAt bw (now (row .entry)) c (now (s .entry))) (count bw c (now (s .entry))) (now (out .entry)) ⌝ }
+{
+    let n = channel::subfields_of(bw, c);
+    let mut j = 0;
+    let mut k = 0;
+    while k < n {
+        let m = resource::fields_of(channel::value_of(bw, s, k)) as usize;
+        let p = 2 * k + (c as usize - 1);
+        put_run(&mut out[j..], bw, s, j, m, plan::shared_at(row, p));
+        j += m;
+        k += 1;
+    }
+}
+
+// Known and the data words of a frame whose row is given.
+fn put_head(words: &mut [u32], bw: u32, a: &[u8], row: &[u16])
+    requires { ⌜ 10 ≤ length (now words) ⌝ }
+    ensures { λ _. ⌜ now (words .exit) ≡ headerOf bw (now (row .entry)) (now (a .entry)) ++ drop 10 (now (words .entry)) ⌝ }
+{
+    let first = channel::first_bits(bw);
+    let second = first + 10 + channel::second_bits(bw);
+    let v = bits::field_at(a, 0, 17);
+    let t = bits::field_at(a, first, 10);
+    words::put_header(words, bw, v, t, bits::field_at(a, second, 10), row);
+}
+
+// All its words.
+fn put_frame(words: &mut [u32], bw: u32, a: &[u8], b: &[u8], row: &[u16])
+    requires { ⌜ wordCount bw (now a) (now b) ≤ length (now words) ⌝ }
+    ensures { λ _. ⌜ now (words .exit) ≡ wordsIn bw (now (row .entry)) (now (a .entry)) (now (b .entry)) ++ drop (wordCount bw (now (a .entry)) (now (b .entry))) (now (words .entry)) ⌝ }
+{
+    put_head(words, bw, a, row);
+    let at = 10 + channel::count_of(bw, 1, a);
+    put_users(&mut words[10..], bw, 1, a, row);
+    put_users(&mut words[at..], bw, 2, b, row);
+}
+
+// The words of an accepted frame at the front of the lent ones.
+fn put_words(words: &mut [u32], bw: u32, a: &[u8], b: &[u8])
+    requires { ⌜ (bw ≤ 4) × (wordCount bw (now a) (now b) ≤ length (now words)) ⌝ }
+    ensures { λ _. ⌜ now (words .exit) ≡ wordsOf bw (now (a .entry)) (now (b .entry)) ++ drop (wordCount bw (now (a .entry)) (now (b .entry))) (now (words .entry)) ⌝ }
+{
+    let row = channel::fill_row(bw, a, b);
+    let n = channel::positions_of(bw);
+    put_frame(words, bw, a, b, &row[..n]);
+}
+
+// ---- the whole
+
+fn then_room(prev: Out, need: usize, room: usize) -> Out
+    ensures { λ r. ⌜ r ≡ (prev or noRoom need room) ⌝ }
+{
+    answer::or_else(prev, answer::refuse_if(room < need, 12, 0, need))
+}
+
+// Reads a frame: the answer, and on acceptance the words at the front of the lent buffer. A refusal writes nothing.
+pub fn read(bandwidth: u32, cc1: &[u8], cc2: &[u8], words: &mut [u32]) -> Answer
+    ensures { λ r. ⌜ r ≡ answerOf bandwidth (now (cc1 .entry)) (now (cc2 .entry)) (length (now (words .entry))) ⌝ }
+    ensures { λ _. ⌜ now (words .exit) ≡ wordsAfter bandwidth (now (cc1 .entry)) (now (cc2 .entry)) (now (words .entry)) ⌝ }
+{
+    let need = word_count(bandwidth, cc1, cc2);
+    let out = then_room(check_frame(bandwidth, cc1, cc2), need, words.len());
+    if let Out::Refuse(x) = out {
+        return x;
+    }
+    put_words(words, bandwidth, cc1, cc2);
+    Answer {
+        number: 0,
+        channel: 0,
+        place: need,
+    }
+}
