@@ -1,5 +1,9 @@
 // The lines of a listing, into a lent buffer.
-use resource::{Pairing, Resource, Run, Size, Tones};
+use resource::Pairing;
+use resource::Resource;
+use resource::Run;
+use resource::Size;
+use resource::Tones;
 ghost use mathlib.Core.Path.{_≡_};
 ghost use mathlib.Core.List.{_++_};
 ghost use Prim.Native.Nat.{_+_, _*_, _≤_, _<_};

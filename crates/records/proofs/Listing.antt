@@ -19,6 +19,7 @@ use Rattle.plan.proofs.Only.{Chosen, left, joined, full, half, alone, chosen}
 use Rattle.resource.specs.declared.Piece.{Piece}
 use Rattle.resource.specs.Values.{pieces, fieldsOf, ownPieces}
 use Rattle.resource.specs.Starts.{noPiece, pieceAt}
+use Rattle.resource.proofs.Test.{below-or}
 use Rattle.resource.proofs.Starts.{own-most}
 use Rattle.records.specs.declared.Record.{Record}
 use Rattle.records.specs.Records.{pieceRecord, lead, largerRecord, once, listAt, recordsFrom, blank, recordAt, listed, leftOut}
@@ -108,3 +109,67 @@ left-out row p =
     go Whole (full c d) = omega arith
     go Pair (half c d e) = omega arith
     go Itself (alone c d e) = omega arith
+
+-- ---- every number is that of a resource that is listed at some position
+pub record Located (o : ℕ → Owner) (row : ℕ → ℕ) (n i p m : ℕ) : Type 0 where
+  pub inside : p < n
+  pub place : m < length (listAt (o p) row p)
+  pub numbered : i ≡ length (recordsFrom o row p) + m
+
+abbrev pub Somewhere : (ℕ → Owner) → (ℕ → ℕ) → ℕ → ℕ → Type 0
+Somewhere o row n i = (p : ℕ) × (m : ℕ) × Located o row n i p m
+
+module _ (o : ℕ → Owner) (row : ℕ → ℕ) where
+  before-that : (n i : ℕ) → Somewhere o row n i → Somewhere o row (suc n) i
+  before-that n i w = (w .0, w .1, record { inside = omega (arith, w .2 .inside); place = w .2 .place; numbered = w .2 .numbered })
+
+  just-there : (n i : ℕ) → length (recordsFrom o row n) ≤ i → i < length (recordsFrom o row (suc n)) → Somewhere o row (suc n) i
+  just-there n i l h = (
+    n,
+    i - length (recordsFrom o row n),
+    record {
+      inside = omega arith;
+      place = omega (arith, length-append (recordsFrom o row n) (listAt (o n) row n));
+      numbered = omega arith;
+    },
+  )
+
+  pub located : (n i : ℕ) → i < length (recordsFrom o row n) → Somewhere o row n i
+  located zero i h = absurd (omega arith)
+  located (suc n) i h =
+      ⊎-elim (λ l. before-that n i (located n i l)) (λ l. just-there n i l h) (below-or i (length (recordsFrom o row n)))
+
+  -- its resource
+  pub located-record : (n i p m : ℕ) → Located o row n i p m → getD (recordsFrom o row n) i blank ≡ recordAt (o p) row p m
+  located-record n i p m w =
+      ap (λ (k : ℕ). getD (recordsFrom o row n) k blank) (w .numbered) ∙ nth-record o row p n m (w .inside) (w .place) ∙ list-at (o p) row p m (w .place)
+
+  -- one number, one place
+  pub located-once : (n i p m q l : ℕ) → Located o row n i p m → Located o row n i q l → (p ≡ q) × (m ≡ l)
+  located-once n i p m q l a b = ⊎-elim (λ h. absurd (apart p m q l h a b)) (λ h. ⊎-elim (λ e. same (sym e)) (λ g. absurd (apart q l p m g b a)) (eq-or-lt-of-le h)) (below-or p q)
+    where
+      apart : (p m q l : ℕ) → p < q → Located o row n i p m → Located o row n i q l → ⊥
+      apart p m q l h a b = omega (arith, records-rise o row p q h, a .place, a .numbered, b .numbered)
+
+      same : p ≡ q → (p ≡ q) × (m ≡ l)
+      same e = (e, let f : length (recordsFrom o row p) ≡ length (recordsFrom o row q) = rw e in omega (arith, a .numbered, b .numbered))
+
+-- a larger resource is listed once, at its lowest place
+pub once-lead : (x : Owner) (row : ℕ → ℕ) (p m : ℕ) → m < length (listAt x row p) → p % span x ≡ lead x
+unfolding listAt
+once-lead Itself row p m h = omega arith
+once-lead Pair row p m h = go (eqb (p % 2) 0) refl h
+  where
+    go : (t : Bool) → eqb (p % 2) 0 ≡ t → m < length (cond t (largerRecord Pair row p ∷ []) []) → p % 2 ≡ 0
+    go true e l = eqb-true (p % 2) 0 e
+    go false e l = absurd (omega arith)
+once-lead Whole row p m h = go (eqb (p % 4) 0) refl h
+  where
+    go : (t : Bool) → eqb (p % 4) 0 ≡ t → m < length (cond t (largerRecord Whole row p ∷ []) []) → p % 4 ≡ 0
+    go true e l = eqb-true (p % 4) 0 e
+    go false e l = absurd (omega arith)
+once-lead (Three k) row p m h = go (eqb (p % 4) (lead (Three k))) refl h
+  where
+    go : (t : Bool) → eqb (p % 4) (lead (Three k)) ≡ t → m < length (cond t (largerRecord (Three k) row p ∷ []) []) → p % 4 ≡ lead (Three k)
+    go true e l = eqb-true (p % 4) (lead (Three k)) e
+    go false e l = absurd (omega arith)

@@ -1,7 +1,7 @@
 -- Each User field below a channel's count has exactly one owner, the one that the program finds. Assumes nothing.
 use mathlib.Core.Path.{_≡_, refl, sym, _∙_, ap, subst}
 use mathlib.Core.Logic.{_⊎_, inl, inr, ⊎-elim, _≢_}
-use mathlib.Core.Bool.{Bool, true, false, cond, not}
+use mathlib.Core.Bool.{Bool, true, false, cond, not, false≢true}
 use mathlib.Core.List.{List, [], _∷_, _++_}
 use Prim.Native.Nat.{ℕ, zero, suc, _+_, _-_, _*_, _/_, _%_, _≤_, _<_}
 use native.Mathlib.Omega.{arith}
@@ -16,6 +16,7 @@ use Rattle.plan.specs.Plan.{span, Takes, Place, Fits, own, blank, smaller, Sign
 use Rattle.plan.proofs.Only.{Tells, tells}
 use Rattle.resource.specs.Values.{pieces, fieldsOf, ownPieces}
 use Rattle.resource.proofs.Test.{below-or}
+use Rattle.resource.proofs.Apart.{not-divided}
 use Rattle.records.specs.Records.{inChannel, divides, lead, listAt, recordsFrom}
 use Rattle.records.specs.Owns.{fieldsBefore, ComesFrom, number, Owns, of-piece, of-place, lowest, ownerAt, ownerOf}
 
@@ -59,3 +60,138 @@ in-most c p f = go (eqb (p % 2) c)
     go : (t : Bool) → cond t f 0 ≤ f
     go true = omega arith
     go false = omega arith
+
+in-own : (c p f : ℕ) → p % 2 ≡ c → inChannel c p f ≡ f
+in-own c p f e = rw (eq-eqb (p % 2) c e)
+
+in-other : (c p f k : ℕ) → k < inChannel c p f → p % 2 ≡ c
+in-other c p f k h = go (eqb (p % 2) c) refl h
+  where
+    go : (t : Bool) → eqb (p % 2) c ≡ t → k < cond t f 0 → p % 2 ≡ c
+    go true e l = eqb-true (p % 2) c e
+    go false e l = absurd (omega arith)
+
+-- ---- every field below a channel's count comes from one position
+abbrev Comes : (ℕ → ℕ) → ℕ → ℕ → ℕ → Type 0
+Comes row n c j = (p : ℕ) × (k : ℕ) × ComesFrom row n c j p k
+
+earlier : (row : ℕ → ℕ) (n c j : ℕ) → Comes row n c j → Comes row (suc n) c j
+earlier row n c j w =
+    (w .0, w .1, record { inside = omega (arith, w .2 .inside); channel = w .2 .channel; kth = w .2 .kth; follows = w .2 .follows })
+
+latest : (row : ℕ → ℕ) (n c j : ℕ) → fieldsBefore c row n ≤ j → j < fieldsBefore c row (suc n) → Comes row (suc n) c j
+latest row n c j l h =
+    let k = j - fieldsBefore c row n in
+    let m : k < inChannel c n (fieldsOf (row n)) = omega arith in (
+      n,
+      k,
+      record {
+        inside = omega arith;
+        channel = in-other c n (fieldsOf (row n)) k m;
+        kth = omega (arith, in-most c n (fieldsOf (row n)));
+        follows = omega arith;
+      },
+    )
+
+pub comes : (row : ℕ → ℕ) (n c j : ℕ) → j < fieldsBefore c row n → Comes row n c j
+comes row zero c j h = absurd (omega arith)
+comes row (suc n) c j h =
+    ⊎-elim (λ l. earlier row n c j (comes row n c j l)) (λ l. latest row n c j l h) (below-or j (fieldsBefore c row n))
+
+-- and the program's search goes by it
+pub search-comes : (o : ℕ → Owner) (row : ℕ → ℕ) (n c j p k : ℕ) → ComesFrom row n c j p k → ownerOf o row c n j ≡ ownerAt o row p k
+search-comes o row n c j p k w =
+    found-left o row c p n j k (w .inside) (w .follows) (rw (in-own c p (fieldsOf (row p)) (w .channel)) (w .kth))
+
+-- ---- a value that divides its position
+pub divided-low : (v : ℕ) → divides v ≡ true → v < 51
+unfolding divides
+divided-low v e = ⊎-elim (λ h. h) (λ (h : 51 ≤ v). absurd (false≢true (rw (not-divided v h) at e))) (below-or v 51)
+
+pub divided-fields : (v : ℕ) → divides v ≡ true → fieldsOf v ≡ length (pieces v)
+unfolding fieldsOf
+divided-fields v e = rw (lt-ltb v 64 (omega (arith, divided-low v e)))
+
+divided-not : (v m : ℕ) → divides m ≡ false → divides v ≡ true → v ≢ m
+divided-not v m f e g = false≢true (sym f ∙ ap divides (sym g) ∙ e)
+
+some-pieces : (v k : ℕ) → k < length (pieces v) → divides v ≡ true
+unfolding divides
+some-pieces v k h = rw (ne-eqb (length (pieces v)) 0 (λ e. omega arith))
+
+no-pieces-left : (v : ℕ) → length (pieces v) ≡ 0 → divides v ≡ false
+unfolding divides
+no-pieces-left v h = rw h
+
+none-left : (v : ℕ) → divides v ≡ false → length (pieces v) ≡ 0
+unfolding divides
+none-left v h = go (eqb (length (pieces v)) 0) refl h
+  where
+    go : (t : Bool) → eqb (length (pieces v)) 0 ≡ t → not t ≡ false → length (pieces v) ≡ 0
+    go true e f = eqb-true (length (pieces v)) 0 e
+    go false e f = absurd (false≢true (sym f))
+
+-- .. is given to itself by every plan that signals it
+pub divided-itself : (x : Owner) (p v : ℕ) → divides v ≡ true → Fits x p v → x ≡ Itself
+unfolding divides pieces
+divided-itself x p v e f = go x (tells x p v f)
+  where
+    l : v < 51
+    l = divided-low v e
+
+    go : (x : Owner) → Tells x p v → x ≡ Itself
+    go Itself t = refl
+    go Pair t = absurd (⊎-elim (λ h. divided-not v 29 refl e h) (λ h. omega (arith, l)) t)
+    go Whole t = absurd (⊎-elim (λ h. divided-not v 30 refl e h) (λ h. omega (arith, l)) t)
+    go (Three k) t = absurd (⊎-elim (λ h. omega (arith, l)) (⊎-elim (λ h. divided-not v 28 refl e h) (λ h. divided-not v 29 refl e h)) (t .2))
+
+-- ---- the lowest place of a resource
+pub lowest-place : (x : Owner) (p v : ℕ) → Fits x p v → Place x p (lowest x p) × (lowest x p % span x ≡ lead x)
+unfolding lowest
+lowest-place Itself p v f = ((omega arith, tt), omega arith)
+lowest-place Pair p v f = ((omega arith, tt), omega arith)
+lowest-place Whole p v f = ((omega arith, tt), omega arith)
+lowest-place (Three k) p v f = go k (tells (Three k) p v f .0)
+  where
+    go : (k : ℕ) → k < 4 → Place (Three k) p (4 * (p / 4) + lead (Three k)) × ((4 * (p / 4) + lead (Three k)) % 4 ≡ lead (Three k))
+    go zero h = ((omega arith, (h, λ e. omega arith)), omega arith)
+    go (suc k) h =
+        let z : lead (Three (suc k)) ≡ 0 = rw (ne-eqb (suc k) 0 (λ e. omega arith)) in
+        ((omega arith, (h, λ e. omega arith)), omega arith)
+
+pub lowest-only : (x : Owner) (p q : ℕ) → Place x p q → q % span x ≡ lead x → q ≡ lowest x p
+unfolding lowest
+lowest-only Itself p q h e = omega (arith, h .0)
+lowest-only Pair p q h e = omega (arith, h .0)
+lowest-only Whole p q h e = omega (arith, h .0)
+lowest-only (Three k) p q h e = omega (arith, h .0)
+
+-- ---- exactly one resource owns a field, the one that the program finds
+module _ (o : ℕ → Owner) (row : ℕ → ℕ) (n : ℕ) where
+  pub owner-only : (i c j : ℕ) → Owns o row n i c j → i ≡ ownerOf o row c n j
+  unfolding ownerAt
+  owner-only i c j (of-piece p k w e l f) =
+      f ∙ sym (search-comes o row n c j p k w ∙ rw (some-pieces (row p) k l))
+  owner-only i c j (of-place p k q w e h g f) =
+      f ∙ ap (λ (m : ℕ). number o row m 0) (lowest-only (o p) p q h g) ∙ sym (search-comes o row n c j p k w ∙ rw (no-pieces-left (row p) e))
+
+  pub one-owner : (i i′ c j : ℕ) → Owns o row n i c j → Owns o row n i′ c j → i ≡ i′
+  one-owner i i′ c j a b = owner-only i c j a ∙ sym (owner-only i′ c j b)
+
+  pub owner-owns : Signals o row 0 n → (c j : ℕ) → j < fieldsBefore c row n → Owns o row n (ownerOf o row c n j) c j
+  unfolding ownerAt
+  owner-owns s c j h = go (comes row n c j h)
+    where
+      go : Comes row n c j → Owns o row n (ownerOf o row c n j) c j
+      go (p, k, w) = by (divides (row p)) refl
+        where
+          fit : Fits (o p) p (row p)
+          fit = s .fits p (omega arith) (w .inside)
+
+          by : (t : Bool) → divides (row p) ≡ t → Owns o row n (ownerOf o row c n j) c j
+          by true e =
+              of-piece p k w (divided-itself (o p) p (row p) e fit) (rw (divided-fields (row p) e) at (w .kth))
+              (search-comes o row n c j p k w ∙ rw e)
+          by false e =
+              let l = lowest-place (o p) p (row p) fit in
+              of-place p k (lowest (o p) p) w (none-left (row p) e) (l .0) (l .1) (search-comes o row n c j p k w ∙ rw e)

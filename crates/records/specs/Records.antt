@@ -15,6 +15,7 @@ use Rattle.resource.specs.declared.Resource.{Resource}
 use Rattle.resource.specs.declared.Resource.the-variants.{Single}
 use Rattle.resource.specs.Values.{pieces, fieldsOf, ownPieces}
 use Rattle.resource.specs.Index.{resourceAt, leavingOut}
+use Rattle.resource.specs.Runs.{In, runsOf}
 use Rattle.resource.specs.Starts.{pieceAt}
 use Rattle.records.specs.declared.Record.{Record}
 use Rattle.records.specs.declared.Plan.{Plan}
@@ -85,6 +86,14 @@ recordsFrom o row (suc n) = recordsFrom o row n ++ listAt (o n) row n
 
 abbrev pub recordsOf : (ℕ → Owner) → List ℕ → List Record
 recordsOf o row = recordsFrom o (at row) (length row)
+
+-- u, counted from the lower edge of a channel of n positions, is one of the resource's subcarriers
+abbrev pub HasTone : ℕ → Record → ℕ → Type 0
+HasTone n r u = In u (runsOf n (r .segment) (r .resource))
+
+-- "A punctured position takes its 242's subcarriers"
+abbrev pub Punctured : ℕ → ℕ → ℕ → Type 0
+Punctured n q u = In u (runsOf n (q / 4) (resourceAt (q % 4) (Part S242 1)))
 
 -- ---- as the program holds them
 abbrev pub blank : Record
