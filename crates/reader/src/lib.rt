@@ -281,7 +281,7 @@ fn put_frame(words: &mut [u32], bw: u32, a: &[u8], b: &[u8], row: &[u16])
 }
 
 // The words of an accepted frame at the front of the lent ones.
-fn put_words(words: &mut [u32], bw: u32, a: &[u8], b: &[u8])
+pub fn put_words(words: &mut [u32], bw: u32, a: &[u8], b: &[u8])
     requires { ⌜ (bw ≤ 4) × (wordCount bw (now a) (now b) ≤ length (now words)) ⌝ }
     ensures { λ _. ⌜ now (words .exit) ≡ wordsOf bw (now (a .entry)) (now (b .entry)) ++ drop (wordCount bw (now (a .entry)) (now (b .entry))) (now (words .entry)) ⌝ }
 {
