@@ -2,3 +2,5 @@ pub mod Seen
 pub mod Rows
 pub mod Grow
 pub mod Givers
+pub mod Agree
+pub mod Exactly

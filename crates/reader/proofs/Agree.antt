@@ -1,0 +1,37 @@
+-- What the contracts of the reader's public functions leave open: nothing. Assumes nothing.
+use mathlib.Core.Path.{_≡_, sym, _∙_, ap}
+use Prim.Native.Nat.{ℕ}
+use lib.ListN.{length, drop}
+use mathlib.Core.List.{_++_}
+use denote.Ref.{now}
+use Rattle.answer.specs.declared.Answer.{Answer}
+use Rattle.answer.specs.Order.{after-kept}
+use Rattle.reader.specs.Table.{reading, wordCount}
+use Rattle.reader.specs.Words.{wordsOf}
+use Rattle.reader.specs.Result.{answerOf, wordsAfter}
+use Rattle.reader.proofs.check_frame.Reads as check-frame
+use Rattle.reader.proofs.word_count.Reads as word-count
+use Rattle.reader.proofs.read.Reads as read
+
+pub check-frame-agrees : (κs : _) (a : _) (r r' : _) (s s' : _) → check-frame.Post κs a r s → check-frame.Post κs a r' s' → r ≡ r'
+check-frame-agrees κs a r r' s s' p q = p ∙ sym q
+
+pub word-count-agrees : (κs : _) (a : _) (r r' : _) (s s' : _) → word-count.Post κs a r s → word-count.Post κs a r' s' → r ≡ r'
+word-count-agrees κs a r r' s s' p q = p .1 ∙ sym (q .1)
+
+-- any two answers, and any two states of the lent words afterwards, that `read` allows for one input
+pub read-agrees : (κs : _) (a : _) (r r' : _) (s s' : _) → read.Post κs a r s → read.Post κs a r' s'
+    → (r ≡ r') × (now (s .1 .1 .1 .0) ≡ now (s' .1 .1 .1 .0))
+read-agrees κs a r r' s s' p q = (p .0 ∙ sym (q .0), p .1 ∙ sym (q .1))
+
+-- "Every refusal writes nothing": with any number but 0 the lent words are as they were
+pub read-keeps : (κs : _) (a : _) (r : _) (s : _) → read.Post κs a r s → (r .number ≡ 0 → ⊥) → now (s .1 .1 .1 .0) ≡ now (a .1 .1 .1 .0)
+unfolding answerOf wordsAfter
+read-keeps κs a r s p n =
+    let bw = a .0 in
+    let x = now (a .1 .0) in
+    let y = now (a .1 .1 .0) in
+    let w = now (a .1 .1 .1 .0) in
+    p .1
+    ∙ after-kept (reading bw x y (length w)) (wordCount bw x y) (wordsOf bw x y ++ drop (wordCount bw x y) w) w
+    (λ e. n (ap (λ (z : Answer). z .number) (p .0) ∙ e))
