@@ -1,0 +1,75 @@
+-- The third demand. Assumes nothing.
+--
+-- "Take any bandwidth and any row of carried RU Allocation values of the number it needs. If any plan, as 01 defines one, signals that row
+-- with at most eight User fields on each resource, the row is accepted and only that plan does. Otherwise it is refused, for its layout. In the
+-- plan no two resources share a subcarrier, none has one in a punctured 20 MHz, and each User field in either channel has exactly one
+-- resource."
+--
+-- A plan is `plan`'s `Signals`; its resources are `records`' `recordsOf`; what `plan::layout` answers is what its contract says, `Laid`.
+use mathlib.Core.Path.{_≡_, refl, sym, _∙_, ap, subst}
+use mathlib.Core.Logic.{_≢_, _⊎_, inl, inr, ⊎-elim}
+use mathlib.Core.List.{List}
+use Prim.Native.Nat.{ℕ, _+_, _*_, _^_, _≤_, _<_}
+use native.Mathlib.Omega.{arith}
+use lib.ListN.{length, getD}
+use Rattle.answer.specs.Answer.{no}
+use Rattle.answer.specs.declared.Out.{Out}
+use Rattle.answer.specs.declared.Out.the-variants.{Pass, Refuse}
+use Rattle.plan.specs.declared.Owner.{Owner}
+use Rattle.plan.specs.Plan.{at, Signals}
+use Rattle.plan.specs.Layout.{PlanOfEight, Laid, accepted}
+use Rattle.plan.proofs.Laid.{laid-same}
+use Rattle.plan.proofs.Demand.{accepted-plan, one-plan, refused-layout}
+use Rattle.records.specs.Records.{recordsFrom, recordsOf, HasTone, Punctured, blank}
+use Rattle.records.specs.Owns.{Owns, fieldsBefore, ownerOf}
+use Rattle.records.proofs.Listing.{same-records}
+use Rattle.records.proofs.Owners.{one-owner, owner-owns}
+use Rattle.records.proofs.Subcarriers.{no-shared, none-punctured}
+
+-- the resources of the plan o at the first n positions, and u a subcarrier of resource i, counted from the lower edge of the channel
+abbrev pub Tone : (ℕ → Owner) → (ℕ → ℕ) → ℕ → ℕ → ℕ → Type 0
+Tone o row n i u = HasTone n (getD (recordsFrom o row n) i blank) u
+
+-- "no two resources share a subcarrier"
+abbrev pub Apart : (ℕ → Owner) → (ℕ → ℕ) → ℕ → Type 0
+Apart o row n =
+    (i j u : ℕ) → i < length (recordsFrom o row n) → j < length (recordsFrom o row n) → i ≢ j → Tone o row n i u → Tone o row n j u → ⊥
+
+-- "none has one in a punctured 20 MHz"
+abbrev pub NotPunctured : (ℕ → Owner) → (ℕ → ℕ) → ℕ → Type 0
+NotPunctured o row n =
+    (i q u : ℕ) → i < length (recordsFrom o row n) → q < n → row q ≡ 26 → Punctured n q u → Tone o row n i u → ⊥
+
+pub record Third (row : List ℕ) : Type 0 where
+  -- "If any plan .. signals that row with at most eight User fields on each resource, the row is accepted"
+  pub is-accepted : (x : Out) → Laid row x → PlanOfEight row 0 (length row) → x ≡ Pass
+  pub has-plan : (x : Out) → Laid row x → x ≡ Pass → PlanOfEight row 0 (length row)
+  -- "and only that plan does": at every position of the row, and so in its resources
+  pub only-that : (o o′ : ℕ → Owner) → Signals o (at row) 0 (length row) → Signals o′ (at row) 0 (length row)
+      → ((p : ℕ) → p < length row → o p ≡ o′ p) × (recordsOf o row ≡ recordsOf o′ row)
+  -- "Otherwise it is refused, for its layout"
+  pub refused-otherwise : (x : Out) → Laid row x → (PlanOfEight row 0 (length row) → ⊥)
+      → (s : ℕ) × ((x ≡ Refuse (no 7 0 s)) ⊎ (x ≡ Refuse (no 8 0 s)))
+  -- "In the plan no two resources share a subcarrier"
+  pub apart : (o : ℕ → Owner) → Signals o (at row) 0 (length row) → Apart o (at row) (length row)
+  -- "none has one in a punctured 20 MHz"
+  pub not-punctured : (o : ℕ → Owner) → Signals o (at row) 0 (length row) → NotPunctured o (at row) (length row)
+  -- "each User field in either channel has exactly one resource"
+  pub one-resource : (o : ℕ → Owner) → Signals o (at row) 0 (length row) → (c j : ℕ) → j < fieldsBefore c (at row) (length row)
+      → (i : ℕ) × Owns o (at row) (length row) i c j × ((i′ : ℕ) → Owns o (at row) (length row) i′ c j → i′ ≡ i)
+
+-- for every bandwidth code b, 0 to 4, and every row of the number of values that it needs
+pub third-demand : (b : ℕ) (row : List ℕ) → b ≤ 4 → length row ≡ 2 ^ b → Third row
+third-demand b row l e = record {
+  is-accepted = λ x w p. laid-same row x Pass w (accepted p);
+  has-plan = λ x w q. accepted-plan row (subst (Laid row) q w);
+  only-that = λ o o′ s t. (one-plan row o o′ s t, same-records o o′ (at row) (length row) (one-plan row o o′ s t));
+  refused-otherwise = λ x w n. ⊎-elim (λ q. absurd (n (accepted-plan row (subst (Laid row) q w)))) (λ r. r) (refused-layout row x w);
+  apart = λ o. subst (λ (n : ℕ). Signals o (at row) 0 n → Apart o (at row) n) (sym e) (λ t. no-shared o (at row) b (omega arith) t);
+  not-punctured = λ o. subst (λ (n : ℕ). Signals o (at row) 0 n → NotPunctured o (at row) n) (sym e) (λ t. none-punctured o (at row) b (omega arith) t);
+  one-resource = λ o s c j h. (
+    ownerOf o (at row) c (length row) j,
+    owner-owns o (at row) (length row) s c j h,
+    λ i′ w. one-owner o (at row) (length row) i′ (ownerOf o (at row) c (length row) j) c j w (owner-owns o (at row) (length row) s c j h),
+  );
+}
