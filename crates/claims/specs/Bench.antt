@@ -13,9 +13,8 @@ use Rattle.answer.specs.declared.Out.{Out}
 use Rattle.answer.specs.declared.Out.the-variants.{Pass, Refuse}
 use Rattle.bits.specs.Bits.{bit, field}
 use Rattle.check4.specs.Check.{check, step, register, sent}
-use Rattle.check4.specs.Checks.{vector-18}
 use Rattle.resource.specs.Names.{nameOf, numberOf}
-use Rattle.resource.specs.Values.{pieces, fieldsOf, ownPieces}
+use Rattle.resource.specs.Values.{carried, pieces, fieldsOf, ownPieces}
 use Rattle.resource.specs.Index.{indexOf, resourceAt}
 use Rattle.plan.specs.declared.Owner.{Owner}
 use Rattle.plan.specs.Plan.{at, Signals}
@@ -116,38 +115,58 @@ zero row rs e f = (
   λ o w. ap (map shown) (same-records o (onlyPlan (at row)) (at row) (length row) (λ p u. only-plan row o w p u)) ∙ f,
 )
 
--- ---- the claim
-pub bench-holds : All bench
-unfolding layoutOf answer7 answer8 unplanned overEight least planned withinEight fitting onlyPlan choose like996 like484 threeOf orElse gives share fieldsIn _or_ listAt pieceFields divides larger pieces fieldsOf ownPieces indexOf resourceAt
-bench-holds = (
-  zero _ _ refl refl,
+-- ---- each check is worked out
+abbrev Computed : Check → Type 0
+Computed (gets-7 row) = layoutOf row ≡ Refuse (no 7 0 0)
+Computed (gets-8 row) = layoutOf row ≡ Refuse (no 8 0 0)
+Computed (gets-0 row rs) = (layoutOf row ≡ Pass) × (map shown (recordsOf (onlyPlan (at row)) row) ≡ rs)
+Computed (has-check s n v) = check s 0 n ≡ v
+
+abbrev AllComputed : List Check → Type 0
+AllComputed [] = Unit {0}
+AllComputed (c ∷ cs) = Computed c × AllComputed cs
+
+holds : (c : Check) → Computed c → Holds c
+holds (gets-7 row) e = seven row 0 e
+holds (gets-8 row) e = eight row 0 e
+holds (gets-0 row rs) e = zero row rs (e .0) (e .1)
+holds (has-check s n v) e = e
+
+all-hold : (cs : List Check) → AllComputed cs → All cs
+all-hold [] e = tt
+all-hold (c ∷ cs) e = (holds c (e .0), all-hold cs (e .1))
+
+computed : AllComputed bench
+unfolding layoutOf answer7 answer8 unplanned overEight least planned withinEight fitting onlyPlan choose like996 like484 threeOf orElse gives share fieldsIn _or_ listAt pieceFields divides larger pieces fieldsOf ownPieces indexOf resourceAt carried bit step register sent check
+computed = (
+  (refl, refl),
   (
-    seven _ 0 refl,
+    refl,
     (
-      zero _ _ refl refl,
+      (refl, refl),
       (
-        seven _ 0 refl,
+        refl,
         (
-          zero _ _ refl refl,
+          (refl, refl),
           (
-            eight _ 0 refl,
+            refl,
             (
-              zero _ _ refl refl,
+              (refl, refl),
               (
-                seven _ 0 refl,
+                refl,
                 (
-                  zero _ _ refl refl,
+                  (refl, refl),
                   (
-                    seven _ 0 refl,
+                    refl,
                     (
-                      zero _ _ refl refl,
+                      (refl, refl),
                       (
-                        seven _ 0 refl,
+                        refl,
                         (
-                          seven _ 0 refl,
+                          refl,
                           (
-                            vector-18,
-                            (zero _ _ refl refl, tt),
+                            refl,
+                            ((refl, refl), tt),
                           ),
                         ),
                       ),
@@ -162,3 +181,7 @@ bench-holds = (
     ),
   ),
 )
+
+-- ---- the claim
+pub bench-holds : All bench
+bench-holds = all-hold bench computed
