@@ -2,3 +2,5 @@ pub mod Listing
 pub mod Filling
 pub mod Owners
 pub mod Subcarriers
+pub mod Sums
+pub mod Shares

@@ -61,7 +61,7 @@ in-most c p f = go (eqb (p % 2) c)
     go true = omega arith
     go false = omega arith
 
-in-own : (c p f : ℕ) → p % 2 ≡ c → inChannel c p f ≡ f
+pub in-own : (c p f : ℕ) → p % 2 ≡ c → inChannel c p f ≡ f
 in-own c p f e = rw (eq-eqb (p % 2) c e)
 
 in-other : (c p f k : ℕ) → k < inChannel c p f → p % 2 ≡ c
@@ -112,18 +112,18 @@ pub divided-fields : (v : ℕ) → divides v ≡ true → fieldsOf v ≡ length 
 unfolding fieldsOf
 divided-fields v e = rw (lt-ltb v 64 (omega (arith, divided-low v e)))
 
-divided-not : (v m : ℕ) → divides m ≡ false → divides v ≡ true → v ≢ m
+pub divided-not : (v m : ℕ) → divides m ≡ false → divides v ≡ true → v ≢ m
 divided-not v m f e g = false≢true (sym f ∙ ap divides (sym g) ∙ e)
 
-some-pieces : (v k : ℕ) → k < length (pieces v) → divides v ≡ true
+pub some-pieces : (v k : ℕ) → k < length (pieces v) → divides v ≡ true
 unfolding divides
 some-pieces v k h = rw (ne-eqb (length (pieces v)) 0 (λ e. omega arith))
 
-no-pieces-left : (v : ℕ) → length (pieces v) ≡ 0 → divides v ≡ false
+pub no-pieces-left : (v : ℕ) → length (pieces v) ≡ 0 → divides v ≡ false
 unfolding divides
 no-pieces-left v h = rw h
 
-none-left : (v : ℕ) → divides v ≡ false → length (pieces v) ≡ 0
+pub none-left : (v : ℕ) → divides v ≡ false → length (pieces v) ≡ 0
 unfolding divides
 none-left v h = go (eqb (length (pieces v)) 0) refl h
   where

@@ -1,6 +1,6 @@
 -- Whose User field is whose (01, "Values of the RU Allocation subfield" and "What a plan is"), for any plan o. Assumes nothing.
 use mathlib.Core.Path.{_≡_}
-use mathlib.Core.List.{List}
+use mathlib.Core.List.{List, [], _∷_}
 use Prim.Native.Nat.{ℕ, zero, suc, _+_, _-_, _*_, _/_, _%_, _<_}
 use mathlib.Core.Bool.{cond}
 use lib.Dec.{ltb}
@@ -9,6 +9,7 @@ use Rattle.plan.specs.declared.Owner.{Owner}
 use Rattle.plan.specs.declared.Owner.the-variants.{Itself}
 use Rattle.plan.specs.Plan.{span, Place}
 use Rattle.resource.specs.Values.{pieces, fieldsOf}
+use Rattle.records.specs.declared.Record.{Record}
 use Rattle.records.specs.Records.{inChannel, divides, lead, recordsFrom}
 
 -- how many User fields channel c, from 0, has from the first n positions: "the count is the sum over the row's values"
@@ -50,3 +51,20 @@ ownerOf o row c zero j = 144
 ownerOf o row c (suc n) j =
     cond (ltb j (fieldsBefore c row n)) (ownerOf o row c n j)
     (cond (ltb j (fieldsBefore c row (suc n))) (ownerAt o row n (j - fieldsBefore c row n)) 144)
+
+-- ---- how many
+-- exactly m of the numbers below n are such
+pub data Counts (P : ℕ → Type 0) : ℕ → ℕ → Type 0 where
+  none : Counts P 0 0
+  one-more : {n m : ℕ} → P n → Counts P n m → Counts P (suc n) (suc m)
+  no-more : {n m : ℕ} → (P n → ⊥) → Counts P n m → Counts P (suc n) m
+
+-- a resource's share of channel c, from 0
+abbrev pub shareOf : ℕ → Record → ℕ
+shareOf zero r = r .fields1
+shareOf (suc c) r = r .fields2
+
+-- the shares of channel c of all the resources
+abbrev pub allShares : ℕ → List Record → ℕ
+allShares c [] = 0
+allShares c (r ∷ rs) = shareOf c r + allShares c rs
