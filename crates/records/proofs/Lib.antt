@@ -4,3 +4,5 @@ pub mod Owners
 pub mod Subcarriers
 pub mod Sums
 pub mod Shares
+pub mod Sizes
+pub mod Demand

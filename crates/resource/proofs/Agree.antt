@@ -18,7 +18,7 @@ use Rattle.resource.specs.declared.Resource.the-variants.{Single, Joined
 use Rattle.resource.specs.declared.Run.{Run}
 use Rattle.resource.specs.Names.{nameOf}
 use Rattle.resource.specs.Index.{indexOf, resourceAt, leavingOut, isPiece, fromPositions, exists, positionOf, placeOf}
-use Rattle.resource.specs.Tones.{Span, _to_, sameℤ, tonesAt, tonesOfThree}
+use Rattle.resource.specs.Tones.{Span, _to_, sameℤ, tonesAt, tonesOfThree, tonesOf}
 use Rattle.resource.specs.Runs.{signed, spanOf, count, rising, runsOf, wide, wideWith26, three, narrow, narrowWith26, offset26, offset52, offset106, narrow26, narrow52, narrow106}
 use Rattle.resource.proofs.Test.{both-left, both-right, wherever, met}
 use Rattle.resource.proofs.Everywhere.{every-piece, at-piece, everywhere, at-position}
@@ -116,3 +116,23 @@ module _ (b g p : ℕ) (x : Piece) (h : b < 5) where
       (met (leb 4 n) (agrees-three n g p)
       (both-right (every-piece f) (wherever (leb 4 n) (agrees-three n g p)) (at-position agrees-at b g p agree h l k))
       (le→leb 4 n q))
+
+-- ---- size and index find the same subcarriers as position and place
+abbrev founds : ℕ → ℕ → ℕ → Bool
+founds n g p = every-piece (λ x. wherever (leb (fromPositions x) n) (sameSpans (tonesOf n g (resourceAt p x)) (tonesAt n g p x)))
+
+all-found : T (everywhere founds)
+unfolding indexOf resourceAt isPiece fromPositions positionOf placeOf tonesAt tonesOf
+all-found = tt
+
+pub tones-found : (b g p : ℕ) (x : Piece) → b < 5 → p < 4 → 4 * g + p < 2 ^ b → fromPositions x ≤ 2 ^ b → T (isPiece x)
+    → tonesOf (2 ^ b) g (resourceAt p x) ≡ tonesAt (2 ^ b) g p x
+tones-found b g p x h i j k t =
+    let n = 2 ^ b in
+    let f : Piece → Bool = λ y. wherever (leb (fromPositions y) n) (sameSpans (tonesOf n g (resourceAt p y)) (tonesAt n g p y)) in
+    spans-eq (tonesOf n g (resourceAt p x)) (tonesAt n g p x)
+    (met (leb (fromPositions x) n) (sameSpans (tonesOf n g (resourceAt p x)) (tonesAt n g p x)) (at-piece f x (at-position founds b g p all-found h i j) t) (le→leb (fromPositions x) n k))
+
+pub three-found : (n g k : ℕ) → tonesOf n g (leavingOut k) ≡ tonesOfThree n g k
+unfolding tonesOf
+three-found n g k = let e : k + 1 - 1 ≡ k = omega arith in rw e

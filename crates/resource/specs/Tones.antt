@@ -9,6 +9,10 @@ use Rattle.resource.specs.declared.Size.{Size}
 use Rattle.resource.specs.declared.Size.the-variants.{S26, S52, S106, S242, S484, S996}
 use Rattle.resource.specs.declared.Piece.{Piece}
 use Rattle.resource.specs.declared.Piece.the-variants.{Part, With26}
+use Rattle.resource.specs.declared.Pairing.the-variants.{P106And26, P484And242}
+use Rattle.resource.specs.declared.Resource.{Resource}
+use Rattle.resource.specs.declared.Resource.the-variants.{Single, Joined}
+use Rattle.resource.specs.Index.{positionOf, placeOf}
 
 -- the subcarriers from lo to hi
 pub record Span : Type 0 where
@@ -157,3 +161,9 @@ tonesAt n g p x = maximal (cond (eqb n 1) (narrowTones x) (wideTones n g p x))
 -- the subcarriers of the 484+242 of segment g that leaves out position k
 unfoldable pub tonesOfThree : ℕ → ℕ → ℕ → List Span
 tonesOfThree n g k = maximal (threeTones n g k)
+
+-- ---- of the resource of segment g that has this size and index
+unfoldable pub tonesOf : ℕ → ℕ → Resource → List Span
+tonesOf n g (Single s i) = tonesAt n g (positionOf s i) (Part s (placeOf s i + 1))
+tonesOf n g (Joined P106And26 i) = tonesAt n g ((i - 1) / 2) (With26 ((i - 1) % 2 + 1))
+tonesOf n g (Joined P484And242 i) = tonesOfThree n g (i - 1)
