@@ -1,0 +1,30 @@
+-- What the contract of `write` leaves open: nothing. Assumes nothing.
+use mathlib.Core.Path.{_≡_, sym, _∙_, ap}
+use lib.ListN.{length}
+use denote.Ref.{now}
+use Rattle.answer.specs.Answer.{answerAt}
+use Rattle.answer.specs.declared.Answer.{Answer}
+use Rattle.answer.specs.Order.{after-kept}
+use Rattle.writer.specs.Candidate.{needed, candidate}
+use Rattle.writer.specs.Result.{writing, front, answerOf, channelAfter}
+use Rattle.writer.proofs.write.Reads as write
+
+-- any two answers, and any two states of both lent channels afterwards, that `write` allows for one input
+pub write-agrees : (κs : _) (a : _) (r r' : _) (s s' : _) → write.Post κs a r s → write.Post κs a r' s'
+    → (r ≡ r') × (now (s .1 .1 .0) ≡ now (s' .1 .1 .0)) × (now (s .1 .1 .1 .0) ≡ now (s' .1 .1 .1 .0))
+write-agrees κs a r r' s s' p q = (p .0 ∙ sym (q .0), p .1 .0 ∙ sym (q .1 .0), p .1 .1 ∙ sym (q .1 .1))
+
+-- "Every refusal writes nothing": with any number but 0 both lent channels are as they were
+pub write-keeps : (κs : _) (a : _) (r : _) (s : _) → write.Post κs a r s → (r .number ≡ 0 → ⊥)
+    → (now (s .1 .1 .0) ≡ now (a .1 .1 .0)) × (now (s .1 .1 .1 .0) ≡ now (a .1 .1 .1 .0))
+unfolding answerOf channelAfter
+write-keeps κs a r s p n =
+    let bw = a .0 in
+    let w = now (a .1 .0) in
+    let x = now (a .1 .1 .0) in
+    let y = now (a .1 .1 .1 .0) in
+    let o = writing bw w (length x) (length y) in
+    let z : answerAt o (needed bw w) .number ≡ 0 → ⊥ = λ e. n (ap (λ (z : Answer). z .number) (p .0) ∙ e) in (
+      p .1 .0 ∙ after-kept o (needed bw w) (front (candidate bw w 1) x) x z,
+      p .1 .1 ∙ after-kept o (needed bw w) (front (candidate bw w 2) y) y z,
+    )

@@ -1,0 +1,328 @@
+-- Writing is the inverse of reading, of the contracts of `read` and `write`. Assumes nothing.
+--
+-- The user: "Writing those words gives the same channels back, padding zero, up to the end of the longer channel's last
+-- block. Words that no accepted pair of channels reads to are refused."
+use mathlib.Core.Path.{_≡_, refl, sym, _∙_, ap, subst}
+use mathlib.Core.Bool.{Bool, true, false, cond, not, _&&_}
+use mathlib.Core.List.{List, [], _∷_, _++_}
+use Prim.Native.Nat.{ℕ, _+_, _*_, _/_, _%_, _^_, _≤_, _<_}
+use native.Mathlib.Omega.{arith}
+use lib.Dec.{ltb}
+use lib.ListN.{length, getD, take, drop, List·getD-append}
+use lib.Seq.{take-at, drop-at}
+use borrow.Author.Tests.{le-ltb}
+use denote.Ref.{now}
+use Rattle.answer.specs.Answer as A
+use Rattle.answer.specs.Answer.{refuseIf, _or_, answerAt, after}
+use Rattle.answer.specs.Order.{Applies, pass-left, pass-right, or-pass, pass-if, if-pass, if-refuse, pass-not-refuse}
+use Rattle.answer.specs.declared.Answer.{Answer}
+use Rattle.answer.specs.declared.Out.{Out}
+use Rattle.answer.specs.declared.Out.the-variants.{Pass, Refuse}
+use Rattle.bits.specs.Bits.{bit}
+use Rattle.channel.specs.Layout.{present, count, endOf}
+use Rattle.channel.specs.Laws.{present-1}
+use Rattle.channel.specs.Padding.{Same}
+use Rattle.reader.specs.Table.{check1, check12, noRoom, readable, reading, wordCount}
+use Rattle.reader.specs.Words.{wordsOf}
+use Rattle.reader.specs.Result as R
+use Rattle.reader.specs.Stages.{reading-stages}
+use Rattle.reader.specs.Determine.{words-length, SameFrame, words-determine}
+use Rattle.reader.proofs.Exactly as E
+use Rattle.reader.proofs.read.Reads as read
+use Rattle.writer.specs.Candidate.{needed, bytesFor, candidate}
+use Rattle.writer.specs.Result.{readsTo, notRead, check13, tooShort, check14, writing, front, answerOf, channelAfter}
+use Rattle.writer.specs.Inverse.{ReadsTo, reads-to-says, says-reads-to, candidate-reads, present-length, absent-length, accepted-known, same-1, same-2, zero-1, zero-2, reach-1, reach-2, needed-of}
+use Rattle.writer.proofs.Exactly as W
+use Rattle.writer.proofs.write.Reads as write
+
+-- ---- reading, from its contract's equations
+
+-- `read`, with room w₀, accepts a and b with exactly the words w
+pub record Accepts (bw : ℕ) (a b w₀ w : List ℕ) : Type 0 where
+  pub number-0 : R.answerOf bw a b (length w₀) .number ≡ 0
+  pub exactly : take (R.answerOf bw a b (length w₀) .place) (R.wordsAfter bw a b w₀) ≡ w
+
+read-place : (bw : ℕ) (a b : List ℕ) (room : ℕ) → reading bw a b room ≡ Pass → R.answerOf bw a b room ≡ A.no 0 0 (wordCount bw a b)
+unfolding R.answerOf
+read-place bw a b room e = rw e
+
+read-words : (bw : ℕ) (a b w₀ : List ℕ) → reading bw a b (length w₀) ≡ Pass → take (wordCount bw a b) (R.wordsAfter bw a b w₀) ≡ wordsOf bw a b
+unfolding R.wordsAfter
+read-words bw a b w₀ e = rw e (take-at (wordsOf bw a b) (drop (wordCount bw a b) w₀) (wordCount bw a b) (words-length bw a b))
+
+pub accepts-reads : (bw : ℕ) (a b w₀ w : List ℕ) → Accepts bw a b w₀ w → ReadsTo bw a b w
+accepts-reads bw a b w₀ w h =
+    let e = E.accepted-exactly bw a b (length w₀) (h .number-0) in
+    let f : reading bw a b (length w₀) ≡ Pass = e in
+    record {
+      accepted = pass-left (readable bw a b) (check12 bw a b (length w₀)) (sym (reading-stages bw a b (length w₀)) ∙ f);
+      the-words =
+          sym (read-words bw a b w₀ f)
+          ∙ ap (λ (x : Answer). take (x .place) (R.wordsAfter bw a b w₀)) (sym (read-place bw a b (length w₀) f))
+          ∙ h .exactly;
+    }
+
+reads-pass : (bw : ℕ) (a b w : List ℕ) (room : ℕ) → ReadsTo bw a b w → length w ≤ room → reading bw a b room ≡ Pass
+unfolding check12 noRoom
+reads-pass bw a b w room h l =
+    reading-stages bw a b room
+    ∙ or-pass (readable bw a b) (check12 bw a b room) (h .accepted)
+    (if-pass _ _ (le-ltb room (wordCount bw a b) (omega (arith, words-length bw a b, ap length (h .the-words)))))
+
+pub reads-accepts : (bw : ℕ) (a b w₀ w : List ℕ) → ReadsTo bw a b w → length w ≤ length w₀ → Accepts bw a b w₀ w
+reads-accepts bw a b w₀ w h l =
+    let e = reads-pass bw a b w (length w₀) h l in
+    let p = read-place bw a b (length w₀) e in
+    record {
+      number-0 = ap (λ (x : Answer). x .number) p;
+      exactly = ap (λ (x : Answer). take (x .place) (R.wordsAfter bw a b w₀)) p ∙ read-words bw a b w₀ e ∙ h .the-words;
+    }
+
+-- ---- writing, from its contract's equations
+
+writing-pass : (bw : ℕ) (w : List ℕ) (n m : ℕ) → bw ≤ 4 → ReadsTo bw (candidate bw w 1) (candidate bw w 2) w
+    → needed bw w ≤ n → (present bw 2 ≡ true → needed bw w ≤ m) → writing bw w n m ≡ Pass
+unfolding writing check1 check13 notRead check14 tooShort
+writing-pass bw w n m l h p q =
+    or-pass _ _
+    (or-pass _ _
+    (if-pass _ _ (le-ltb 4 bw l))
+    (if-pass _ _ (ap not (says-reads-to bw (candidate bw w 1) (candidate bw w 2) w h))))
+    (or-pass _ _
+    (if-pass _ _ (le-ltb n (needed bw w) p))
+    (if-pass _ _ (go (present bw 2) refl)))
+  where
+    go : (t : Bool) → present bw 2 ≡ t → (t && ltb m (needed bw w)) ≡ false
+    go true e = le-ltb m (needed bw w) (q e)
+    go false e = refl
+
+not-true : (t : Bool) → not t ≡ false → t ≡ true
+not-true true e = refl
+not-true false e = sym e
+
+pass-reads : (bw : ℕ) (w : List ℕ) (n m : ℕ) → writing bw w n m ≡ Pass → ReadsTo bw (candidate bw w 1) (candidate bw w 2) w
+unfolding writing check13 notRead
+pass-reads bw w n m e =
+    let f = pass-right (check1 bw) _ (pass-left _ (check14 bw w n m) e) in
+    reads-to-says bw (candidate bw w 1) (candidate bw w 2) w (not-true _ (pass-if _ _ f))
+
+written : (bw : ℕ) (w : List ℕ) (n m c : ℕ) (d : List ℕ) → writing bw w n m ≡ Pass → channelAfter bw w n m c d ≡ candidate bw w c ++ drop (length (candidate bw w c)) d
+unfolding channelAfter front
+written bw w n m c d e = rw e
+
+bit-front : (s t : List ℕ) (i : ℕ) → i < 8 * length s → bit (s ++ t) i ≡ bit s i
+unfolding bit
+bit-front s t i l = rw (List·getD-append s t 0 (i / 8) (omega arith))
+
+-- ---- (a) write after read
+
+-- what stands in lent channel c, which was d and is d', after writing k bytes of what was read from s
+pub record Given (bw c : ℕ) (s d d' : List ℕ) (k : ℕ) : Type 0 where
+  pub same : (i : ℕ) → i < endOf bw (count bw c s) → bit d' i ≡ bit s i
+  pub zero-past : (i : ℕ) → endOf bw (count bw c s) ≤ i → i < 8 * k → bit d' i ≡ 0
+  pub kept : drop k d' ≡ drop k d
+
+-- a and b were read; x and y are the lent channels, x' and y' what they are then
+pub record GivenBack (bw : ℕ) (a b x y x' y' : List ℕ) (r : Answer) : Type 0 where
+  pub answered : r ≡ A.no 0 0 (bytesFor bw (count bw 1 a) (count bw 2 b))
+  pub channel-1 : Given bw 1 a x x' (r .place)
+  pub channel-2 : present bw 2 ≡ true → Given bw 2 b y y' (r .place)
+  pub untouched : present bw 2 ≡ false → y' ≡ y
+
+module _ (bw : ℕ) (w : List ℕ) where
+  given : (c : ℕ) (s d d' : List ℕ) → length (candidate bw w c) ≡ needed bw w
+      → endOf bw (count bw c s) ≤ 8 * needed bw w
+      → Same s (candidate bw w c) (endOf bw (count bw c s))
+      → ((i : ℕ) → endOf bw (count bw c s) ≤ i → bit (candidate bw w c) i ≡ 0)
+      → d' ≡ candidate bw w c ++ drop (length (candidate bw w c)) d
+      → Given bw c s d d' (needed bw w)
+  given c s d d' l m p q e =
+      record {
+        same = λ i k. rw e (bit-front (candidate bw w c) (drop (length (candidate bw w c)) d) i (omega arith) ∙ sym (p .same i k));
+        zero-past = λ i k j. rw e (bit-front (candidate bw w c) (drop (length (candidate bw w c)) d) i (omega arith) ∙ q i k);
+        kept = rw (e, l) (drop-at (candidate bw w c) (drop (needed bw w) d) (needed bw w) l);
+      }
+
+  nothing : (d d' : List ℕ) → length (candidate bw w 2) ≡ 0 → d' ≡ candidate bw w 2 ++ drop (length (candidate bw w 2)) d → d' ≡ d
+  nothing d d' l e = e ∙ ap (λ (k : ℕ). candidate bw w 2 ++ drop k d) l ∙ none (candidate bw w 2) l
+    where
+      none : (s : List ℕ) → length s ≡ 0 → s ++ d ≡ d
+      none [] z = refl
+      none (t ∷ ts) z = absurd (omega arith)
+
+  second-length : (j : ℕ) → j ≡ needed bw w → length (candidate bw w 2) ≡ cond (present bw 2) j 0
+  second-length j k = go (present bw 2) refl
+    where
+      go : (t : Bool) → present bw 2 ≡ t → length (candidate bw w 2) ≡ cond t j 0
+      go true e = present-length bw w 2 e ∙ sym k
+      go false e = absent-length bw w 2 e
+
+module _ (bw : ℕ) (a b : List ℕ) (e : readable bw a b ≡ Pass) where
+  abbrev bytes : ℕ
+  bytes = bytesFor bw (count bw 1 a) (count bw 2 b)
+
+  given-back : (x y x' y' : List ℕ) (r : Answer)
+      → bytes ≤ length x → (present bw 2 ≡ true → bytes ≤ length y)
+      → r ≡ answerOf bw (wordsOf bw a b) (length x) (length y)
+      → x' ≡ channelAfter bw (wordsOf bw a b) (length x) (length y) 1 x
+      → y' ≡ channelAfter bw (wordsOf bw a b) (length x) (length y) 2 y
+      → GivenBack bw a b x y x' y' r
+  unfolding answerOf
+  given-back x y x' y' r l m er ex ey =
+      let w = wordsOf bw a b in
+      let n : needed bw w ≡ bytes = needed-of bw a b e in
+      let o : writing bw w (length x) (length y) ≡ Pass =
+      writing-pass bw w (length x) (length y) (accepted-known bw a b e)
+      (candidate-reads bw a b w (record { accepted = e; the-words = refl }))
+      (rw n l) (λ p. rw n (m p)) in
+      let z : r ≡ A.no 0 0 (needed bw w) = er ∙ rw o in
+      let fx = ex ∙ written bw w (length x) (length y) 1 x o in
+      let fy = ey ∙ written bw w (length x) (length y) 2 y o in
+      rw z
+      (record {
+        answered = rw n;
+        channel-1 = given bw w 1 a x x' (present-length bw w 1 (present-1 bw)) (reach-1 bw a b e) (same-1 bw a b e) (zero-1 bw a b e) fx;
+        channel-2 = λ p. given bw w 2 b y y' (present-length bw w 2 p) (reach-2 bw a b e) (same-2 bw a b e p) (zero-2 bw a b e p) fy;
+        untouched = λ p. nothing bw w y y' (absent-length bw w 2 p) fy;
+      })
+
+-- Channels that `read` accepts, and `write` of exactly the words that it gave, with enough room: the same channels back,
+-- zero from their own ends on, both of the bytes that the longer one needs, and nothing else changed.
+pub write-after-read : (κs : _) (a : _) (r : _) (s : _) (κs' : _) (a' : _) (r' : _) (s' : _)
+    → read.Post κs a r s → write.Post κs' a' r' s'
+    → r .number ≡ 0
+    → a' .0 ≡ a .0
+    → now (a' .1 .0) ≡ take (r .place) (now (s .1 .1 .1 .0))
+    → bytesFor (a .0) (count (a .0) 1 (now (a .1 .0))) (count (a .0) 2 (now (a .1 .1 .0))) ≤ length (now (a' .1 .1 .0))
+    → (present (a .0) 2 ≡ true → bytesFor (a .0) (count (a .0) 1 (now (a .1 .0))) (count (a .0) 2 (now (a .1 .1 .0))) ≤ length (now (a' .1 .1 .1 .0)))
+    → GivenBack (a .0) (now (a .1 .0)) (now (a .1 .1 .0)) (now (a' .1 .1 .0)) (now (a' .1 .1 .1 .0)) (now (s' .1 .1 .0)) (now (s' .1 .1 .1 .0)) r'
+write-after-read κs a r s κs' a' r' s' p q z eb ew l m =
+    let bw = a .0 in
+    let c1 = now (a .1 .0) in
+    let c2 = now (a .1 .1 .0) in
+    let w₀ = now (a .1 .1 .1 .0) in
+    let x = now (a' .1 .1 .0) in
+    let y = now (a' .1 .1 .1 .0) in
+    let h : ReadsTo bw c1 c2 (now (a' .1 .0)) =
+    accepts-reads bw c1 c2 w₀ (now (a' .1 .0))
+    (record {
+      number-0 = ap (λ (t : Answer). t .number) (sym (p .0)) ∙ z;
+      exactly = ap (λ (t : Answer). take (t .place) (R.wordsAfter bw c1 c2 w₀)) (sym (p .0)) ∙ ap (take (r .place)) (sym (p .1)) ∙ sym ew;
+    }) in
+    let v = sym (h .the-words) in
+    given-back bw c1 c2 (h .accepted) x y (now (s' .1 .1 .0)) (now (s' .1 .1 .1 .0)) r' l m
+    (q .0 ∙ rw (eb, v))
+    (q .1 .0 ∙ rw (eb, v))
+    (q .1 .1 ∙ rw (eb, v))
+
+-- ---- (b) read after write
+
+front-take : (s d : List ℕ) (n : ℕ) → length s ≡ n → take n (s ++ drop (length s) d) ≡ s
+front-take s d n l = take-at s (drop (length s) d) n l
+
+-- What `write` accepted, read from the bytes that it wrote (none of channel 2 at 20 MHz) with room for the words, is
+-- accepted with exactly these words.
+pub read-after-write : (κs : _) (a : _) (r : _) (s : _) (κs' : _) (a' : _) (r' : _) (s' : _)
+    → write.Post κs a r s → read.Post κs' a' r' s'
+    → r .number ≡ 0
+    → a' .0 ≡ a .0
+    → now (a' .1 .0) ≡ take (r .place) (now (s .1 .1 .0))
+    → now (a' .1 .1 .0) ≡ take (cond (present (a .0) 2) (r .place) 0) (now (s .1 .1 .1 .0))
+    → length (now (a .1 .0)) ≤ length (now (a' .1 .1 .1 .0))
+    → (r' ≡ A.no 0 0 (length (now (a .1 .0)))) × (take (length (now (a .1 .0))) (now (s' .1 .1 .1 .0)) ≡ now (a .1 .0))
+unfolding answerOf
+read-after-write κs a r s κs' a' r' s' p q z eb e1 e2 l =
+    let bw = a .0 in
+    let w = now (a .1 .0) in
+    let x = now (a .1 .1 .0) in
+    let y = now (a .1 .1 .1 .0) in
+    let w₀ = now (a' .1 .1 .1 .0) in
+    let c1 = candidate bw w 1 in
+    let c2 = candidate bw w 2 in
+    let o : writing bw w (length x) (length y) ≡ Pass =
+    W.accepted-exactly bw w (length x) (length y) (ap (λ (t : Answer). t .number) (sym (p .0)) ∙ z) in
+    let k : r .place ≡ needed bw w = ap (λ (t : Answer). t .place) (p .0 ∙ ap (λ (o : Out). answerAt o (needed bw w)) o) in
+    let f1 : now (a' .1 .0) ≡ c1 =
+    e1
+    ∙ ap (take (r .place)) (p .1 .0 ∙ written bw w (length x) (length y) 1 x o)
+    ∙ front-take c1 x (r .place) (present-length bw w 1 (present-1 bw) ∙ sym k) in
+    let f2 : now (a' .1 .1 .0) ≡ c2 =
+    e2
+    ∙ ap (take (cond (present bw 2) (r .place) 0)) (p .1 .1 ∙ written bw w (length x) (length y) 2 y o)
+    ∙ front-take c2 y (cond (present bw 2) (r .place) 0) (second-length bw w (r .place) k) in
+    let h = pass-reads bw w (length x) (length y) o in
+    let v = reads-pass bw c1 c2 w (length w₀) h l in
+    let n : wordCount bw c1 c2 ≡ length w = sym (words-length bw c1 c2) ∙ ap length (h .the-words) in (
+      q .0 ∙ rw (eb, f1, f2) (read-place bw c1 c2 (length w₀) v ∙ ap (A.no 0 0) n),
+      ap (take (length w)) (q .1 ∙ rw (eb, f1, f2)) ∙ ap (λ (j : ℕ). take j (R.wordsAfter bw c1 c2 w₀)) (sym n) ∙ read-words bw c1 c2 w₀ v ∙ h .the-words,
+    )
+
+-- ---- (c) 13
+
+-- 13 is given: then no channels, of any lengths and with any room, are read to exactly these words
+pub thirteen-none : (κs : _) (a : _) (r : _) (s : _) → write.Post κs a r s → r .number ≡ 13
+    → (x y w₀ : List ℕ) → Accepts (a .0) x y w₀ (now (a .1 .0)) → ⊥
+unfolding check13 notRead
+thirteen-none κs a r s p z x y w₀ h =
+    let bw = a .0 in
+    let w = now (a .1 .0) in
+    let n = length (now (a .1 .1 .0)) in
+    let m = length (now (a .1 .1 .1 .0)) in
+    let d = W.refused-exactly bw w n m 1 (omega arith) (ap (λ (t : Answer). t .number) (sym (p .0)) ∙ z) in
+    let t = says-reads-to bw (candidate bw w 1) (candidate bw w 2) w (candidate-reads bw x y w (accepts-reads bw x y w₀ w h)) in
+    pass-not-refuse (if-pass _ (A.no 13 0 0) (ap not t)) (d .refuses)
+
+first-passes : (bw : ℕ) → bw ≤ 4 → check1 bw ≡ Pass
+unfolding check1
+first-passes bw l = if-pass _ _ (le-ltb 4 bw l)
+
+second-refuses : (bw : ℕ) (w : List ℕ) → (ReadsTo bw (candidate bw w 1) (candidate bw w 2) w → ⊥) → check13 bw w ≡ Refuse (A.no 13 0 0)
+unfolding check13 notRead
+second-refuses bw w h = go (readsTo bw (candidate bw w 1) (candidate bw w 2) w) refl
+  where
+    go : (t : Bool) → readsTo bw (candidate bw w 1) (candidate bw w 2) w ≡ t → refuseIf (not t) (A.no 13 0 0) ≡ Refuse (A.no 13 0 0)
+    go true e = absurd (h (reads-to-says bw (candidate bw w 1) (candidate bw w 2) w e))
+    go false e = refl
+
+thirteen-applies : (bw : ℕ) (w : List ℕ) (n m : ℕ) → bw ≤ 4 → (ReadsTo bw (candidate bw w 1) (candidate bw w 2) w → ⊥)
+    → Applies (W.rows bw w n m) 1 (A.no 13 0 0)
+thirteen-applies bw w n m l h = record { refuses = second-refuses bw w h; nothing-earlier = λ j k. go j k }
+  where
+    go : (j : ℕ) → j < 1 → getD (W.rows bw w n m) j Pass ≡ Pass
+    go j k = let z : j ≡ 0 = omega arith in rw z (first-passes bw l)
+
+-- and it is given where there are none, for every bandwidth code up to 4
+pub none-thirteen : (κs : _) (a : _) (r : _) (s : _) → write.Post κs a r s → a .0 ≤ 4
+    → ((x y w₀ : List ℕ) → Accepts (a .0) x y w₀ (now (a .1 .0)) → ⊥) → r .number ≡ 13
+none-thirteen κs a r s p l h =
+    let bw = a .0 in
+    let w = now (a .1 .0) in
+    let n = length (now (a .1 .1 .0)) in
+    let m = length (now (a .1 .1 .1 .0)) in
+    let d = thirteen-applies bw w n m l (λ t. h (candidate bw w 1) (candidate bw w 2) w (reads-accepts bw (candidate bw w 1) (candidate bw w 2) w w t (omega arith))) in
+    ap (λ (t : Answer). t .number) (p .0 ∙ W.applies-exactly bw w n m 1 (A.no 13 0 0) d .0)
+
+-- ---- (d) equal words
+
+-- Two frames that `read` accepts with the same words, each as many as its answer counts, have the same bandwidth, row,
+-- overflow and User fields.
+pub equal-words : (κs : _) (a : _) (r : _) (s : _) (κs' : _) (a' : _) (r' : _) (s' : _)
+    → read.Post κs a r s → read.Post κs' a' r' s'
+    → r .number ≡ 0 → r' .number ≡ 0
+    → take (r .place) (now (s .1 .1 .1 .0)) ≡ take (r' .place) (now (s' .1 .1 .1 .0))
+    → SameFrame (a .0) (now (a .1 .0)) (now (a .1 .1 .0)) (a' .0) (now (a' .1 .0)) (now (a' .1 .1 .0))
+equal-words κs a r s κs' a' r' s' p p' z z' e =
+    let h = reads-of κs a r s p z in
+    let h' = reads-of κs' a' r' s' p' z' in
+    words-determine (a .0) (a' .0) _ _ _ _
+    (accepted-known (a .0) _ _ (h .accepted)) (accepted-known (a' .0) _ _ (h' .accepted))
+    (h .the-words ∙ e ∙ sym (h' .the-words))
+  where
+    reads-of : (κs : _) (a : _) (r : _) (s : _) → read.Post κs a r s → r .number ≡ 0
+        → ReadsTo (a .0) (now (a .1 .0)) (now (a .1 .1 .0)) (take (r .place) (now (s .1 .1 .1 .0)))
+    reads-of κs a r s p z =
+        accepts-reads (a .0) (now (a .1 .0)) (now (a .1 .1 .0)) (now (a .1 .1 .1 .0)) (take (r .place) (now (s .1 .1 .1 .0)))
+        (record {
+          number-0 = ap (λ (t : Answer). t .number) (sym (p .0)) ∙ z;
+          exactly = ap (λ (t : Answer). take (t .place) (R.wordsAfter (a .0) (now (a .1 .0)) (now (a .1 .1 .0)) (now (a .1 .1 .1 .0)))) (sym (p .0)) ∙ ap (take (r .place)) (sym (p .1));
+        })

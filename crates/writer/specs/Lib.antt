@@ -1,0 +1,6 @@
+pub mod Candidate
+pub mod Result
+pub mod Carries
+pub mod Built
+pub mod Inverse
+pub mod Steps
