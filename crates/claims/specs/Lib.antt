@@ -1,2 +1,3 @@
+pub mod Second
 pub mod Third
 pub mod Bench
