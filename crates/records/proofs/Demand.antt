@@ -1,9 +1,9 @@
 -- The user's third demand, its last sentence: "In the plan no two resources share a subcarrier, none has one in a punctured 20 MHz, and
 -- each User field in either channel has exactly one resource." Of every plan that signals a row of any bandwidth. Assumes nothing.
-use mathlib.Core.Path.{_≡_, sym, _∙_, subst}
+use mathlib.Core.Path.{_≡_, sym, subst}
 use mathlib.Core.Logic.{_≢_}
 use mathlib.Core.List.{List}
-use Prim.Native.Nat.{ℕ, _+_, _*_, _^_, _≤_, _<_}
+use Prim.Native.Nat.{ℕ, _*_, _^_, _<_}
 use lib.ListN.{length, getD}
 use Rattle.plan.specs.declared.Owner.{Owner}
 use Rattle.plan.specs.Plan.{at, Signals}
@@ -13,7 +13,7 @@ use Rattle.records.specs.declared.Record.{Record}
 use Rattle.records.specs.Records.{recordsFrom, recordsOf, blank, HasTone, Punctured}
 use Rattle.records.specs.Owns.{fieldsBefore, Owns, ownerOf, Counts, shareOf, allShares}
 use Rattle.records.proofs.Listing.{same-records}
-use Rattle.records.proofs.Owners.{one-owner, owner-only, owner-owns}
+use Rattle.records.proofs.Owners.{one-owner, owner-owns}
 use Rattle.records.proofs.Subcarriers.{no-shared, inside-channel, none-punctured}
 use Rattle.records.proofs.Shares.{owner-listed, owns-share, shares-all}
 use Rattle.records.proofs.Sizes.{RightRecord, record-right}

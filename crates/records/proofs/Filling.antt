@@ -1,10 +1,10 @@
 -- The program's table of resources, filled one by one: `plan_of`'s loop. Assumes nothing.
 use mathlib.Core.Path.{_≡_, refl, sym, _∙_, ap}
-use mathlib.Core.List.{List, [], _∷_, _++_}
-use Prim.Native.Nat.{ℕ, zero, suc, _+_, _-_, _*_, _≤_, _<_}
+use mathlib.Core.List.{List, _++_}
+use Prim.Native.Nat.{ℕ, _+_, _≤_, _<_}
 use native.Mathlib.Omega.{arith}
-use lib.ListN.{length, getD, set, drop, replicate, length-set, length-replicate}
-use Rattle.answer.specs.Filled.{build, filled, build-is, filled-start, filled-step, filled-length}
+use lib.ListN.{length, getD, set, drop, replicate, length-replicate}
+use Rattle.answer.specs.Filled.{build, filled, build-is, filled-start, filled-step}
 use Rattle.plan.specs.declared.Owner.{Owner}
 use Rattle.records.specs.declared.Record.{Record}
 use Rattle.records.specs.declared.Plan.{Plan}

@@ -1,28 +1,27 @@
 -- The list of a plan's resources by number: laws of `listAt` and `recordsFrom`. Assumes nothing.
 use mathlib.Core.Path.{_≡_, refl, sym, _∙_, ap}
-use mathlib.Core.Logic.{_⊎_, inl, inr, ⊎-elim, _≢_}
-use mathlib.Core.Bool.{Bool, true, false, cond, not, _||_}
-use mathlib.Core.List.{List, [], _∷_, _++_, map, append-assoc}
+use mathlib.Core.Logic.{⊎-elim}
+use mathlib.Core.Bool.{Bool, true, false, cond}
+use mathlib.Core.List.{List, [], _∷_, map}
 use Prim.Native.Nat.{ℕ, zero, suc, _+_, _-_, _*_, _/_, _%_, _≤_, _<_}
 use native.Mathlib.Omega.{arith}
-use native.Mathlib.Nat.{add-zero, eq-or-lt-of-le, le-of-suc-le-suc}
+use native.Mathlib.Nat.{eq-or-lt-of-le, le-of-suc-le-suc}
 use native.Mathlib.Numerals.{add-one}
 use borrow.Author.Tests.{eqb-true}
-use lib.Dec.{T, eqb, leb, eqb→eq}
-use lib.ListN.{length, getD, length-append, length-map, List·getD-append, List·getD-map}
+use lib.Dec.{eqb}
+use lib.ListN.{length, getD, length-append, length-map, List·getD-append}
 use lib.Seq.{getD-append-add}
 use Rattle.plan.specs.declared.Owner.{Owner}
 use Rattle.plan.specs.declared.Owner.the-variants.{Itself, Pair, Whole, Three}
 use Rattle.plan.specs.Plan.{span}
 use Rattle.plan.specs.Guess.{onlyPlan, choose, firstThree}
 use Rattle.plan.proofs.Only.{Chosen, left, joined, full, half, alone, chosen}
-use Rattle.resource.specs.declared.Piece.{Piece}
-use Rattle.resource.specs.Values.{pieces, fieldsOf, ownPieces}
-use Rattle.resource.specs.Starts.{noPiece, pieceAt}
+use Rattle.resource.specs.Values.{ownPieces}
+use Rattle.resource.specs.Starts.{noPiece}
 use Rattle.resource.proofs.Test.{below-or}
 use Rattle.resource.proofs.Starts.{own-most}
 use Rattle.records.specs.declared.Record.{Record}
-use Rattle.records.specs.Records.{pieceRecord, lead, largerRecord, once, listAt, recordsFrom, blank, recordAt, listed, leftOut}
+use Rattle.records.specs.Records.{pieceRecord, lead, largerRecord, listAt, recordsFrom, blank, recordAt, listed, leftOut}
 
 -- ---- at one position
 once-length : (t : Bool) (r : Record) → length (cond t (r ∷ []) []) ≡ cond t 1 0

@@ -1,23 +1,22 @@
 -- Each User field below a channel's count has exactly one owner, the one that the program finds. Assumes nothing.
-use mathlib.Core.Path.{_≡_, refl, sym, _∙_, ap, subst}
-use mathlib.Core.Logic.{_⊎_, inl, inr, ⊎-elim, _≢_}
+use mathlib.Core.Path.{_≡_, refl, sym, _∙_, ap}
+use mathlib.Core.Logic.{⊎-elim, _≢_}
 use mathlib.Core.Bool.{Bool, true, false, cond, not, false≢true}
-use mathlib.Core.List.{List, [], _∷_, _++_}
 use Prim.Native.Nat.{ℕ, zero, suc, _+_, _-_, _*_, _/_, _%_, _≤_, _<_}
 use native.Mathlib.Omega.{arith}
 use native.Mathlib.Nat.{eq-or-lt-of-le, le-of-suc-le-suc}
 use native.Mathlib.Numerals.{add-one}
-use borrow.Author.Tests.{lt-ltb, le-ltb, eq-eqb, ne-eqb, eqb-true, eqb-false, ltb-true, ltb-false}
-use lib.Dec.{T, eqb, ltb}
+use borrow.Author.Tests.{lt-ltb, le-ltb, eq-eqb, ne-eqb, eqb-true}
+use lib.Dec.{eqb}
 use lib.ListN.{length}
 use Rattle.plan.specs.declared.Owner.{Owner}
 use Rattle.plan.specs.declared.Owner.the-variants.{Itself, Pair, Whole, Three}
-use Rattle.plan.specs.Plan.{span, Takes, Place, Fits, own, blank, smaller, Signals}
+use Rattle.plan.specs.Plan.{span, Place, Fits, Signals}
 use Rattle.plan.proofs.Only.{Tells, tells}
-use Rattle.resource.specs.Values.{pieces, fieldsOf, ownPieces}
+use Rattle.resource.specs.Values.{pieces, fieldsOf}
 use Rattle.resource.proofs.Test.{below-or}
 use Rattle.resource.proofs.Apart.{not-divided}
-use Rattle.records.specs.Records.{inChannel, divides, lead, listAt, recordsFrom}
+use Rattle.records.specs.Records.{inChannel, divides, lead}
 use Rattle.records.specs.Owns.{fieldsBefore, ComesFrom, number, Owns, of-piece, of-place, lowest, ownerAt, ownerOf}
 
 -- ---- the count of a channel's fields

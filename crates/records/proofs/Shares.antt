@@ -2,34 +2,34 @@
 -- row. Assumes nothing.
 use mathlib.Core.Path.{_≡_, refl, sym, _∙_, ap, subst}
 use mathlib.Core.Logic.{_⊎_, inl, inr, ⊎-elim, _≢_}
-use mathlib.Core.Bool.{Bool, true, false, cond, not, _&&_, _||_, false≢true}
-use mathlib.Core.List.{List, [], _∷_, _++_, map}
-use Prim.Native.Nat.{ℕ, zero, suc, _+_, _-_, _*_, _/_, _%_, _≤_, _<_}
+use mathlib.Core.Bool.{Bool, true, false, cond, not, _&&_, _||_}
+use mathlib.Core.List.{List, [], _∷_}
+use Prim.Native.Nat.{ℕ, zero, suc, _+_, _*_, _/_, _%_, _≤_, _<_}
 use native.Mathlib.Omega.{arith}
-use native.Mathlib.Nat.{eq-or-lt-of-le, le-of-suc-le-suc, add-zero}
+use native.Mathlib.Nat.{add-zero}
 use native.Mathlib.Numerals.{add-one}
-use borrow.Author.Tests.{lt-ltb, le-ltb, eq-eqb, ne-eqb, eqb-true, eqb-false, ltb-true}
+use borrow.Author.Tests.{lt-ltb, eq-eqb, ne-eqb, eqb-true, eqb-false, ltb-true}
 use mir.Facts.{or-yes}
-use lib.Dec.{T, eqb, eqb→eq, ltb, leb}
-use lib.ListN.{length, getD, length-map}
+use lib.Dec.{eqb, eqb→eq, ltb}
+use lib.ListN.{length, getD}
 use Rattle.plan.specs.declared.Owner.{Owner}
 use Rattle.plan.specs.declared.Owner.the-variants.{Itself, Pair, Whole, Three}
 use Rattle.plan.specs.Plan.{span, family, Takes, Place, Fits, own, blank, smaller, Signals}
 use Rattle.plan.specs.Fields.{takes, gives, share, channelShare, shares, fieldsIn}
 use Rattle.plan.proofs.Tests.{Tested}
-use Rattle.plan.proofs.Only.{Tells, tells}
+use Rattle.plan.proofs.Only.{tells}
 use Rattle.resource.specs.declared.Size.the-variants.{S242}
 use Rattle.resource.specs.declared.Piece.the-variants.{Part}
 use Rattle.resource.specs.Values.{within, carried, pieces, fieldsOf, ownPieces}
 use Rattle.resource.proofs.Test.{below-or, every-between}
 use Rattle.resource.proofs.Starts.{own-fields, own-whole}
 use Rattle.records.specs.declared.Record.{Record}
-use Rattle.records.specs.Records.{inChannel, divides, pieceFields, pieceRecord, lead, largerRecord, listAt, recordsFrom, recordAt, listed}
+use Rattle.records.specs.Records.{inChannel, divides, pieceFields, lead, largerRecord, listAt, recordsFrom, recordAt, listed}
 use Rattle.records.specs.Records.{blank as noRecord}
 use Rattle.records.specs.Owns.{fieldsBefore, ComesFrom, number, Owns, lowest, ownerAt, ownerOf, Counts, none, one-more, no-more, shareOf, allShares}
-use Rattle.records.proofs.Sums.{sumTo, sumFrom, sum-cong, sum-zero, sum-one, sum-past, sum-window, from-cong, tally, tally-cong, tally-split, tally-none, tally-all, tally-once, all-placed}
-use Rattle.records.proofs.Listing.{Located, Somewhere, located, located-record, located-once, list-length, once-lead, records-rise}
-use Rattle.records.proofs.Owners.{none-left, divided-not, before-next, before-rise, found-left, in-most, divided-low, divided-fields, divided-itself, lowest-place, lowest-only, owner-only, owner-owns, search-comes, comes}
+use Rattle.records.proofs.Sums.{sumTo, sumFrom, sum-cong, sum-one, sum-past, sum-window, from-cong, tally, tally-cong, tally-split, tally-none, tally-all, tally-once, all-placed}
+use Rattle.records.proofs.Listing.{Located, located, located-record, located-once, list-length, once-lead, records-rise}
+use Rattle.records.proofs.Owners.{none-left, divided-not, found-left, divided-low, divided-itself, lowest-place, lowest-only, owner-only, owner-owns, search-comes, comes}
 
 -- ---- the fields that come from one position
 module _ (o : ℕ → Owner) (row : ℕ → ℕ) (i : ℕ) where

@@ -1,32 +1,30 @@
 -- Each resource of a plan has 01's subcarriers, as many as its name says, in rising maximal runs: for every bandwidth and every plan that
 -- signals the row. Assumes nothing.
-use mathlib.Core.Path.{_≡_, refl, sym, _∙_, ap, subst}
-use mathlib.Core.Logic.{_⊎_, inl, inr, ⊎-elim, _≢_}
-use mathlib.Core.Bool.{Bool, true, false, cond, _&&_}
-use mathlib.Core.List.{List, [], _∷_, map}
-use Prim.Native.Nat.{ℕ, zero, suc, _+_, _-_, _*_, _/_, _%_, _^_, _≤_, _<_}
+use mathlib.Core.Path.{_≡_, refl, sym, subst}
+use mathlib.Core.Logic.{⊎-elim}
+use mathlib.Core.Bool.{Bool, true, false, _&&_}
+use mathlib.Core.List.{List, [], _∷_}
+use Prim.Native.Nat.{ℕ, zero, suc, _+_, _*_, _/_, _%_, _^_, _≤_, _<_}
 use native.Mathlib.Omega.{arith}
 use lib.Dec.{T, eqb, eqb→eq, leb, ltb, le→leb, lt→ltb}
 use lib.ListN.{length, getD}
 use Rattle.plan.specs.declared.Owner.{Owner}
 use Rattle.plan.specs.declared.Owner.the-variants.{Itself, Pair, Whole, Three}
-use Rattle.plan.specs.Plan.{span, Takes, Place, Fits, Signals}
-use Rattle.plan.proofs.Only.{Tells, tells}
-use Rattle.resource.specs.declared.Size.the-variants.{S26, S52, S106, S242, S484, S996}
+use Rattle.plan.specs.Plan.{Place, Fits, Signals}
+use Rattle.plan.proofs.Only.{tells}
+use Rattle.resource.specs.declared.Size.the-variants.{S484, S996}
 use Rattle.resource.specs.declared.Piece.{Piece}
-use Rattle.resource.specs.declared.Piece.the-variants.{Part, With26}
-use Rattle.resource.specs.Names.{nameOf}
+use Rattle.resource.specs.declared.Piece.the-variants.{Part}
 use Rattle.resource.specs.Values.{pieces, ownPieces}
-use Rattle.resource.specs.Index.{isPiece, fromPositions, exists, resourceAt, leavingOut}
-use Rattle.resource.specs.Tones.{Span, tonesAt, tonesOfThree, tonesOf}
-use Rattle.resource.specs.Runs.{spanOf, count, rising, runsOf}
+use Rattle.resource.specs.Index.{isPiece, fromPositions, exists, resourceAt}
+use Rattle.resource.specs.Tones.{tonesOf}
 use Rattle.resource.specs.Starts.{noPiece, pieceAt}
 use Rattle.resource.proofs.Test.{below-or, both-left, both-right, below, every-below}
 use Rattle.resource.proofs.Apart.{no-pieces}
 use Rattle.resource.proofs.Agree.{Right, piece-right, three-right, tones-found, three-found}
 use Rattle.records.specs.declared.Record.{Record}
 use Rattle.records.specs.Records.{larger, listAt, recordsFrom, recordAt, blank, listed}
-use Rattle.records.proofs.Listing.{Located, Somewhere, located, located-record, once-lead, list-length}
+use Rattle.records.proofs.Listing.{Somewhere, located, located-record, once-lead, list-length}
 
 -- ---- the pieces of a value exist at every position
 abbrev whole-list : List Piece → Bool

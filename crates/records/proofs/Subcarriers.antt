@@ -1,24 +1,19 @@
 -- No two resources of a plan share a subcarrier, none has one in a punctured position, and each lies inside the channel: for every
 -- bandwidth and every plan that signals the row. Assumes nothing.
 use mathlib.Core.Path.{_≡_, refl, sym, _∙_, ap, subst}
-use mathlib.Core.Logic.{_⊎_, inl, inr, ⊎-elim, _≢_}
+use mathlib.Core.Logic.{⊎-elim, _≢_}
 use mathlib.Core.Bool.{Bool, true, false, cond}
-use mathlib.Core.List.{List, [], _∷_, _++_, map}
-use Prim.Native.Nat.{ℕ, zero, suc, _+_, _-_, _*_, _/_, _%_, _^_, _≤_, _<_}
+use mathlib.Core.List.{[], _∷_}
+use Prim.Native.Nat.{ℕ, _+_, _*_, _/_, _%_, _^_, _≤_, _<_}
 use native.Mathlib.Omega.{arith}
-use lib.Dec.{T, eqb}
+use lib.Dec.{eqb}
 use lib.ListN.{length, getD, length-map}
 use Rattle.plan.specs.declared.Owner.{Owner}
 use Rattle.plan.specs.declared.Owner.the-variants.{Itself, Pair, Whole, Three}
-use Rattle.plan.specs.Plan.{span, Takes, Place, Fits, Signals}
+use Rattle.plan.specs.Plan.{span, Place, Fits, Signals}
 use Rattle.plan.proofs.Only.{Tells, tells}
-use Rattle.resource.specs.declared.Size.the-variants.{S242, S484, S996}
-use Rattle.resource.specs.declared.Piece.{Piece}
-use Rattle.resource.specs.declared.Piece.the-variants.{Part}
 use Rattle.resource.specs.Values.{pieces, ownPieces}
-use Rattle.resource.specs.Index.{resourceAt, leavingOut}
-use Rattle.resource.specs.Starts.{noPiece, pieceAt}
-use Rattle.resource.specs.Runs.{In, runsOf}
+use Rattle.resource.specs.Starts.{noPiece}
 use Rattle.resource.proofs.Apart.{piece-inside, pieces-apart, pair-inside, whole-inside, three-inside}
 use Rattle.records.specs.declared.Record.{Record}
 use Rattle.records.specs.Records.{pieceRecord, lead, larger, largerRecord, listAt, recordsFrom, blank, recordAt, HasTone, Punctured}

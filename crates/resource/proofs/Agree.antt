@@ -1,25 +1,19 @@
 -- The natural runs of a resource are 01's signed ones, at every position of every bandwidth; and each resource has as many subcarriers as
 -- its name says, in rising maximal runs. Assumes nothing.
-use mathlib.Core.Path.{_≡_, refl, ap, _∙_}
-use mathlib.Core.Bool.{Bool, true, false, cond, _&&_}
-use mathlib.Core.List.{List, [], _∷_, _++_, map}
-use Prim.Native.Nat.{ℕ, zero, suc, _+_, _-_, _*_, _/_, _%_, _^_, _≤_, _<_}
+use mathlib.Core.Path.{_≡_, refl, ap}
+use mathlib.Core.Bool.{Bool, true, false, _&&_}
+use mathlib.Core.List.{List, [], _∷_, map}
+use Prim.Native.Nat.{ℕ, _+_, _-_, _*_, _^_, _≤_, _<_}
 use native.Mathlib.Omega.{arith}
 use native.Mathlib.Nat.{pow-le-pow-right}
 use lib.Dec.{T, ltb, leb, eqb, eqb→eq, le→leb, ltb→lt}
-use lib.IntN.{ℤ, pos, negsuc, negℤ, sucℤ, _+ℤ_, _-ℤ_}
-use lib.ListN.{getD}
-use Rattle.resource.specs.declared.Size.{Size}
-use Rattle.resource.specs.declared.Size.the-variants.{S26, S52, S106, S242, S484, S996}
+use lib.IntN.{ℤ, pos, negsuc}
 use Rattle.resource.specs.declared.Piece.{Piece}
-use Rattle.resource.specs.declared.Piece.the-variants.{Part, With26}
 use Rattle.resource.specs.declared.Resource.{Resource}
-use Rattle.resource.specs.declared.Resource.the-variants.{Single, Joined}
-use Rattle.resource.specs.declared.Run.{Run}
 use Rattle.resource.specs.Names.{nameOf}
 use Rattle.resource.specs.Index.{indexOf, resourceAt, leavingOut, isPiece, fromPositions, exists, positionOf, placeOf}
-use Rattle.resource.specs.Tones.{Span, _to_, sameℤ, tonesAt, tonesOfThree, tonesOf}
-use Rattle.resource.specs.Runs.{signed, spanOf, count, rising, runsOf, wide, wideWith26, three, narrow, narrowWith26, offset26, offset52, offset106, narrow26, narrow52, narrow106}
+use Rattle.resource.specs.Tones.{Span, sameℤ, tonesAt, tonesOfThree, tonesOf}
+use Rattle.resource.specs.Runs.{spanOf, count, rising, runsOf, wide, wideWith26, three, narrow, narrowWith26, offset26, offset52, offset106, narrow26, narrow52, narrow106}
 use Rattle.resource.proofs.Test.{both-left, both-right, wherever, met}
 use Rattle.resource.proofs.Everywhere.{every-piece, at-piece, everywhere, at-position}
 

@@ -1,8 +1,8 @@
 -- Where subcarriers lie: a piece's inside its own position, a larger resource's inside its places; and no two pieces of a value share one.
 -- Assumes nothing.
-use mathlib.Core.Path.{_≡_, refl, sym, subst}
+use mathlib.Core.Path.{_≡_, sym}
 use mathlib.Core.Logic.{_≢_, _⊎_, inl, inr, ⊎-elim}
-use mathlib.Core.Bool.{Bool, true, false, cond, _&&_, _||_}
+use mathlib.Core.Bool.{Bool, true, false, cond, _&&_}
 use mathlib.Core.List.{List, [], _∷_, _++_}
 use Prim.Native.Nat.{ℕ, zero, suc, _+_, _-_, _*_, _/_, _%_, _^_, _≤_, _<_}
 use native.Mathlib.Nat.{eq-or-lt-of-le}
@@ -10,16 +10,13 @@ use native.Mathlib.Omega.{arith}
 use borrow.Author.Tests.{lt-leb, le-leb, le-ltb, ne-eqb}
 use lib.Dec.{T, leb, eqb, leb→le, le→leb}
 use lib.ListN.{length, getD}
-use Rattle.resource.specs.declared.Size.{Size}
-use Rattle.resource.specs.declared.Size.the-variants.{S26, S52, S106, S242, S484, S996}
+use Rattle.resource.specs.declared.Size.the-variants.{S484, S996}
 use Rattle.resource.specs.declared.Piece.{Piece}
-use Rattle.resource.specs.declared.Piece.the-variants.{Part, With26}
-use Rattle.resource.specs.declared.Resource.{Resource}
-use Rattle.resource.specs.declared.Resource.the-variants.{Single, Joined}
+use Rattle.resource.specs.declared.Piece.the-variants.{Part}
 use Rattle.resource.specs.declared.Run.{Run}
 use Rattle.resource.specs.Values.{pieces, ownPieces}
 use Rattle.resource.specs.Index.{indexOf, resourceAt, leavingOut, positionOf, placeOf}
-use Rattle.resource.specs.Runs.{In, edge, the242, runsOf, wide, wideWith26, three, narrow, narrowWith26, offset26, offset52, offset106, narrow26, narrow52, narrow106}
+use Rattle.resource.specs.Runs.{In, the242, runsOf, wide, wideWith26, three, narrow, narrowWith26, offset26, offset52, offset106, narrow26, narrow52, narrow106}
 use Rattle.resource.proofs.Test.{below-or, both-left, both-right, below, every-below}
 use Rattle.resource.proofs.Everywhere.{everywhere, at-position}
 

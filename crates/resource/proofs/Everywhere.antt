@@ -1,15 +1,14 @@
 -- A rule of every piece that exists, at every position of every bandwidth: computed once over all of them. Assumes nothing.
-use mathlib.Core.Bool.{Bool, true, false, not, _&&_, _||_}
+use mathlib.Core.Bool.{Bool, _&&_}
 use Prim.Native.Nat.{ℕ, zero, suc, _+_, _*_, _^_, _≤_, _<_}
 use native.Mathlib.Omega.{arith}
 use native.Mathlib.Nat.{pow-le-pow-right}
 use lib.Dec.{T, ltb, leb, eqb, leb→le, lt→ltb, eqb→eq}
-use Rattle.resource.specs.declared.Size.{Size}
 use Rattle.resource.specs.declared.Size.the-variants.{S26, S52, S106, S242, S484, S996}
 use Rattle.resource.specs.declared.Piece.{Piece}
 use Rattle.resource.specs.declared.Piece.the-variants.{Part, With26}
-use Rattle.resource.specs.Index.{isPiece, fromPositions, exists}
-use Rattle.resource.proofs.Test.{both-left, both-right, wherever, met, below, every-below}
+use Rattle.resource.specs.Index.{isPiece}
+use Rattle.resource.proofs.Test.{both-right, wherever, met, below, every-below}
 
 within-small : (a b i : ℕ) → T (leb a i && leb i b) → b ≤ 9 → i < 10
 within-small a b i t h = let l = leb→le i b (both-right (leb a i) (leb i b) t) in omega arith

@@ -1,11 +1,11 @@
 -- How many fields a value gives: laws of `carried` and `fieldsOf`. Assumes nothing.
-use mathlib.Core.Path.{_≡_, refl}
-use mathlib.Core.Bool.{Bool, true, false, cond, _&&_, _||_}
+use mathlib.Core.Path.{_≡_}
+use mathlib.Core.Bool.{Bool, false}
 use mathlib.Core.Logic.{⊎-elim}
-use Prim.Native.Nat.{ℕ, _≤_, _<_}
+use Prim.Native.Nat.{ℕ, _≤_}
 use native.Mathlib.Omega.{arith}
 use borrow.Author.Tests.{le-ltb, le-leb, lt-leb, ne-eqb}
-use lib.Dec.{T, leb, leb→le}
+use lib.Dec.{leb, leb→le}
 use Rattle.resource.specs.Values.{carried, fieldsOf, pieces}
 use Rattle.resource.proofs.Test.{below-or, every-below}
 

@@ -1,8 +1,8 @@
 -- The subcarriers of a resource as natural numbers, counted from the channel's lower edge: in a channel of n positions u stands for the
 -- subcarrier u - 128 n. From 40 MHz every position is then 256 wide. `proofs/Agree.antt` shows that these are 01's. Assumes nothing.
 use mathlib.Core.Logic.{_⊎_}
-use mathlib.Core.Bool.{Bool, true, false, cond, _&&_}
-use mathlib.Core.List.{List, [], _∷_, _++_, map}
+use mathlib.Core.Bool.{Bool, true, cond, _&&_}
+use mathlib.Core.List.{List, [], _∷_, _++_}
 use Prim.Native.Nat.{ℕ, suc, _+_, _-_, _*_, _/_, _%_, _≤_}
 use lib.Dec.{leb, eqb}
 use lib.IntN.{ℤ, pos, _-ℤ_}
@@ -10,8 +10,6 @@ use lib.ListN.{length, take, getD}
 use Rattle.resource.specs.declared.Size.{Size}
 use Rattle.resource.specs.declared.Size.the-variants.{S26, S52, S106, S242, S484, S996}
 use Rattle.resource.specs.declared.Pairing.the-variants.{P106And26, P484And242}
-use Rattle.resource.specs.declared.Piece.{Piece}
-use Rattle.resource.specs.declared.Piece.the-variants.{Part, With26}
 use Rattle.resource.specs.declared.Resource.{Resource}
 use Rattle.resource.specs.declared.Resource.the-variants.{Single, Joined}
 use Rattle.resource.specs.declared.Run.{Run}

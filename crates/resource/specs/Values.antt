@@ -4,8 +4,7 @@ use mathlib.Core.List.{List, [], _∷_, _++_}
 use Prim.Native.Nat.{ℕ, _+_, _/_, _%_, _^_}
 use lib.Dec.{ltb, leb, eqb}
 use lib.ListN.{length}
-use Rattle.resource.specs.declared.Size.{Size}
-use Rattle.resource.specs.declared.Size.the-variants.{S26, S52, S106, S242, S484, S996}
+use Rattle.resource.specs.declared.Size.the-variants.{S26, S52, S106, S242}
 use Rattle.resource.specs.declared.Piece.{Piece}
 use Rattle.resource.specs.declared.Piece.the-variants.{Part, With26}
 

@@ -1,5 +1,4 @@
 -- `records::blank_records` meets its contract. Assumes nothing.
-use mathlib.Core.Path.{_≡_, sym, _∙_, ap}
 use borrow.Author.Needs.{needs}
 use Rattle.records.proofs.blank_records.Statement.{statement}
 use Rattle.records.proofs.blank_records.Tie as tie

@@ -3,13 +3,13 @@ use Rattle.resource.proofs.Apart.{not-divided}
 use Rattle.resource.proofs.Test.{below-or, every-below, every-between, Missed, key-or, no-key}
 use Rattle.records.specs.Records.{divides}
 use Rattle.resource.specs.Values.{pieces}
-use lib.Dec.{T, eqb}
+use lib.Dec.{T}
 use Prim.Native.Nat.{ℕ, _≤_, _<_}
 use mathlib.Core.List.{List, [], _∷_}
-use mathlib.Core.Logic.{inl, inr, ⊎-elim}
+use mathlib.Core.Logic.{⊎-elim}
 use mathlib.Core.Bool.{Bool, true, false, not}
 use native.Mathlib.Omega.{arith}
-use mathlib.Core.Path.{_≡_, sym, _∙_, ap, refl}
+use mathlib.Core.Path.{_≡_, refl}
 use Rattle.records.proofs.is_divided.Statement.{statement}
 use Rattle.records.proofs.is_divided.Tie as tie
 

@@ -1,8 +1,7 @@
 -- `records::larger_of` meets its contract. Assumes nothing.
-use Rattle.records.specs.Records.{larger, leftOut}
+use Rattle.records.specs.Records.{larger}
 use Rattle.resource.specs.Index.{resourceAt, indexOf}
 use native.Mathlib.Omega.{arith}
-use mathlib.Core.Path.{_≡_, sym, _∙_, ap}
 use borrow.Author.Needs.{needs}
 use Rattle.records.proofs.larger_of.Statement.{statement}
 use Rattle.records.proofs.larger_of.Tie as tie

@@ -1,6 +1,4 @@
 -- `records::larger_record` meets its contract. Assumes nothing.
-use native.Mathlib.Omega.{arith}
-use mathlib.Core.Path.{_≡_, sym, _∙_, ap}
 use borrow.Author.Needs.{needs}
 use Rattle.records.proofs.larger_record.Statement.{statement}
 use Rattle.records.proofs.larger_record.Tie as tie

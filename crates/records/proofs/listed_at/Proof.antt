@@ -1,7 +1,6 @@
 -- `records::listed_at` meets its contract. Assumes nothing.
 use Rattle.records.proofs.Listing.{list-length}
-use native.Mathlib.Omega.{arith}
-use mathlib.Core.Path.{_≡_, sym, _∙_, ap}
+use mathlib.Core.Path.{sym, _∙_}
 use borrow.Author.Needs.{needs}
 use Rattle.records.proofs.listed_at.Statement.{statement}
 use Rattle.records.proofs.listed_at.Tie as tie

@@ -3,8 +3,7 @@ use Rattle.plan.specs.declared.Owner.{Owner}
 use Rattle.records.proofs.Listing.{listed-most}
 use Rattle.records.specs.Records.{listed}
 use Prim.Native.Nat.{ℕ, _≤_}
-use native.Mathlib.Omega.{arith}
-use mathlib.Core.Path.{_≡_, sym, _∙_, ap}
+use mathlib.Core.Path.{_≡_, _∙_}
 use borrow.Author.Needs.{needs}
 use Rattle.records.proofs.listed_of.Statement.{statement}
 use Rattle.records.proofs.listed_of.Tie as tie

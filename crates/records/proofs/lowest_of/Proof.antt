@@ -1,7 +1,6 @@
 -- `records::lowest_of` meets its contract. Assumes nothing.
 use Rattle.records.specs.Owns.{lowest}
 use native.Mathlib.Omega.{arith}
-use mathlib.Core.Path.{_≡_, sym, _∙_, ap}
 use borrow.Author.Needs.{needs}
 use Rattle.records.proofs.lowest_of.Statement.{statement}
 use Rattle.records.proofs.lowest_of.Tie as tie

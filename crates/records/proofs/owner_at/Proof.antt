@@ -1,17 +1,9 @@
 -- `records::owner_at` meets its contract. Assumes nothing.
-use Rattle.records.specs.Owns.{ownerAt, number}
+use Rattle.records.specs.Owns.{ownerAt}
 use native.Mathlib.Omega.{arith}
-use mathlib.Core.Path.{_≡_, sym, _∙_, ap}
 use borrow.Author.Needs.{needs}
 use Rattle.records.proofs.owner_at.Statement.{statement}
 use Rattle.records.proofs.owner_at.Tie as tie
-use Rattle.records.proofs.owner_at.Reads as reads
-use Rattle.records.proofs.owner_at.Lts as lts
-use Rattle.plan.proofs.owner_at.Reads as owner-at-reads
-use Rattle.records.proofs.is_divided.Reads as is-divided-reads
-use Rattle.records.proofs.lowest_of.Reads as lowest-of-reads
-use Rattle.records.proofs.records_before.Reads as records-before-reads
-use Rattle.records.proofs.value_at.Reads as value-at-reads
 
 value-at-requires : tie.Need-value-at-requires
 value-at-requires c κs = search needs

@@ -1,16 +1,14 @@
 -- `records::owner_of` meets its contract. Assumes nothing.
-use Rattle.records.proofs.Owners.{before-next, found, nothing, found-left, in-most}
+use Rattle.records.proofs.Owners.{before-next, nothing, found-left, in-most}
 use Rattle.resource.proofs.Fields.{fields-most}
-use Rattle.resource.specs.Values.{fieldsOf}
-use Rattle.records.specs.Owns.{fieldsBefore, ownerAt, ownerOf}
-use Rattle.records.specs.Records.{inChannel}
+use Rattle.records.specs.Owns.{fieldsBefore}
 use Rattle.plan.specs.Guess.{onlyPlan}
 use Rattle.plan.specs.Plan.{at}
 use lib.ListN.{length}
 use borrow.Author.Needs.{needs}
-use Prim.Native.Nat.{ℕ, _+_, _-_, _≤_, _<_}
+use Prim.Native.Nat.{_+_, _-_, _≤_}
 use native.Mathlib.Omega.{arith}
-use mathlib.Core.Path.{_≡_, sym, _∙_, ap}
+use mathlib.Core.Path.{_≡_, sym, _∙_}
 use Rattle.records.proofs.owner_of.Statement.{statement}
 use Rattle.records.proofs.owner_of.Tie as tie
 

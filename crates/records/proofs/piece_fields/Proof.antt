@@ -1,6 +1,6 @@
 -- `records::piece_fields` meets its contract. Assumes nothing.
 use Rattle.records.specs.Records.{pieceFields}
-use mathlib.Core.Path.{_≡_, sym, _∙_, ap}
+use mathlib.Core.Path.{_∙_}
 use borrow.Author.Needs.{needs}
 use Rattle.records.proofs.piece_fields.Statement.{statement}
 use Rattle.records.proofs.piece_fields.Tie as tie

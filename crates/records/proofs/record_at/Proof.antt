@@ -1,7 +1,7 @@
 -- `records::record_at` meets its contract. Assumes nothing.
 use Rattle.records.proofs.Listing.{left-out}
 use native.Mathlib.Omega.{arith}
-use mathlib.Core.Path.{_≡_, sym, _∙_, ap}
+use mathlib.Core.Path.{_∙_}
 use borrow.Author.Needs.{needs}
 use Rattle.records.proofs.record_at.Statement.{statement}
 use Rattle.records.proofs.record_at.Tie as tie

@@ -3,11 +3,10 @@ use Rattle.records.proofs.Listing.{next-length, records-most}
 use Rattle.records.specs.Records.{recordsFrom}
 use Rattle.plan.specs.Guess.{onlyPlan}
 use Rattle.plan.specs.Plan.{at}
-use borrow.Author.Needs.{needs}
 use lib.ListN.{length}
-use Prim.Native.Nat.{ℕ, _+_, _-_, _*_, _≤_, _<_}
+use Prim.Native.Nat.{_-_, _≤_}
 use native.Mathlib.Omega.{arith}
-use mathlib.Core.Path.{_≡_, sym, _∙_, ap, refl}
+use mathlib.Core.Path.{_≡_, refl}
 use Rattle.records.proofs.records_before.Statement.{statement}
 use Rattle.records.proofs.records_before.Tie as tie
 

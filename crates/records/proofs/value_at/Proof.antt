@@ -1,7 +1,6 @@
 -- `records::value_at` meets its contract. Assumes nothing.
 use lib.ListN.{List·getD-eq-default}
-use native.Mathlib.Omega.{arith}
-use mathlib.Core.Path.{_≡_, sym, _∙_, ap}
+use mathlib.Core.Path.{sym}
 use borrow.Author.Needs.{needs}
 use Rattle.records.proofs.value_at.Statement.{statement}
 use Rattle.records.proofs.value_at.Tie as tie

@@ -1,16 +1,13 @@
 -- `resource::nth_start` meets its contract. The invariant: what is left to seek gives the same place. Assumes nothing.
-use mathlib.Core.Path.{_≡_, refl, sym, _∙_, ap}
+use mathlib.Core.Path.{_≡_, refl, sym, _∙_}
 use mathlib.Core.Logic.{⊎-elim}
-use Prim.Native.Nat.{ℕ, suc, _+_, _-_, _≤_, _<_}
+use Prim.Native.Nat.{_-_, _≤_}
 use native.Mathlib.Omega.{arith}
 use borrow.Author.Needs.{needs}
-use borrow.Author.Tests.{eqb-true, eqb-false}
 use Rattle.resource.specs.Starts.{nthFrom}
 use Rattle.resource.proofs.Starts.{found, passed, skipped, ended}
 use Rattle.resource.proofs.nth_start.Statement.{statement}
 use Rattle.resource.proofs.nth_start.Tie as tie
-use Rattle.resource.proofs.nth_start.Reads as reads
-use Rattle.resource.proofs.nth_start.Lts as lts
 
 abbrev Inv-loop : tie.InvT-loop
 Inv-loop m k left₀ bits₀ s₀ left bits s = (s ≤ 9) × (nthFrom bits left s (9 - s) ≡ nthFrom m k 0 9)

@@ -1,7 +1,6 @@
 -- `resource::piece_at` meets its contract. Assumes nothing.
 use Rattle.resource.proofs.Starts.{found-right}
-use Rattle.resource.specs.Starts.{nthFrom, pieceFrom}
-use mathlib.Core.Path.{_≡_, _∙_}
+use mathlib.Core.Path.{_∙_}
 use borrow.Author.Needs.{needs}
 use Rattle.resource.proofs.piece_at.Statement.{statement}
 use Rattle.resource.proofs.piece_at.Tie as tie

@@ -2,11 +2,11 @@
 use Rattle.resource.proofs.Test.{below-or}
 use Rattle.resource.specs.declared.Piece.the-variants.{Part}
 use Rattle.resource.specs.declared.Size.the-variants.{S52, S242}
-use Rattle.resource.specs.Starts.{noPiece, pieceFrom}
+use Rattle.resource.specs.Starts.{pieceFrom}
 use native.Mathlib.Omega.{arith}
 use Prim.Native.Nat.{ℕ, suc, _+_, _-_, _/_, _≤_, _<_}
-use mathlib.Core.Logic.{⊎-elim, inl, inr}
-use mathlib.Core.Path.{_≡_, sym, refl, _∙_}
+use mathlib.Core.Logic.{⊎-elim}
+use mathlib.Core.Path.{_≡_}
 use borrow.Author.Needs.{needs}
 use Rattle.resource.proofs.piece_from.Statement.{statement}
 use Rattle.resource.proofs.piece_from.Tie as tie

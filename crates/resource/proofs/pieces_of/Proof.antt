@@ -3,7 +3,7 @@ use Rattle.resource.proofs.Starts.{own-fields, own-whole}
 use Rattle.resource.proofs.Apart.{no-pieces}
 use Rattle.resource.specs.Values.{ownPieces, pieces}
 use native.Mathlib.Omega.{arith}
-use mathlib.Core.Path.{_≡_, sym, _∙_}
+use mathlib.Core.Path.{sym, _∙_}
 use borrow.Author.Needs.{needs}
 use Rattle.resource.proofs.pieces_of.Statement.{statement}
 use Rattle.resource.proofs.pieces_of.Tie as tie

@@ -1,10 +1,7 @@
 -- `resource::resource_at` meets its contract. Assumes nothing.
 use Rattle.resource.proofs.Starts.{place-most}
-use Rattle.resource.specs.Starts.{numberedOf, pieceAt}
 use Rattle.resource.specs.Index.{resourceAt}
 use native.Mathlib.Omega.{arith}
-use Prim.Native.Nat.{ℕ, _≤_}
-use mathlib.Core.Path.{_≡_, sym, _∙_, ap}
 use borrow.Author.Needs.{needs}
 use Rattle.resource.proofs.resource_at.Statement.{statement}
 use Rattle.resource.proofs.resource_at.Tie as tie

@@ -3,7 +3,7 @@ use Rattle.resource.proofs.Starts.{starts-high}
 use Rattle.resource.proofs.Test.{every-between, Missed, key-or, no-key}
 use Rattle.resource.specs.Starts.{starts}
 use Rattle.resource.specs.Values.{ownPieces, pieces}
-use lib.Dec.{T, eqb, eqb→eq}
+use lib.Dec.{eqb, eqb→eq}
 use native.Mathlib.Omega.{arith}
 use Prim.Native.Nat.{ℕ, _-_, _*_, _/_, _%_, _≤_, _<_}
 use mathlib.Core.List.{List, [], _∷_}
