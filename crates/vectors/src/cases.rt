@@ -1,15 +1,12 @@
 // The cases, by their letters: each has a function that prints its answer, given a line whose words are of its kinds.
+use crate::frames::read;
 use crate::print::bytes;
+use crate::print::no_case;
 use crate::print::number as print_number;
 use crate::print::text;
 use crate::words::has;
 use crate::words::number;
 use crate::words::string;
-
-// What answers a line that is no case.
-fn no_case() {
-    text(b"?");
-}
 
 fn print_bool(holds: bool) {
     if holds {
@@ -140,6 +137,12 @@ fn by_letter(line: &[u8], letter: u8) {
         b'k' => {
             if has(line, b"snn") {
                 block(line);
+                return;
+            }
+        }
+        b'R' => {
+            if has(line, b"nssn") {
+                read(line);
                 return;
             }
         }

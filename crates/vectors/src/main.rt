@@ -3,6 +3,7 @@
 // A case is a letter and its arguments, exactly one space before each: decimal numbers, and byte strings as pairs of
 // capital hex digits, `-` where empty. A line that is no case is answered by `?`.
 mod cases;
+mod frames;
 mod print;
 mod words;
 

@@ -1,5 +1,6 @@
 // What is written to standard output.
 use crate::words::lesser;
+use answer::Answer;
 use libc::STDOUT_FILENO;
 ghost use mathlib.Core.Path.{_≡_};
 ghost use Prim.Native.Nat.{_≤_, _%_};
@@ -8,6 +9,11 @@ ghost use Rattle.vectors.specs.Text.{glyphOf};
 
 pub fn text(s: &[u8]) {
     io::write_all(STDOUT_FILENO, s);
+}
+
+// What answers a line that is no case.
+pub fn no_case() {
+    text(b"?");
 }
 
 pub fn number(n: u64) {
@@ -45,4 +51,44 @@ pub fn bytes(s: &[u8]) {
     let mut space = io::large_buffer();
     let n = encode(s, &mut space);
     text(&space[..n]);
+}
+
+// What a call answers.
+pub fn answer(a: Answer) {
+    number(a.number as u64);
+    text(b" ");
+    number(a.channel as u64);
+    text(b" ");
+    number(a.place as u64);
+}
+
+// The hex digit of the lowest four bits of a word.
+fn nibble(w: u32) -> u8 {
+    glyph((w % 16) as u8)
+}
+
+// A space and the eight hex digits of a word.
+fn word(w: u32) {
+    let digits = [
+        b' ',
+        nibble(w >> 28),
+        nibble(w >> 24),
+        nibble(w >> 20),
+        nibble(w >> 16),
+        nibble(w >> 12),
+        nibble(w >> 8),
+        nibble(w >> 4),
+        nibble(w),
+    ];
+    text(&digits);
+}
+
+// The first 160 words.
+pub fn words(s: &[u32]) {
+    let n = lesser(s.len(), 160);
+    let mut i = 0;
+    while i < n {
+        word(s[i]);
+        i += 1;
+    }
 }
