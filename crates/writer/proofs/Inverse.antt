@@ -2,10 +2,10 @@
 --
 -- The user: "Writing those words gives the same channels back, padding zero, up to the end of the longer channel's last
 -- block. Words that no accepted pair of channels reads to are refused."
-use mathlib.Core.Path.{_≡_, refl, sym, _∙_, ap, subst}
+use mathlib.Core.Path.{_≡_, refl, sym, _∙_, ap}
 use mathlib.Core.Bool.{Bool, true, false, cond, not, _&&_}
 use mathlib.Core.List.{List, [], _∷_, _++_}
-use Prim.Native.Nat.{ℕ, _+_, _*_, _/_, _%_, _^_, _≤_, _<_}
+use Prim.Native.Nat.{ℕ, _*_, _/_, _≤_, _<_}
 use native.Mathlib.Omega.{arith}
 use lib.Dec.{ltb}
 use lib.ListN.{length, getD, take, drop, List·getD-append}
@@ -13,8 +13,8 @@ use lib.Seq.{take-at, drop-at}
 use borrow.Author.Tests.{le-ltb}
 use denote.Ref.{now}
 use Rattle.answer.specs.Answer as A
-use Rattle.answer.specs.Answer.{refuseIf, _or_, answerAt, after}
-use Rattle.answer.specs.Order.{Applies, pass-left, pass-right, or-pass, pass-if, if-pass, if-refuse, pass-not-refuse}
+use Rattle.answer.specs.Answer.{refuseIf, answerAt, after}
+use Rattle.answer.specs.Order.{Applies, pass-left, pass-right, or-pass, pass-if, if-pass, pass-not-refuse}
 use Rattle.answer.specs.declared.Answer.{Answer}
 use Rattle.answer.specs.declared.Out.{Out}
 use Rattle.answer.specs.declared.Out.the-variants.{Pass, Refuse}

@@ -1,6 +1,6 @@
 -- The candidate carries what was put into it, with every check and tail right, and is zero past its end. Assumes nothing.
 use Prim.Native.Nat.{ℕ, zero, suc, _+_, _-_, _*_, _/_, _%_, _^_, _≤_, _<_}
-use mathlib.Core.Path.{_≡_, refl, sym, _∙_, ap}
+use mathlib.Core.Path.{_≡_, refl, sym, _∙_}
 use mathlib.Core.Logic.{⊎-elim}
 use mathlib.Core.Bool.{Bool, true, false, cond}
 use mathlib.Core.List.{List}
@@ -8,16 +8,14 @@ use native.Mathlib.Decide.{decLt}
 use native.Mathlib.Nat.{eq-or-lt-of-le, mod-eq-of-lt, zero-div, zero-mod}
 use native.Mathlib.Omega.{arith}
 use lib.Dec.{ltb}
-use lib.ListN.{length, getD, replicate, length-replicate}
-use borrow.Author.Tests.{ltb-true, ltb-false, lt-ltb, le-ltb}
+use lib.ListN.{length}
 use Rattle.bits.specs.Bits.{bit, field, put}
-use Rattle.bits.specs.Fields.{field-of, field-ext, bit-end}
+use Rattle.bits.specs.Fields.{field-of, field-ext}
 use Rattle.bits.specs.Writes.{put-length, put-before, put-after, field-put}
 use Rattle.check4.specs.Check.{check}
 use Rattle.check4.specs.Checks.{Right, check-lt, check-ext, right-says, says-right, right-ext}
 use Rattle.channel.specs.Layout.{firsts, firstBits, secondAt, secondBits, hasSecond, common, subfields, valueAt, value, userAt, blockAt, blocks, covered, endOf}
-use Rattle.channel.specs.Laws.{first-inside, second-inside, common-ge, value-first, value-second, value-inside, values-apart, users-apart, user-after, user-inside, user-end, blocks-apart, block-after, block-inside, covered-le, end-after}
-use Rattle.channel.specs.Passing.{CommonRight}
+use Rattle.channel.specs.Laws.{first-inside, second-inside, common-ge, value-first, value-second, value-inside, values-apart, users-apart, user-after, user-inside, user-end, block-after, block-inside, covered-le, end-after}
 use Rattle.writer.specs.Candidate.{puts, seal, sealSecond, sealBlocks, payload, sealed}
 use Rattle.writer.specs.Carries.{Carries}
 

@@ -2,8 +2,8 @@
 --
 -- Every bit of a channel up to its end is in the words, or is a check or a tail (01, "Bandwidth and channels"); so the
 -- words give the channels, whatever words they are, and whether these read back to the words is 13's question.
-use Prim.Native.Nat.{ℕ, zero, suc, _+_, _-_, _*_, _/_}
-use mathlib.Core.Bool.{Bool, cond}
+use Prim.Native.Nat.{ℕ, zero, suc, _+_, _/_}
+use mathlib.Core.Bool.{cond}
 use mathlib.Core.List.{List}
 use lib.Dec.{eqb, ltb}
 use lib.ListN.{replicate}

@@ -1,5 +1,5 @@
 -- What a channel carries up to its end, and that this says all of its bits. Assumes nothing.
-use Prim.Native.Nat.{ℕ, zero, suc, _+_, _-_, _*_, _/_, _%_, _≤_, _<_}
+use Prim.Native.Nat.{ℕ, zero, suc, _+_, _-_, _*_, _/_, _%_, _<_}
 use mathlib.Core.Path.{_≡_, refl, sym, _∙_, ap}
 use mathlib.Core.Bool.{Bool, true, false, cond}
 use mathlib.Core.List.{List}
@@ -13,7 +13,7 @@ use Rattle.bits.specs.Fields.{field-same}
 use Rattle.check4.specs.Check.{check}
 use Rattle.check4.specs.Checks.{Right, check-ext}
 use Rattle.channel.specs.Layout.{firsts, seconds, firstBits, secondAt, secondBits, hasSecond, common, subfields, valueAt, value, userAt, blockAt, blocks, covered, endOf}
-use Rattle.channel.specs.Laws.{value-first, value-second, second-inside, user-even, user-odd}
+use Rattle.channel.specs.Laws.{value-first, value-second, user-even, user-odd}
 use Rattle.channel.specs.Passing.{CommonRight}
 use Rattle.channel.specs.Padding.{Same}
 

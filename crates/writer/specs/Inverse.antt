@@ -1,10 +1,9 @@
 -- The candidate is the inverse of reading: channels that are accepted are the candidate of their words up to their ends,
 -- so words are read back from the candidate exactly where any channels read to them. Assumes nothing.
-use Prim.Native.Nat.{ℕ, zero, suc, _+_, _-_, _*_, _/_, _%_, _^_, _≤_, _<_}
+use Prim.Native.Nat.{ℕ, zero, suc, _+_, _*_, _/_, _%_, _^_, _≤_, _<_}
 use mathlib.Core.Path.{_≡_, refl, sym, _∙_, ap, subst}
 use mathlib.Core.Bool.{Bool, true, false, cond, not, _&&_}
 use mathlib.Core.List.{List}
-use native.Mathlib.Decide.{decLt}
 use native.Mathlib.Nat.{mod-eq-of-lt, zero-div}
 use native.Mathlib.Omega.{arith}
 use lib.Dec.{eqb, ltb}
@@ -12,7 +11,7 @@ use lib.ListN.{length, getD, take, replicate, length-replicate}
 use lib.Seq.{ext-getD, getD-take}
 use borrow.Author.Tests.{ltb-true, ltb-false, eqb-true, eq-eqb, not-false}
 use Rattle.answer.specs.Answer.{passes}
-use Rattle.answer.specs.Order.{firstOf, first-pass, pass-first, pass-left, pass-right, pass-if, passes-true}
+use Rattle.answer.specs.Order.{first-pass, pass-first, pass-left, pass-right, pass-if, passes-true}
 use Rattle.answer.specs.Least.{least, least-none, least-all}
 use Rattle.answer.specs.declared.Out.the-variants.{Pass}
 use Rattle.bits.specs.Bits.{bit, field}
@@ -20,18 +19,18 @@ use Rattle.bits.specs.Fields.{field-lt}
 use Rattle.check4.specs.Checks.{Right}
 use Rattle.resource.specs.Values.{fieldsOf}
 use Rattle.resource.proofs.Fields.{fields-most}
-use Rattle.channel.specs.Layout.{positions, present, overflow, subfields, subfieldsIn, value, rowAt, total, count, userAt, blockAt, blocks, covered, endOf}
+use Rattle.channel.specs.Layout.{present, overflow, subfields, subfieldsIn, value, count, userAt, blockAt, blocks, covered, endOf}
 use Rattle.channel.specs.Checks.{wrongCommon, wrongUsers}
 use Rattle.channel.specs.Laws.{present-1, subfields-le, subfieldsIn-le, total-cong, total-le, value-lt, end-le}
 use Rattle.channel.specs.Passing.{CommonRight, wrongCommon-pass, overflowDiffers-pass, wrongUsers-pass}
 use Rattle.channel.specs.Padding.{Same}
 use Rattle.words.specs.Words.{nth}
-use Rattle.words.specs.Back.{overflowOf, valueOf, userField}
+use Rattle.words.specs.Back.{valueOf, userField}
 use Rattle.reader.specs.Table.{check1, check4, check5, check10, eleven, readable}
-use Rattle.reader.specs.Words.{positionOf, wordsOf}
-use Rattle.reader.specs.Padding.{Other, Agree, Nine, readable-same, words-same}
+use Rattle.reader.specs.Words.{wordsOf}
+use Rattle.reader.specs.Padding.{Agree, Nine, readable-same, words-same}
 use Rattle.reader.specs.Determine.{overflow-back, value-back, user-back-1, user-back-2, place-1, place-2, value-1, value-2}
-use Rattle.writer.specs.Candidate.{payload, sealed, overflowIn, valueIn, countIn, firstIn, fieldIn, larger, bytesFor, needed, bytesIn, channelIn, candidate}
+use Rattle.writer.specs.Candidate.{overflowIn, valueIn, countIn, firstIn, fieldIn, larger, bytesFor, needed, bytesIn, channelIn, candidate}
 use Rattle.writer.specs.Result.{unlike, sameWords, readsTo}
 use Rattle.writer.specs.Carries.{Carries, determined}
 use Rattle.writer.specs.Built.{sealed-carries, sealed-zero, sealed-length}

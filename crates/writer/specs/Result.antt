@@ -1,7 +1,7 @@
 -- What a call of the writer gives: its answer, and both lent channels afterwards. Assumes nothing.
-use Prim.Native.Nat.{ℕ, _+_}
+use Prim.Native.Nat.{ℕ}
 use mathlib.Core.Bool.{Bool, not, _&&_}
-use mathlib.Core.List.{List, [], _∷_, _++_}
+use mathlib.Core.List.{List, _++_}
 use lib.Dec.{eqb, ltb}
 use lib.ListN.{length, drop}
 use Rattle.answer.specs.Answer.{no, refuseIf, _or_, answerAt, after, passes}

@@ -6,7 +6,7 @@ use mathlib.Core.List.{List, _∷_, _++_}
 use native.Mathlib.Numerals.{add-one}
 use native.Mathlib.Omega.{arith}
 use lib.Dec.{eqb, ltb}
-use lib.ListN.{length, getD, take, drop, replicate, length-replicate}
+use lib.ListN.{length, take, drop, replicate, length-replicate}
 use lib.Seq.{take-at}
 use borrow.Author.Tests.{eq-eqb, ne-eqb, ltb-false}
 use Rattle.answer.specs.Answer as A
@@ -15,7 +15,7 @@ use Rattle.answer.specs.Order.{pass-left, pass-right, pass-if}
 use Rattle.answer.specs.declared.Answer.{Answer}
 use Rattle.answer.specs.declared.Out.{Out}
 use Rattle.answer.specs.declared.Out.the-variants.{Pass, Refuse}
-use Rattle.answer.specs.Filled.{build, filled, build-is}
+use Rattle.answer.specs.Filled.{filled, build-is}
 use Rattle.bits.specs.Bits.{put}
 use Rattle.channel.specs.Layout.{present, firstBits, subfieldsIn, valueAt, userAt, blockAt, blocks, covered}
 use Rattle.channel.specs.Laws.{present-1, count-le}

@@ -1,9 +1,6 @@
 -- `writer::bytes_for` meets its contract. Assumes nothing.
 use Rattle.writer.specs.Candidate.{bytesFor, larger}
-use Rattle.channel.specs.Layout.{endOf}
 use borrow.Author.Tests.{lt-ltb, le-ltb}
-use mathlib.Core.Path.{_≡_, refl, sym, _∙_, ap}
-use Prim.Native.Nat.{ℕ, _+_, _-_, _*_, _/_, _%_, _≤_, _<_}
 use native.Mathlib.Omega.{arith}
 use borrow.Author.Needs.{needs}
 use Rattle.writer.proofs.bytes_for.Statement.{statement}

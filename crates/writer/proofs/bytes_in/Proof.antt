@@ -1,5 +1,5 @@
 -- `writer::bytes_in` meets its contract. Assumes nothing.
-use mathlib.Core.Path.{_≡_, refl, sym, _∙_, ap}
+use mathlib.Core.Path.{sym, _∙_}
 use borrow.Author.Needs.{needs}
 use Rattle.writer.proofs.bytes_in.Statement.{statement}
 use Rattle.writer.proofs.bytes_in.Tie as tie

@@ -4,8 +4,8 @@ use Rattle.channel.specs.Laws.{total-next}
 use Rattle.channel.specs.Layout.{total}
 use Rattle.resource.proofs.Fields.{fields-most}
 use Rattle.resource.specs.Values.{fieldsOf}
-use mathlib.Core.Path.{_≡_, refl, sym, _∙_, ap}
-use Prim.Native.Nat.{ℕ, _+_, _-_, _*_, _/_, _%_, _≤_, _<_}
+use mathlib.Core.Path.{_≡_, refl, _∙_, ap}
+use Prim.Native.Nat.{ℕ, _-_, _*_, _≤_}
 use native.Mathlib.Omega.{arith}
 use borrow.Author.Needs.{needs}
 use Rattle.writer.proofs.count_in.Statement.{statement}

@@ -1,7 +1,7 @@
 -- `writer::covered_bits` meets its contract. Assumes nothing.
 use Rattle.channel.specs.Layout.{covered}
 use borrow.Author.Tests.{lt-ltb, le-ltb}
-use Prim.Native.Nat.{ℕ, _+_, _-_, _*_, _/_, _%_, _≤_, _<_}
+use Prim.Native.Nat.{_+_, _*_}
 use borrow.Author.Needs.{needs}
 use Rattle.writer.proofs.covered_bits.Statement.{statement}
 use Rattle.writer.proofs.covered_bits.Tie as tie

@@ -1,7 +1,7 @@
 -- `writer::fill` meets its contract. Assumes nothing.
 use Rattle.writer.specs.Steps.{channel-steps}
 use Rattle.words.specs.Back.{overflowOf}
-use mathlib.Core.Path.{_≡_, refl, sym, _∙_, ap}
+use mathlib.Core.Path.{_∙_, ap}
 use borrow.Author.Needs.{needs}
 use Rattle.writer.proofs.fill.Statement.{statement}
 use Rattle.writer.proofs.fill.Tie as tie

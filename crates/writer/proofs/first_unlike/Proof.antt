@@ -3,8 +3,8 @@ use Rattle.writer.specs.Steps.{unlike-yes, unlike-no}
 use Rattle.writer.specs.Result.{unlike}
 use Rattle.answer.specs.Least.{least, least-start, least-step, least-stop, least-end}
 use lib.ListN.{length}
-use mathlib.Core.Path.{_≡_, refl, sym, _∙_, ap}
-use Prim.Native.Nat.{ℕ, _+_, _-_, _*_, _/_, _%_, _≤_, _<_}
+use mathlib.Core.Path.{_≡_, sym}
+use Prim.Native.Nat.{_-_, _≤_}
 use native.Mathlib.Omega.{arith}
 use borrow.Author.Needs.{needs}
 use Rattle.writer.proofs.first_unlike.Statement.{statement}

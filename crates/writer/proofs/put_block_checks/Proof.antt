@@ -5,9 +5,8 @@ use Rattle.writer.specs.Candidate.{sealBlocks}
 use Rattle.channel.specs.Laws.{common-le, user-even}
 use Rattle.channel.specs.Layout.{userAt, blocks}
 use lib.ListN.{length}
-use mathlib.Core.List.{List}
-use mathlib.Core.Path.{_≡_, refl, sym, _∙_, ap}
-use Prim.Native.Nat.{ℕ, _+_, _-_, _*_, _/_, _%_, _≤_, _<_}
+use mathlib.Core.Path.{_≡_, refl, _∙_, ap}
+use Prim.Native.Nat.{ℕ, _+_, _-_, _/_, _≤_}
 use native.Mathlib.Omega.{arith}
 use borrow.Author.Needs.{needs}
 use Rattle.writer.proofs.put_block_checks.Statement.{statement}

@@ -1,7 +1,6 @@
 -- `writer::put_check` meets its contract. Assumes nothing.
 use Rattle.writer.specs.Candidate.{seal}
-use mathlib.Core.Path.{_≡_, refl, sym, _∙_, ap}
-use Prim.Native.Nat.{ℕ, _+_, _-_, _*_, _/_, _%_, _≤_, _<_}
+use mathlib.Core.Path.{_∙_}
 use borrow.Author.Needs.{needs}
 use Rattle.writer.proofs.put_check.Statement.{statement}
 use Rattle.writer.proofs.put_check.Tie as tie

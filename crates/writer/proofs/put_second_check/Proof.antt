@@ -1,8 +1,7 @@
 -- `writer::put_second_check` meets its contract. Assumes nothing.
 use Rattle.writer.specs.Candidate.{sealSecond}
 use Rattle.channel.specs.Layout.{secondAt}
-use mathlib.Core.Path.{_≡_, refl, sym, _∙_, ap}
-use Prim.Native.Nat.{ℕ, _+_, _-_, _*_, _/_, _%_, _≤_, _<_}
+use mathlib.Core.Path.{sym, _∙_}
 use borrow.Author.Needs.{needs}
 use Rattle.writer.proofs.put_second_check.Statement.{statement}
 use Rattle.writer.proofs.put_second_check.Tie as tie

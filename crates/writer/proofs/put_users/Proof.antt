@@ -7,9 +7,8 @@ use Rattle.words.specs.Words.{nth}
 use Rattle.channel.specs.Laws.{common-le}
 use Rattle.channel.specs.Layout.{userAt}
 use lib.ListN.{length}
-use mathlib.Core.List.{List}
-use mathlib.Core.Path.{_≡_, refl, sym, _∙_, ap}
-use Prim.Native.Nat.{ℕ, _+_, _-_, _*_, _/_, _%_, _≤_, _<_}
+use mathlib.Core.Path.{_≡_, refl, _∙_, ap}
+use Prim.Native.Nat.{ℕ, _+_, _-_, _≤_}
 use native.Mathlib.Omega.{arith}
 use borrow.Author.Needs.{needs}
 use Rattle.writer.proofs.put_users.Statement.{statement}

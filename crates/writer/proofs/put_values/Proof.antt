@@ -5,9 +5,8 @@ use Rattle.writer.specs.Candidate.{puts, valueIn}
 use Rattle.channel.specs.Laws.{value-inside, subfieldsIn-le, common-le}
 use Rattle.channel.specs.Layout.{valueAt}
 use lib.ListN.{length}
-use mathlib.Core.List.{List}
-use mathlib.Core.Path.{_≡_, refl, sym, _∙_, ap}
-use Prim.Native.Nat.{ℕ, _+_, _-_, _*_, _/_, _%_, _≤_, _<_}
+use mathlib.Core.Path.{_≡_, refl, _∙_, ap}
+use Prim.Native.Nat.{ℕ, _+_, _-_, _≤_}
 use native.Mathlib.Omega.{arith}
 use borrow.Author.Needs.{needs}
 use Rattle.writer.proofs.put_values.Statement.{statement}

@@ -3,7 +3,7 @@ use Rattle.writer.specs.Steps.{reads-no, reads-yes, word-count-le, words
 use Rattle.writer.specs.Inverse.{accepted-known}
 use Rattle.reader.specs.Determine.{words-length}
 use lib.ListN.{length}
-use mathlib.Core.Path.{_≡_, refl, sym, _∙_, ap}
+use mathlib.Core.Path.{sym, _∙_, ap}
 use borrow.Author.Needs.{needs}
 use Rattle.writer.proofs.reads_to.Statement.{statement}
 use Rattle.writer.proofs.reads_to.Tie as tie

@@ -2,8 +2,7 @@
 use Rattle.writer.specs.Result.{sameWords}
 use borrow.Author.Tests.{eq-eqb, ne-eqb}
 use lib.ListN.{length}
-use mathlib.Core.Path.{_≡_, refl, sym, _∙_, ap}
-use Prim.Native.Nat.{ℕ, _+_, _-_, _*_, _/_, _%_, _≤_, _<_}
+use mathlib.Core.Path.{sym}
 use borrow.Author.Needs.{needs}
 use Rattle.writer.proofs.same_words.Statement.{statement}
 use Rattle.writer.proofs.same_words.Tie as tie

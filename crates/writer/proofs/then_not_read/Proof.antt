@@ -1,7 +1,7 @@
 -- `writer::then_not_read` meets its contract. Assumes nothing.
 use Rattle.writer.specs.Result.{notRead}
 use Rattle.answer.specs.Answer.{_or_}
-use mathlib.Core.Path.{_≡_, refl, sym, _∙_, ap}
+use mathlib.Core.Path.{_∙_}
 use borrow.Author.Needs.{needs}
 use Rattle.writer.proofs.then_not_read.Statement.{statement}
 use Rattle.writer.proofs.then_not_read.Tie as tie

@@ -1,8 +1,7 @@
 -- `writer::value_in` meets its contract. Assumes nothing.
 use Rattle.writer.specs.Steps.{value-of-lt}
 use Rattle.writer.specs.Candidate.{valueIn}
-use mathlib.Core.Path.{_≡_, refl, sym, _∙_, ap}
-use Prim.Native.Nat.{ℕ, _+_, _-_, _*_, _/_, _%_, _≤_, _<_}
+use Prim.Native.Nat.{_<_}
 use native.Mathlib.Omega.{arith}
 use borrow.Author.Needs.{needs}
 use Rattle.writer.proofs.value_in.Statement.{statement}

@@ -1,6 +1,6 @@
 -- `writer::word_at` meets its contract. Assumes nothing.
 use lib.ListN.{getD, List·getD-eq-default}
-use mathlib.Core.Path.{_≡_, refl, sym, _∙_, ap}
+use mathlib.Core.Path.{_≡_, sym}
 use native.Mathlib.Omega.{arith}
 use borrow.Author.Needs.{needs}
 use Rattle.writer.proofs.word_at.Statement.{statement}
