@@ -1,16 +1,44 @@
--- The runs that the program holds have the text of the resource's. Assumes nothing.
-use mathlib.Core.Path.{_≡_, ap, _∙_}
-use Prim.Native.Nat.{ℕ}
-use lib.ListN.{length, getD}
+-- The runs and the plan that the program holds have the text of the resource's and of the row's. Assumes nothing.
+use mathlib.Core.Path.{_≡_, refl, ap, _∙_}
+use mathlib.Core.List.{List, [], _++_}
+use Prim.Native.Nat.{ℕ, _*_, _≤_, _<_}
+use native.Mathlib.Omega.{arith}
+use lib.ListN.{length, getD, drop, replicate, length-append, length-drop, length-replicate, List·getD-append}
 use Rattle.text.specs.Laws.{upto-cong}
 use Rattle.resource.specs.declared.Resource.{Resource}
 use Rattle.resource.specs.declared.Run.{Run}
 use Rattle.resource.specs.Runs.{spanOf, runsOf, noRun, held}
 use Rattle.resource.proofs.Held.{runs-few, held-at}
+use Rattle.plan.specs.Plan.{at}
+use Rattle.plan.specs.Guess.{onlyPlan}
+use Rattle.records.specs.declared.Record.{Record}
+use Rattle.records.specs.Records.{planOf, blank}
+use Rattle.records.proofs.Listing.{records-most}
 use Rattle.listing.specs.Lines.{spanText, tonesText, heldText}
+use Rattle.listing.specs.Listing.{recordLine, resources, ruLines, planLines}
 
 pub held-text : (n g : ℕ) (r : Resource) → heldText n (held (runsOf n g r)) ≡ tonesText n (runsOf n g r)
 unfolding heldText tonesText held
 held-text n g r =
     upto-cong _ _ (length (runsOf n g r))
     (λ i h. ap (λ (x : Run). spanText i (spanOf n x)) (held-at (runsOf n g r) i (runs-few n g r) h))
+
+-- a row of sixteen positions has at most 144 resources
+pub resources-few : (r : List ℕ) → length r ≤ 16 → length (resources r) ≤ 144
+resources-few r l = omega (arith, records-most (onlyPlan (at r)) (at r) (length r))
+
+pub plan-count : (rs : List Record) → planOf rs .count ≡ length rs
+unfolding planOf
+plan-count rs = refl
+
+pub plan-room : (rs : List Record) → length rs ≤ 144 → length (planOf rs .records) ≡ 144
+unfolding planOf
+plan-room rs l =
+    length-append rs (drop (length rs) (replicate 144 blank))
+    ∙ omega (arith, length-drop (length rs) (replicate 144 blank), length-replicate 144 blank)
+
+pub plan-lines : (n : ℕ) (rs : List Record) → planLines n (planOf rs) ≡ ruLines n rs
+unfolding planLines ruLines planOf
+plan-lines n rs =
+    upto-cong _ _ (length rs)
+    (λ i h. ap (recordLine n) (List·getD-append rs (drop (length rs) (replicate 144 blank)) blank i h))

@@ -1,1 +1,3 @@
 pub mod Held
+pub mod Owner
+pub mod Outcome

@@ -1,7 +1,7 @@
 -- The lines of a listing (01, "Listing"), as bytes. Assumes nothing.
 use mathlib.Core.Bool.{cond}
 use mathlib.Core.List.{List, [], _∷_, _++_}
-use Prim.Native.Nat.{ℕ}
+use Prim.Native.Nat.{ℕ, _+_}
 use lib.Dec.{eqb}
 use lib.ListN.{length, getD}
 use Rattle.text.specs.Text.{codes, dec, signed, upto}
@@ -80,7 +80,7 @@ unfoldable pub refusalText : ℕ → ℕ → ℕ → List ℕ
 refusalText number channel place =
     line (codes "answer=") number ++ line (codes "channel=") channel ++ line (codes "place=") place
 
--- the lines of a listing before its resources
+-- the lines of a listing before its resources: "Stations counts User fields"
 unfoldable pub headText : ℕ → ℕ → ℕ → ℕ → List ℕ
 headText bw resources fields1 fields2 =
     line (codes "answer=") 0
@@ -88,3 +88,4 @@ headText bw resources fields1 fields2 =
     ++ line (codes "resources=") resources
     ++ line (codes "fields1=") fields1
     ++ line (codes "fields2=") fields2
+    ++ line (codes "stations=") (fields1 + fields2)

@@ -120,7 +120,7 @@ fn put_tones(out: &mut [u8], at: usize, t: Tones, n: u16) -> usize
     o
 }
 
-fn put_ru_head(out: &mut [u8], at: usize, g: u16, r: Resource, users: u16) -> usize
+fn put_ru_head(out: &mut [u8], at: usize, g: u16, r: Resource, users: u64) -> usize
     requires { ⌜ at ≤ 60000 ⌝ }
     ensures { λ e. ⌜ Wrote (now (out .entry)) at (ruHead g r users) (now (out .exit)) e ⌝ }
     ensures bounded { λ e. ⌜ e ≤ at + 100 ⌝ }
@@ -129,11 +129,11 @@ fn put_ru_head(out: &mut [u8], at: usize, g: u16, r: Resource, users: u16) -> us
     let b = put_name(out, a, r);
     let c = put_key(out, b, b" index=", number_of(r) as u64);
     let d = put_key(out, c, b" segment=", g as u64);
-    put_key(out, d, b" users=", users as u64)
+    put_key(out, d, b" users=", users)
 }
 
 // The line of a resource of segment g, with so many User fields, in a channel of n positions.
-pub fn put_ru(out: &mut [u8], at: usize, n: u16, g: u16, r: Resource, users: u16) -> usize
+pub fn put_ru(out: &mut [u8], at: usize, n: u16, g: u16, r: Resource, users: u64) -> usize
     requires { ⌜ at ≤ 59000 ⌝ }
     ensures { λ e. ⌜ Wrote (now (out .entry)) at (ruLine n g r users) (now (out .exit)) e ⌝ }
     ensures bounded { λ e. ⌜ e ≤ at + 240 ⌝ }
@@ -146,7 +146,7 @@ pub fn put_ru(out: &mut [u8], at: usize, n: u16, g: u16, r: Resource, users: u16
 }
 
 // The line of a station.
-pub fn put_sta(out: &mut [u8], at: usize, id: u16, resource: usize) -> usize
+pub fn put_sta(out: &mut [u8], at: usize, id: u32, resource: usize) -> usize
     requires { ⌜ at ≤ 60000 ⌝ }
     ensures { λ r. ⌜ Wrote (now (out .entry)) at (staLine id resource) (now (out .exit)) r ⌝ }
     ensures bounded { λ r. ⌜ r ≤ at + 55 ⌝ }
@@ -167,6 +167,7 @@ pub fn put_refusal(out: &mut [u8], number: u32, channel: u32, place: usize) -> u
 
 // The lines before the resources.
 pub fn put_head(out: &mut [u8], bw: u32, resources: usize, fields1: usize, fields2: usize) -> usize
+    requires { ⌜ (fields1 ≤ 72) × (fields2 ≤ 72) ⌝ }
     ensures { λ r. ⌜ Wrote (now (out .entry)) 0 (headText bw resources fields1 fields2) (now (out .exit)) r ⌝ }
     ensures bounded { λ r. ⌜ r ≤ 200 ⌝ }
 {
@@ -174,5 +175,6 @@ pub fn put_head(out: &mut [u8], bw: u32, resources: usize, fields1: usize, field
     let b = put_line(out, a, b"bw=", bw as u64);
     let c = put_line(out, b, b"resources=", resources as u64);
     let d = put_line(out, c, b"fields1=", fields1 as u64);
-    put_line(out, d, b"fields2=", fields2 as u64)
+    let e = put_line(out, d, b"fields2=", fields2 as u64);
+    put_line(out, e, b"stations=", (fields1 + fields2) as u64)
 }

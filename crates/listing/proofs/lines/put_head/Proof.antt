@@ -40,22 +40,34 @@ slice-aggregate-put-line-4 c = search needs
 put-line-requires-4 : tie.Need-put-line-requires-4
 put-line-requires-4 c κs = search needs
 
--- src/lines.rt:174:22
+-- src/lines.rt:174:30
 slice-aggregate-put-line-5 : tie.Need-slice-aggregate-put-line-5
 slice-aggregate-put-line-5 c = search needs
 
--- src/lines.rt:174:5
+-- src/lines.rt:174:9
 put-line-requires-5 : tie.Need-put-line-requires-5
 put-line-requires-5 c κs = search needs
 
--- src/lines.rt:166:1
+-- src/lines.rt:175:22
+slice-aggregate-put-line-6 : tie.Need-slice-aggregate-put-line-6
+slice-aggregate-put-line-6 c = search needs
+
+-- src/lines.rt:175:37
+add-put-line : tie.Need-add-put-line
+add-put-line c = search needs
+
+-- src/lines.rt:175:5
+put-line-requires-6 : tie.Need-put-line-requires-6
+put-line-requires-6 c κs = search needs
+
+-- src/lines.rt:165:1
 same-length : tie.Need-same-length
 same-length c = search needs
 
--- src/lines.rt:166:1
+-- src/lines.rt:165:1
 returns : tie.Need-returns
 unfolding headText
-returns c = (after (after (after (after (c .before .before .before .before .before .before .before .before .before .before .before .before .before .before .before .before .before .before .before .before .before .before .put-line .ensures .0) (c .before .before .before .before .before .before .before .before .before .before .before .before .before .before .before .before .before .put-line2 .ensures .0)) (c .before .before .before .before .before .before .before .before .before .before .before .before .put-line3 .ensures .0)) (c .before .before .before .before .before .before .before .put-line4 .ensures .0)) (c .before .before .put-line5 .ensures .0), omega arith)
+returns c = (after (after (after (after (after (c .before .before .before .before .before .before .before .before .before .before .before .before .before .before .before .before .before .before .before .before .before .before .before .before .before .before .before .put-line .ensures .0) (c .before .before .before .before .before .before .before .before .before .before .before .before .before .before .before .before .before .before .before .before .before .before .put-line2 .ensures .0)) (c .before .before .before .before .before .before .before .before .before .before .before .before .before .before .before .before .before .put-line3 .ensures .0)) (c .before .before .before .before .before .before .before .before .before .before .before .before .put-line4 .ensures .0)) (c .before .before .before .before .before .before .before .put-line5 .ensures .0)) (c .before .before .put-line6 .ensures .0), omega arith)
 
 pub put-head-spec : {M : Type 1} → statement M
 put-head-spec =
@@ -71,5 +83,8 @@ put-head-spec =
     put-line-requires-4
     slice-aggregate-put-line-5
     put-line-requires-5
+    slice-aggregate-put-line-6
+    add-put-line
+    put-line-requires-6
     same-length
     returns)

@@ -1,0 +1,46 @@
+-- What each way through `list` comes to. Assumes nothing.
+use mathlib.Core.Path.{_≡_, refl, sym, ap, _∙_}
+use mathlib.Core.List.{List, [], _++_}
+use Prim.Native.Nat.{ℕ, _≤_, _<_}
+use native.Mathlib.Omega.{arith}
+use borrow.Author.Tests.{lt-ltb, le-ltb}
+use lib.ListN.{length, drop}
+use Rattle.answer.specs.Answer.{no, _or_}
+use Rattle.answer.specs.Order.{pass-left}
+use Rattle.answer.specs.declared.Answer.{Answer}
+use Rattle.answer.specs.declared.Out.the-variants.{Pass, Refuse}
+use Rattle.text.specs.Text.{Wrote}
+use Rattle.text.specs.Laws.{dry, count, front}
+use Rattle.reader.specs.Table.{readable}
+use Rattle.reader.specs.Stages.{readable-stages, common-pass}
+use Rattle.listing.specs.Listing.{listing, check23, listable, listAnswer, listAfter}
+
+pub known-code : (bw : ℕ) (a b : List ℕ) → readable bw a b ≡ Pass → bw ≤ 4
+known-code bw a b e =
+    common-pass bw a b (pass-left _ _ (pass-left _ _ (sym (readable-stages bw a b) ∙ e))) .known
+
+module _ (bw : ℕ) (a b d : List ℕ) where
+  pub refused-by : (x : Answer) → readable bw a b ≡ Refuse x → (x ≡ listAnswer bw a b (length d)) × (d ≡ listAfter bw a b d)
+  unfolding listAnswer listAfter listable _or_
+  refused-by x e = (rw e, rw e)
+
+  pub too-short : {e : List ℕ} {n : ℕ} → readable bw a b ≡ Pass → Wrote [] 0 (listing bw a b) e n → length (e ++ d) < n
+      → (no 23 0 n ≡ listAnswer bw a b (length d)) × (e ++ d ≡ listAfter bw a b d)
+  unfolding listAnswer listAfter listable check23 _or_
+  too-short {e} {n} p w h =
+      let z : e ≡ [] = dry w in
+      let k : n ≡ length (listing bw a b) = count w in
+      let h′ : length d < n = rw z at h in
+      let l : length d < length (listing bw a b) = omega arith in
+      (rw (p, lt-ltb (length d) (length (listing bw a b)) l) (ap (no 23 0) k), rw (z, p, lt-ltb (length d) (length (listing bw a b)) l))
+
+  pub listed : {e f : List ℕ} {n r : ℕ} → readable bw a b ≡ Pass → Wrote [] 0 (listing bw a b) e n → n ≤ length (e ++ d) → Wrote (e ++ d) 0 (listing bw a b) f r
+      → (no 0 0 r ≡ listAnswer bw a b (length d)) × (f ≡ listAfter bw a b d)
+  unfolding listAnswer listAfter listable check23 _or_
+  listed {e} {f} {n} {r} p w h v =
+      let z : e ≡ [] = dry w in
+      let k : n ≡ length (listing bw a b) = count w in
+      let h′ : n ≤ length d = rw z at h in
+      let l : length (listing bw a b) ≤ length d = omega arith in
+      let v′ : Wrote d 0 (listing bw a b) f r = rw z at v in
+      (rw (p, le-ltb (length d) (length (listing bw a b)) l) (ap (no 0 0) (count v′)), rw (p, le-ltb (length d) (length (listing bw a b)) l) (front l v′))

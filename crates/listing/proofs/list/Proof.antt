@@ -1,0 +1,84 @@
+use native.Mathlib.Omega.{arith}
+use mathlib.Core.Path.{sym, _∙_}
+use Rattle.listing.proofs.Outcome.{known-code, refused-by, too-short, listed}
+use borrow.Author.Needs.{needs}
+use Rattle.listing.proofs.list.Statement.{statement}
+use Rattle.listing.proofs.list.Tie as tie
+use Rattle.listing.proofs.list.Reads as reads
+use Rattle.listing.proofs.list.Lts as lts
+use Rattle.listing.proofs.put_listing.Reads as put-listing-reads
+use Rattle.reader.proofs.check_frame.Reads as check-frame-reads
+
+-- src/lib.rt:109:9
+check-frame-requires : tie.Need-check-frame-requires
+check-frame-requires c κs = search needs
+
+-- src/lib.rt:110:24
+enum-known-checked : tie.Need-enum-known-checked
+enum-known-checked c = search needs
+
+-- src/lib.rt:111:9
+returns : tie.Need-returns
+returns c =
+    let s = c .before .before .before .before .before .before .before .args in
+    refused-by (s .bandwidth) (s .cc1 .now) (s .cc2 .now) (s .out .now) _ (sym (c .before .before .before .check-frame .ensures) ∙ c .before .checked .given .1)
+
+enum-told : tie.Need-enum-told
+enum-told c = search needs
+
+-- src/lib.rt:113:28
+slice-relend-prefix-put-listing : tie.Need-slice-relend-prefix-put-listing
+slice-relend-prefix-put-listing c = search needs
+
+-- src/lib.rt:113:28
+slice-aggregate-put-listing : tie.Need-slice-aggregate-put-listing
+slice-aggregate-put-listing c = search needs
+
+-- src/lib.rt:113:9
+put-listing-requires : tie.Need-put-listing-requires
+put-listing-requires c κs =
+    let s = c .before .before .before .before .before .before .before .args in
+    known-code (s .bandwidth) (s .cc1 .now) (s .cc2 .now) (sym (c .before .before .before .check-frame .ensures) ∙ c .before .enum-told .given .1)
+
+-- src/lib.rt:115:9
+same-length : tie.Need-same-length
+same-length c = search needs
+
+-- src/lib.rt:115:9
+returns-2 : tie.Need-returns-2
+returns-2 c =
+    let s = c .before .before .before .before .before .before .before .before .before .before .before .args in
+    too-short (s .bandwidth) (s .cc1 .now) (s .cc2 .now) (s .out .now) (sym (c .before .before .before .before .before .before .before .check-frame .ensures) ∙ c .before .before .before .before .before .enum-told .given .1) (c .before .before .before .put-listing .ensures .0) (c .if1 .taken)
+
+-- src/lib.rt:121:9
+put-listing-requires-2 : tie.Need-put-listing-requires-2
+put-listing-requires-2 c κs =
+    let s = c .before .before .before .before .before .before .before .before .before .before .before .before .args in
+    known-code (s .bandwidth) (s .cc1 .now) (s .cc2 .now) (sym (c .before .before .before .before .before .before .before .before .check-frame .ensures) ∙ c .before .before .before .before .before .before .enum-told .given .1)
+
+-- src/lib.rt:105:1
+same-length-2 : tie.Need-same-length-2
+same-length-2 c = search needs
+
+-- src/lib.rt:105:1
+returns-3 : tie.Need-returns-3
+returns-3 c =
+    let s = c .before .before .before .before .before .before .before .before .before .before .before .before .before .before .before .args in
+    listed (s .bandwidth) (s .cc1 .now) (s .cc2 .now) (s .out .now) (sym (c .before .before .before .before .before .before .before .before .before .before .before .check-frame .ensures) ∙ c .before .before .before .before .before .before .before .before .before .enum-told .given .1) (c .before .before .before .before .before .before .before .put-listing .ensures .0) (c .before .before .before .before .if1 .left) (c .before .before .put-listing2 .ensures .0)
+
+pub list-spec : {M : Type 1} → statement M
+list-spec =
+    tie.close
+    (tie.spec
+    check-frame-requires
+    enum-known-checked
+    returns
+    enum-told
+    slice-relend-prefix-put-listing
+    slice-aggregate-put-listing
+    put-listing-requires
+    same-length
+    returns-2
+    put-listing-requires-2
+    same-length-2
+    returns-3)

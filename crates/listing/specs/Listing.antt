@@ -1,0 +1,102 @@
+-- The listing of a frame (01, "Listing"), what `list` answers, and the program's whole text. Assumes nothing.
+--
+-- a and b are the bytes of channel 1 and channel 2.
+use mathlib.Core.Bool.{Bool, true, false, cond}
+use mathlib.Core.List.{List, [], _∷_, _++_}
+use Prim.Native.Nat.{ℕ, suc, _+_, _-_}
+use lib.Dec.{ltb}
+use lib.ListN.{length, drop, getD}
+use Rattle.answer.specs.Answer.{no, refuseIf, _or_, answerAt, after}
+use Rattle.answer.specs.declared.Answer.{Answer}
+use Rattle.answer.specs.declared.Out.{Out}
+use Rattle.answer.specs.declared.Out.the-variants.{Pass, Refuse}
+use Rattle.text.specs.Text.{codes, upto}
+use Rattle.plan.specs.Plan.{at}
+use Rattle.plan.specs.Guess.{onlyPlan}
+use Rattle.channel.specs.Layout.{positions, row, count}
+use Rattle.records.specs.declared.Record.{Record}
+use Rattle.records.specs.declared.Plan.{Plan}
+use Rattle.records.specs.Records.{recordsOf, blank}
+use Rattle.records.specs.Owns.{ownerOf}
+use Rattle.reader.specs.Table.{readable, stationOf}
+use Rattle.input.specs.declared.Parsed.{Parsed}
+use Rattle.input.specs.declared.Parsed.the-variants.{Wrong, Lines}
+use Rattle.input.specs.Parse.{parsed, bytesAt, secondAt}
+use Rattle.listing.specs.Lines.{ruLine, staLine, refusalText, headText}
+
+-- ---- the listing of a row r
+
+-- the line of a record of the plan, in a channel of n positions; its users are its fields of both channels
+abbrev pub recordLine : ℕ → Record → List ℕ
+recordLine n x = ruLine n (x .segment) (x .resource) (x .fields1 + x .fields2)
+
+-- the plan's resources, "by lowest position, then frequency"
+abbrev pub resources : List ℕ → List Record
+resources r = recordsOf (onlyPlan (at r)) r
+
+-- a `ru=` line for each
+unfoldable pub ruLines : ℕ → List Record → List ℕ
+ruLines n rs = upto (λ i. recordLine n (getD rs i blank)) (length rs)
+
+-- the same of the plan as the program holds it
+unfoldable pub planLines : ℕ → Plan → List ℕ
+planLines n p = upto (λ i. recordLine n (getD (p .records) i blank)) (p .count)
+
+-- the resource that owns User field i over both channels, m of which are channel 1's
+unfoldable pub ownerIn : List ℕ → ℕ → ℕ → ℕ
+ownerIn r m i = cond (ltb i m) (ownerOf (onlyPlan (at r)) (at r) 0 (length r) i) (ownerOf (onlyPlan (at r)) (at r) 1 (length r) (i - m))
+
+-- "sta= lines follow the User words": channel 1's fields first; `resource=` counts from 1 over the whole listing
+unfoldable pub staLineAt : ℕ → List ℕ → List ℕ → List ℕ → ℕ → ℕ → List ℕ
+staLineAt bw r a b m i = staLine (stationOf bw a b m i) (ownerIn r m i + 1)
+
+unfoldable pub staLines : ℕ → List ℕ → List ℕ → List ℕ → ℕ → ℕ → List ℕ
+staLines bw r a b m n = upto (staLineAt bw r a b m) n
+
+unfoldable pub listingOf : ℕ → List ℕ → List ℕ → List ℕ → ℕ → ℕ → List ℕ
+listingOf bw r a b m k =
+    headText bw (length (resources r)) m k ++ ruLines (length r) (resources r) ++ staLines bw r a b m (m + k)
+
+-- ---- the listing of a frame
+unfoldable pub listing : ℕ → List ℕ → List ℕ → List ℕ
+listing bw a b = listingOf bw (row bw a b) a b (count bw 1 a) (count bw 2 b)
+
+-- "23 | listing's buffer is too short | 0, bytes needed"
+unfoldable pub check23 : ℕ → List ℕ → List ℕ → ℕ → Out
+check23 bw a b room = refuseIf (ltb room (length (listing bw a b))) (no 23 0 (length (listing bw a b)))
+
+-- 1 to 11 as the reader, "and 23 last"
+unfoldable pub listable : ℕ → List ℕ → List ℕ → ℕ → Out
+listable bw a b room = readable bw a b or check23 bw a b room
+
+-- "0 | accepted | 0, count of words (listing: of bytes)", or the refusal
+unfoldable pub listAnswer : ℕ → List ℕ → List ℕ → ℕ → Answer
+listAnswer bw a b room = answerAt (listable bw a b room) (length (listing bw a b))
+
+-- the lent buffer afterwards: accepted, the text at its front; "Every refusal writes nothing"
+unfoldable pub listAfter : ℕ → List ℕ → List ℕ → List ℕ → List ℕ
+listAfter bw a b d =
+    after (listable bw a b (length d)) (listing bw a b ++ drop (length (listing bw a b)) d) d
+
+-- ---- the program's text
+
+-- "A refusal is answer=, channel=, place=, three lines, by the program"
+abbrev pub refusalOf : Answer → List ℕ
+refusalOf x = refusalText (x .number) (x .channel) (x .place)
+
+-- the listing, or the refusal
+abbrev pub outcomeText : Out → List ℕ → List ℕ
+outcomeText Pass t = t
+outcomeText (Refuse x) t = refusalOf x
+
+unfoldable pub frameText : ℕ → List ℕ → List ℕ → List ℕ
+frameText bw a b = outcomeText (readable bw a b) (listing bw a b)
+
+-- "22 is first of all"
+abbrev pub parsedText : List ℕ → Parsed → List ℕ
+parsedText s (Wrong k) = refusalOf (no 22 0 k)
+parsedText s (Lines bw n m) = frameText bw (bytesAt s 9 n) (bytesAt s (secondAt n) m)
+
+-- what the program writes for the text s
+unfoldable pub programText : List ℕ → List ℕ
+programText s = parsedText s (parsed s)
