@@ -4,9 +4,10 @@ use mathlib.Core.List.{List, [], _++_}
 use Prim.Native.Nat.{ℕ, _≤_, _<_}
 use native.Mathlib.Omega.{arith}
 use borrow.Author.Tests.{lt-ltb, le-ltb}
-use lib.ListN.{length, drop}
+use lib.ListN.{length, drop, take}
 use Rattle.answer.specs.Answer.{no, _or_}
 use Rattle.answer.specs.Order.{pass-left}
+use Rattle.answer.specs.Filled.{build, filled, take-filled}
 use Rattle.answer.specs.declared.Answer.{Answer}
 use Rattle.answer.specs.declared.Out.the-variants.{Pass, Refuse}
 use Rattle.text.specs.Text.{Wrote}
@@ -44,3 +45,7 @@ module _ (bw : ℕ) (a b d : List ℕ) where
       let l : length (listing bw a b) ≤ length d = omega arith in
       let v′ : Wrote d 0 (listing bw a b) f r = rw z at v in
       (rw (p, le-ltb (length d) (length (listing bw a b)) l) (ap (no 0 0) (count v′)), rw (p, le-ltb (length d) (length (listing bw a b)) l) (front l v′))
+
+-- the bytes at the front of a channel's buffer
+pub front-of : {r : List ℕ} (f : ℕ → ℕ) (n : ℕ) (w : List ℕ) → r ≡ filled f n w → take n r ≡ build f n
+front-of f n w e = rw e (take-filled f n w)

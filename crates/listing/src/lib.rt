@@ -1,10 +1,15 @@
 // A listing (01, "Listing"): an accepted frame's resources and stations as lines of text; and the program's whole text.
 mod lines;
 
-use answer::{Answer, Out};
+use answer::Answer;
+use answer::Out;
 use input::Parsed;
-use lines::{put_head, put_refusal, put_ru, put_sta};
-use records::{Plan, Record};
+use lines::put_head;
+use lines::put_refusal;
+use lines::put_ru;
+use lines::put_sta;
+use records::Plan;
+use records::Record;
 ghost use mathlib.Core.Path.{_≡_};
 ghost use mathlib.Core.List.{_++_};
 ghost use Prim.Native.Nat.{_+_, _*_, _≤_, _<_};
@@ -43,7 +48,16 @@ fn put_records(out: &mut [u8], at: usize, n: u16, plan: Plan) -> usize
 }
 
 // The line of User field i over both channels, m of which are channel 1's.
-fn put_station(out: &mut [u8], at: usize, bw: u32, a: &[u8], b: &[u8], row: &[u16], m: usize, i: usize) -> usize
+fn put_station(
+    out: &mut [u8],
+    at: usize,
+    bw: u32,
+    a: &[u8],
+    b: &[u8],
+    row: &[u16],
+    m: usize,
+    i: usize,
+) -> usize
     requires { ⌜ (at ≤ 59000) × (m ≤ 72) × (i < m + 72) × (length (now row) ≤ 16) ⌝ }
     ensures { λ r. ⌜ Wrote (now (out .entry)) at (staLineAt bw (now (row .entry)) (now (a .entry)) (now (b .entry)) m i) (now (out .exit)) r ⌝ }
     ensures bounded { λ r. ⌜ r ≤ at + 55 ⌝ }
@@ -58,7 +72,16 @@ fn put_station(out: &mut [u8], at: usize, bw: u32, a: &[u8], b: &[u8], row: &[u1
 }
 
 // A line for each User field, of m in channel 1 and k in channel 2.
-fn put_stations(out: &mut [u8], at: usize, bw: u32, a: &[u8], b: &[u8], row: &[u16], m: usize, k: usize) -> usize
+fn put_stations(
+    out: &mut [u8],
+    at: usize,
+    bw: u32,
+    a: &[u8],
+    b: &[u8],
+    row: &[u16],
+    m: usize,
+    k: usize,
+) -> usize
     requires { ⌜ (at ≤ 40000) × (m ≤ 72) × (k ≤ 72) × (length (now row) ≤ 16) ⌝ }
     ensures { λ r. ⌜ Wrote (now (out .entry)) at (staLines bw (now (row .entry)) (now (a .entry)) (now (b .entry)) m (m + k)) (now (out .exit)) r ⌝ }
     ensures bounded { λ r. ⌜ r ≤ at + 7920 ⌝ }

@@ -1,3 +1,4 @@
+-- `listing::put_listing` meets its contract. Assumes nothing.
 use native.Mathlib.Omega.{arith}
 use mathlib.Core.Path.{sym, _∙_}
 use Rattle.channel.specs.Laws.{row-length}
@@ -6,40 +7,27 @@ use Rattle.listing.specs.Listing.{listing}
 use borrow.Author.Needs.{needs}
 use Rattle.listing.proofs.put_listing.Statement.{statement}
 use Rattle.listing.proofs.put_listing.Tie as tie
-use Rattle.listing.proofs.put_listing.Reads as reads
-use Rattle.listing.proofs.put_listing.Lts as lts
-use Rattle.channel.proofs.count_of.Reads as count-of-reads
-use Rattle.channel.proofs.fill_row.Reads as fill-row-reads
-use Rattle.channel.proofs.positions_of.Reads as positions-of-reads
-use Rattle.listing.proofs.put_row.Reads as put-row-reads
 
--- src/lib.rt:97:15
 fill-row-requires : tie.Need-fill-row-requires
 fill-row-requires c κs = search needs
 
--- src/lib.rt:98:9
 positions-of-requires : tie.Need-positions-of-requires
 positions-of-requires c κs = search needs
 
--- src/lib.rt:99:9
 count-of-requires : tie.Need-count-of-requires
 count-of-requires c κs = search needs
 
--- src/lib.rt:100:9
 count-of-requires-2 : tie.Need-count-of-requires-2
 count-of-requires-2 c κs = search needs
 
--- src/lib.rt:101:28
 array-share-prefix-row : tie.Need-array-share-prefix-row
 array-share-prefix-row c = search needs
 
--- src/lib.rt:101:28
 slice-aggregate-put-row : tie.Need-slice-aggregate-put-row
 slice-aggregate-put-row c =
     let s = c .before .before .before .before .before .before .before .before .before .args in
     rw (front (s .bw) (s .a .now) (s .b .now) _ _ (c .before .before .before .before .positions-of .ensures .0) (c .before .before .before .before .before .fill-row .ensures)) (c .before .before .before .before .positions-of .ensures .0 ∙ sym (row-length (s .bw) (s .a .now) (s .b .now)))
 
--- src/lib.rt:101:5
 put-row-requires : tie.Need-put-row-requires
 put-row-requires c κs =
     let s = c .before .before .before .before .before .before .before .before .before .args in
@@ -47,11 +35,9 @@ put-row-requires c κs =
     let l = row-length (s .bw) (s .a .now) (s .b .now) in
     (omega arith, omega arith, rw e (omega (arith, c .before .before .before .before .positions-of .ensures .0, c .before .before .before .before .positions-of .ensures .1)))
 
--- src/lib.rt:92:1
 same-length : tie.Need-same-length
 same-length c = search needs
 
--- src/lib.rt:92:1
 returns : tie.Need-returns
 unfolding listing
 returns c =

@@ -1,3 +1,4 @@
+-- `listing::put_records` meets its contract. Assumes nothing.
 use borrow.Author.Needs.{needs}
 use native.Mathlib.Omega.{arith}
 use mathlib.Core.Path.{_≡_}
@@ -9,9 +10,6 @@ use Rattle.records.specs.Records.{blank}
 use Rattle.listing.specs.Listing.{recordLine, planLines}
 use Rattle.listing.proofs.put_records.Statement.{statement}
 use Rattle.listing.proofs.put_records.Tie as tie
-use Rattle.listing.proofs.put_records.Reads as reads
-use Rattle.listing.proofs.put_records.Lts as lts
-use Rattle.listing.proofs.put_record.Reads as put-record-reads
 
 abbrev Inv-loop : tie.InvT-loop
 Inv-loop out₀ at n count records o₀ i₀ out o i =
@@ -20,39 +18,30 @@ Inv-loop out₀ at n count records o₀ i₀ out o i =
 abbrev μ-loop : tie.MeasureT-loop
 μ-loop out₀ at n count records o₀ i₀ out o i = count - i
 
--- src/lib.rt:41:5
 loop-holds : tie.Need-loop-holds Inv-loop μ-loop
 loop-holds c = (search needs, no-item _ _ _, omega arith)
 
--- src/lib.rt:42:35
 mul-put-record : tie.Need-mul-put-record Inv-loop μ-loop
 mul-put-record c = search needs
 
--- src/lib.rt:42:35
 array-copy-out-put-record : tie.Need-array-copy-out-put-record Inv-loop μ-loop
 array-copy-out-put-record c = search needs
 
--- src/lib.rt:42:9
 put-record-requires : tie.Need-put-record-requires Inv-loop μ-loop
 put-record-requires c κs = search needs
 
--- src/lib.rt:43:9
 add-i : tie.Need-add-i Inv-loop μ-loop
 add-i c = search needs
 
--- src/lib.rt:41:5
 loop-less : tie.Need-loop-less Inv-loop μ-loop
 loop-less c = search needs
 
--- src/lib.rt:41:5
 loop-again : tie.Need-loop-again Inv-loop μ-loop
 loop-again c = (omega arith, item _ _ (c .before .before .before .before .before .before .loop .inv .1) (c .before .before .put-record .ensures .0), omega arith)
 
--- src/lib.rt:32:1
 same-length : tie.Need-same-length Inv-loop μ-loop
 same-length c = kept (c .before .loop .inv .1)
 
--- src/lib.rt:32:1
 returns : tie.Need-returns Inv-loop μ-loop
 unfolding planLines
 returns c = let e : c .before .loop .i ≡ c .before .before .before .before .args .plan .count = omega arith in (rw e at (c .before .loop .inv .1), omega arith)

@@ -1,3 +1,4 @@
+-- `listing::put_row` meets its contract. Assumes nothing.
 use native.Mathlib.Omega.{arith}
 use mathlib.Core.Path.{_≡_, ap, _∙_}
 use Prim.Native.Nat.{_≤_}
@@ -9,26 +10,16 @@ use Rattle.listing.proofs.Held.{resources-few, plan-count, plan-room, p
 use borrow.Author.Needs.{needs}
 use Rattle.listing.proofs.put_row.Statement.{statement}
 use Rattle.listing.proofs.put_row.Tie as tie
-use Rattle.listing.proofs.put_row.Reads as reads
-use Rattle.listing.proofs.put_row.Lts as lts
-use Rattle.listing.proofs.lines.put_head.Reads as put-head-reads
-use Rattle.listing.proofs.put_records.Reads as put-records-reads
-use Rattle.listing.proofs.put_stations.Reads as put-stations-reads
-use Rattle.records.proofs.plan_of.Reads as plan-of-reads
 
--- src/lib.rt:84:9
 plan-of-requires : tie.Need-plan-of-requires
 plan-of-requires c κs = search needs
 
--- src/lib.rt:85:13
 cast-n : tie.Need-cast-n
 cast-n c = search needs
 
--- src/lib.rt:86:9
 put-head-requires : tie.Need-put-head-requires
 put-head-requires c κs = search needs
 
--- src/lib.rt:87:9
 put-records-requires : tie.Need-put-records-requires
 put-records-requires c κs =
     let r = c .before .before .before .before .before .before .before .before .before .before .args .row .now in
@@ -36,15 +27,12 @@ put-records-requires c κs =
     let l : length (resources r) ≤ 144 = resources-few r (omega arith) in
     (omega arith, rw e (omega (arith, plan-count (resources r))), rw e (plan-room (resources r) l))
 
--- src/lib.rt:88:5
 put-stations-requires : tie.Need-put-stations-requires
 put-stations-requires c κs = search needs
 
--- src/lib.rt:79:1
 same-length : tie.Need-same-length
 same-length c = search needs
 
--- src/lib.rt:79:1
 returns : tie.Need-returns
 unfolding listingOf
 returns c =

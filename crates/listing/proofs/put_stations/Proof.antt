@@ -1,3 +1,4 @@
+-- `listing::put_stations` meets its contract. Assumes nothing.
 use borrow.Author.Needs.{needs}
 use native.Mathlib.Omega.{arith}
 use mathlib.Core.Path.{_≡_}
@@ -7,9 +8,6 @@ use Rattle.text.specs.Laws.{no-item, item, kept}
 use Rattle.listing.specs.Listing.{staLineAt, staLines}
 use Rattle.listing.proofs.put_stations.Statement.{statement}
 use Rattle.listing.proofs.put_stations.Tie as tie
-use Rattle.listing.proofs.put_stations.Reads as reads
-use Rattle.listing.proofs.put_stations.Lts as lts
-use Rattle.listing.proofs.put_station.Reads as put-station-reads
 
 abbrev Inv-loop : tie.InvT-loop
 Inv-loop out₀ at bw a b row m k o₀ i₀ out o i =
@@ -18,35 +16,27 @@ Inv-loop out₀ at bw a b row m k o₀ i₀ out o i =
 abbrev μ-loop : tie.MeasureT-loop
 μ-loop out₀ at bw a b row m k o₀ i₀ out o i = m + k - i
 
--- src/lib.rt:71:5
 loop-holds : tie.Need-loop-holds Inv-loop μ-loop
 loop-holds c = (search needs, no-item _ _ _, omega arith)
 
--- src/lib.rt:71:15
 add-loop : tie.Need-add-loop Inv-loop μ-loop
 add-loop c = search needs
 
--- src/lib.rt:72:9
 put-station-requires : tie.Need-put-station-requires Inv-loop μ-loop
 put-station-requires c κs = search needs
 
--- src/lib.rt:73:9
 add-i : tie.Need-add-i Inv-loop μ-loop
 add-i c = search needs
 
--- src/lib.rt:71:5
 loop-less : tie.Need-loop-less Inv-loop μ-loop
 loop-less c = search needs
 
--- src/lib.rt:71:5
 loop-again : tie.Need-loop-again Inv-loop μ-loop
 loop-again c = (omega arith, item _ _ (c .before .before .before .before .before .loop .inv .1) (c .before .before .put-station .ensures .0), omega arith)
 
--- src/lib.rt:64:1
 same-length : tie.Need-same-length Inv-loop μ-loop
 same-length c = kept (c .before .loop .inv .1)
 
--- src/lib.rt:64:1
 returns : tie.Need-returns Inv-loop μ-loop
 unfolding staLines
 returns c = let e : c .before .loop .i ≡ c .before .before .before .before .before .before .args .m + c .before .before .before .before .before .before .args .k = omega arith in (rw e at (c .before .loop .inv .1), omega arith)

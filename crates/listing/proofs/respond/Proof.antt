@@ -1,47 +1,46 @@
+-- `listing::respond` meets its contract. Assumes nothing.
+use native.Mathlib.Omega.{arith}
+use mathlib.Core.Path.{sym, _∙_}
+use Rattle.input.proofs.Exact.{few}
+use Rattle.listing.specs.Listing.{programText}
 use borrow.Author.Needs.{needs}
 use Rattle.listing.proofs.respond.Statement.{statement}
 use Rattle.listing.proofs.respond.Tie as tie
-use Rattle.listing.proofs.respond.Reads as reads
-use Rattle.listing.proofs.respond.Lts as lts
-use Rattle.input.proofs.parse.Reads as parse-reads
-use Rattle.listing.proofs.lines.put_refusal.Reads as put-refusal-reads
-use Rattle.listing.proofs.put_lines.Reads as put-lines-reads
 
--- src/lib.rt:158:9
 parse-requires : tie.Need-parse-requires
 parse-requires c κs = search needs
 
--- src/lib.rt:160:23
 enum-known-parsed : tie.Need-enum-known-parsed
 enum-known-parsed c = search needs
 
--- src/lib.rt:160:32
 put-refusal-requires : tie.Need-put-refusal-requires
 put-refusal-requires c κs = search needs
 
--- src/lib.rt:161:25
 enum-known-parsed-2 : tie.Need-enum-known-parsed-2
 enum-known-parsed-2 c = search needs
 
--- src/lib.rt:161:48
 put-lines-requires : tie.Need-put-lines-requires
-put-lines-requires c κs = ?
+put-lines-requires c κs =
+    let h = few (c .before .before .before .before .before .before .before .args .text .now) _ _ _ (sym (c .before .before .before .before .parse .ensures) ∙ c .before .before .parsed2 .given .1) in
+    (omega arith, omega arith)
 
--- src/lib.rt:154:1
 same-length : tie.Need-same-length
 same-length c = search needs
 
--- src/lib.rt:154:1
 returns : tie.Need-returns
-returns c = ?
+unfolding programText
+returns c =
+    let e = sym (c .before .before .before .before .before .before .before .parse .ensures) ∙ c .before .before .before .before .before .parsed .given .1 in
+    (rw e (c .before .before .put-refusal .ensures .0), omega arith)
 
--- src/lib.rt:154:1
 same-length-2 : tie.Need-same-length-2
 same-length-2 c = search needs
 
--- src/lib.rt:154:1
 returns-2 : tie.Need-returns-2
-returns-2 c = ?
+unfolding programText
+returns-2 c =
+    let e = sym (c .before .before .before .before .before .before .before .parse .ensures) ∙ c .before .before .before .before .before .parsed2 .given .1 in
+    (rw e (c .before .before .put-lines .ensures .0), omega arith)
 
 pub respond-spec : {M : Type 1} → statement M
 respond-spec =

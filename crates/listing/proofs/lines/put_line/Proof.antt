@@ -1,26 +1,19 @@
+-- `listing::put_line` meets its contract. Assumes nothing.
 use native.Mathlib.Omega.{arith}
 use Rattle.text.specs.Laws.{after}
 use borrow.Author.Needs.{needs}
 use Rattle.listing.proofs.lines.put_line.Statement.{statement}
 use Rattle.listing.proofs.lines.put_line.Tie as tie
-use Rattle.listing.proofs.lines.put_line.Reads as reads
-use Rattle.listing.proofs.lines.put_line.Lts as lts
-use Rattle.listing.proofs.lines.put_key.Reads as put-key-reads
-use Rattle.text.proofs.put.Reads as put-reads
 
--- src/lines.rt:29:9
 put-key-requires : tie.Need-put-key-requires
 put-key-requires c κs = search needs
 
--- src/lines.rt:30:5
 put-requires : tie.Need-put-requires
 put-requires c κs = search needs
 
--- src/lines.rt:24:1
 same-length : tie.Need-same-length
 same-length c = search needs
 
--- src/lines.rt:24:1
 returns : tie.Need-returns
 returns c = (after (c .before .before .before .before .before .before .put-key .ensures .0) (c .before .before .put .ensures), omega (arith, c .before .before .put .ensures .next))
 

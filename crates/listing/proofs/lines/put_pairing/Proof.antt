@@ -1,48 +1,36 @@
+-- `listing::put_pairing` meets its contract. Assumes nothing.
 use native.Mathlib.Omega.{arith}
 use borrow.Author.Needs.{needs}
 use Rattle.listing.proofs.lines.put_pairing.Statement.{statement}
 use Rattle.listing.proofs.lines.put_pairing.Tie as tie
-use Rattle.listing.proofs.lines.put_pairing.Reads as reads
-use Rattle.listing.proofs.lines.put_pairing.Lts as lts
-use Rattle.text.proofs.put_all.Reads as put-all-reads
 
--- src/lines.rt:54:45
 enum-told : tie.Need-enum-told
 enum-told c = search needs
 
--- src/lines.rt:54:54
 slice-aggregate-put-all : tie.Need-slice-aggregate-put-all
 slice-aggregate-put-all c = search needs
 
--- src/lines.rt:54:31
 put-all-requires : tie.Need-put-all-requires
 put-all-requires c κs = search needs
 
--- src/lines.rt:55:46
 enum-told-2 : tie.Need-enum-told-2
 enum-told-2 c = search needs
 
--- src/lines.rt:55:55
 slice-aggregate-put-all-2 : tie.Need-slice-aggregate-put-all-2
 slice-aggregate-put-all-2 c = search needs
 
--- src/lines.rt:55:32
 put-all-requires-2 : tie.Need-put-all-requires-2
 put-all-requires-2 c κs = search needs
 
--- src/lines.rt:48:1
 same-length : tie.Need-same-length
 same-length c = search needs
 
--- src/lines.rt:48:1
 returns : tie.Need-returns
 returns c = rw (c .before .before .before .before .before .enum-told .given .1) (c .before .before .put-all .ensures, omega (arith, c .before .before .put-all .ensures .next))
 
--- src/lines.rt:48:1
 same-length-2 : tie.Need-same-length-2
 same-length-2 c = search needs
 
--- src/lines.rt:48:1
 returns-2 : tie.Need-returns-2
 returns-2 c = rw (c .before .before .before .before .before .enum-told2 .given .1) (c .before .before .put-all2 .ensures, omega (arith, c .before .before .put-all2 .ensures .next))
 

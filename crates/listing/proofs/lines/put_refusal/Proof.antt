@@ -1,42 +1,32 @@
+-- `listing::put_refusal` meets its contract. Assumes nothing.
 use native.Mathlib.Omega.{arith}
 use Rattle.text.specs.Laws.{after}
 use Rattle.listing.specs.Lines.{refusalText}
 use borrow.Author.Needs.{needs}
 use Rattle.listing.proofs.lines.put_refusal.Statement.{statement}
 use Rattle.listing.proofs.lines.put_refusal.Tie as tie
-use Rattle.listing.proofs.lines.put_refusal.Reads as reads
-use Rattle.listing.proofs.lines.put_refusal.Lts as lts
-use Rattle.listing.proofs.lines.put_line.Reads as put-line-reads
 
--- src/lines.rt:160:30
 slice-aggregate-put-line : tie.Need-slice-aggregate-put-line
 slice-aggregate-put-line c = search needs
 
--- src/lines.rt:160:9
 put-line-requires : tie.Need-put-line-requires
 put-line-requires c κs = search needs
 
--- src/lines.rt:161:30
 slice-aggregate-put-line-2 : tie.Need-slice-aggregate-put-line-2
 slice-aggregate-put-line-2 c = search needs
 
--- src/lines.rt:161:9
 put-line-requires-2 : tie.Need-put-line-requires-2
 put-line-requires-2 c κs = search needs
 
--- src/lines.rt:162:22
 slice-aggregate-put-line-3 : tie.Need-slice-aggregate-put-line-3
 slice-aggregate-put-line-3 c = search needs
 
--- src/lines.rt:162:5
 put-line-requires-3 : tie.Need-put-line-requires-3
 put-line-requires-3 c κs = search needs
 
--- src/lines.rt:156:1
 same-length : tie.Need-same-length
 same-length c = search needs
 
--- src/lines.rt:156:1
 returns : tie.Need-returns
 unfolding refusalText
 returns c = (after (after (c .before .before .before .before .before .before .before .before .before .before .before .before .put-line .ensures .0) (c .before .before .before .before .before .before .before .put-line2 .ensures .0)) (c .before .before .put-line3 .ensures .0), omega arith)

@@ -1,3 +1,4 @@
+-- `listing::put_ru` meets its contract. Assumes nothing.
 use native.Mathlib.Omega.{arith}
 use mathlib.Core.Path.{_≡_, ap, _∙_}
 use Prim.Native.Nat.{_≤_}
@@ -10,31 +11,19 @@ use Rattle.listing.proofs.Held.{held-text}
 use borrow.Author.Needs.{needs}
 use Rattle.listing.proofs.lines.put_ru.Statement.{statement}
 use Rattle.listing.proofs.lines.put_ru.Tie as tie
-use Rattle.listing.proofs.lines.put_ru.Reads as reads
-use Rattle.listing.proofs.lines.put_ru.Lts as lts
-use Rattle.listing.proofs.lines.put_ru_head.Reads as put-ru-head-reads
-use Rattle.listing.proofs.lines.put_tones.Reads as put-tones-reads
-use Rattle.resource.proofs.tones_of.Reads as tones-of-reads
-use Rattle.text.proofs.put.Reads as put-reads
-use Rattle.text.proofs.put_all.Reads as put-all-reads
 
--- src/lines.rt:138:9
 put-ru-head-requires : tie.Need-put-ru-head-requires
 put-ru-head-requires c κs = search needs
 
--- src/lines.rt:139:35
 slice-aggregate-put-all : tie.Need-slice-aggregate-put-all
 slice-aggregate-put-all c = search needs
 
--- src/lines.rt:139:9
 put-all-requires : tie.Need-put-all-requires
 put-all-requires c κs = search needs
 
--- src/lines.rt:140:9
 tones-of-requires : tie.Need-tones-of-requires
 tones-of-requires c κs = search needs
 
--- src/lines.rt:141:9
 put-tones-requires : tie.Need-put-tones-requires
 put-tones-requires c κs =
     let a = c .before .before .before .before .before .before .before .before .before .before .before .before .args in
@@ -43,15 +32,12 @@ put-tones-requires c κs =
     let e : c .before .tones-of .result ≡ held rs = c .before .tones-of .ensures in
     (omega (arith, c .before .before .before .before .put-all .ensures .next), rw e (omega (arith, held-count rs)), rw e (held-three rs))
 
--- src/lines.rt:142:5
 put-requires : tie.Need-put-requires
 put-requires c κs = search needs
 
--- src/lines.rt:133:1
 same-length : tie.Need-same-length
 same-length c = search needs
 
--- src/lines.rt:133:1
 returns : tie.Need-returns
 unfolding ruLine
 returns c =

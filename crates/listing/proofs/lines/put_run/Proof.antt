@@ -1,47 +1,34 @@
+-- `listing::put_run` meets its contract. Assumes nothing.
 use native.Mathlib.Omega.{arith}
 use Rattle.text.specs.Laws.{after}
 use borrow.Author.Needs.{needs}
 use Rattle.listing.proofs.lines.put_run.Statement.{statement}
 use Rattle.listing.proofs.lines.put_run.Tie as tie
-use Rattle.listing.proofs.lines.put_run.Reads as reads
-use Rattle.listing.proofs.lines.put_run.Lts as lts
-use Rattle.listing.proofs.lines.put_comma.Reads as put-comma-reads
-use Rattle.text.proofs.put.Reads as put-reads
-use Rattle.text.proofs.put_signed.Reads as put-signed-reads
 
--- src/lines.rt:96:16
 mul-zero : tie.Need-mul-zero
 mul-zero c = search needs
 
--- src/lines.rt:97:9
 put-comma-requires : tie.Need-put-comma-requires
 put-comma-requires c κs = search needs
 
--- src/lines.rt:98:38
 cast-put-signed : tie.Need-cast-put-signed
 cast-put-signed c = search needs
 
--- src/lines.rt:98:9
 put-signed-requires : tie.Need-put-signed-requires
 put-signed-requires c κs = search needs
 
--- src/lines.rt:99:9
 put-requires : tie.Need-put-requires
 put-requires c κs = search needs
 
--- src/lines.rt:100:30
 cast-put-signed-2 : tie.Need-cast-put-signed-2
 cast-put-signed-2 c = search needs
 
--- src/lines.rt:100:5
 put-signed-requires-2 : tie.Need-put-signed-requires-2
 put-signed-requires-2 c κs = search needs
 
--- src/lines.rt:91:1
 same-length : tie.Need-same-length
 same-length c = search needs
 
--- src/lines.rt:91:1
 returns : tie.Need-returns
 returns c = (after (after (after (c .before .before .before .before .before .before .before .before .before .before .before .before .before .before .before .before .put-comma .ensures .0) (c .before .before .before .before .before .before .before .before .before .before .before .put-signed .ensures .0)) (c .before .before .before .before .before .before .before .put .ensures)) (c .before .before .put-signed2 .ensures .0), omega (arith, c .before .before .before .before .before .before .before .put .ensures .next))
 

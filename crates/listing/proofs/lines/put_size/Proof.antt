@@ -1,128 +1,96 @@
+-- `listing::put_size` meets its contract. Assumes nothing.
 use native.Mathlib.Omega.{arith}
 use borrow.Author.Needs.{needs}
 use Rattle.listing.proofs.lines.put_size.Statement.{statement}
 use Rattle.listing.proofs.lines.put_size.Tie as tie
-use Rattle.listing.proofs.lines.put_size.Reads as reads
-use Rattle.listing.proofs.lines.put_size.Lts as lts
-use Rattle.text.proofs.put_all.Reads as put-all-reads
 
--- src/lines.rt:39:36
 enum-told : tie.Need-enum-told
 enum-told c = search needs
 
--- src/lines.rt:39:45
 slice-aggregate-put-all : tie.Need-slice-aggregate-put-all
 slice-aggregate-put-all c = search needs
 
--- src/lines.rt:39:22
 put-all-requires : tie.Need-put-all-requires
 put-all-requires c κs = search needs
 
--- src/lines.rt:40:36
 enum-told-2 : tie.Need-enum-told-2
 enum-told-2 c = search needs
 
--- src/lines.rt:40:45
 slice-aggregate-put-all-2 : tie.Need-slice-aggregate-put-all-2
 slice-aggregate-put-all-2 c = search needs
 
--- src/lines.rt:40:22
 put-all-requires-2 : tie.Need-put-all-requires-2
 put-all-requires-2 c κs = search needs
 
--- src/lines.rt:41:37
 enum-told-3 : tie.Need-enum-told-3
 enum-told-3 c = search needs
 
--- src/lines.rt:41:46
 slice-aggregate-put-all-3 : tie.Need-slice-aggregate-put-all-3
 slice-aggregate-put-all-3 c = search needs
 
--- src/lines.rt:41:23
 put-all-requires-3 : tie.Need-put-all-requires-3
 put-all-requires-3 c κs = search needs
 
--- src/lines.rt:42:37
 enum-told-4 : tie.Need-enum-told-4
 enum-told-4 c = search needs
 
--- src/lines.rt:42:46
 slice-aggregate-put-all-4 : tie.Need-slice-aggregate-put-all-4
 slice-aggregate-put-all-4 c = search needs
 
--- src/lines.rt:42:23
 put-all-requires-4 : tie.Need-put-all-requires-4
 put-all-requires-4 c κs = search needs
 
--- src/lines.rt:43:37
 enum-told-5 : tie.Need-enum-told-5
 enum-told-5 c = search needs
 
--- src/lines.rt:43:46
 slice-aggregate-put-all-5 : tie.Need-slice-aggregate-put-all-5
 slice-aggregate-put-all-5 c = search needs
 
--- src/lines.rt:43:23
 put-all-requires-5 : tie.Need-put-all-requires-5
 put-all-requires-5 c κs = search needs
 
--- src/lines.rt:44:37
 enum-told-6 : tie.Need-enum-told-6
 enum-told-6 c = search needs
 
--- src/lines.rt:44:46
 slice-aggregate-put-all-6 : tie.Need-slice-aggregate-put-all-6
 slice-aggregate-put-all-6 c = search needs
 
--- src/lines.rt:44:23
 put-all-requires-6 : tie.Need-put-all-requires-6
 put-all-requires-6 c κs = search needs
 
--- src/lines.rt:33:1
 same-length : tie.Need-same-length
 same-length c = search needs
 
--- src/lines.rt:33:1
 returns : tie.Need-returns
 returns c = rw (c .before .before .before .before .before .enum-told .given .1) (c .before .before .put-all .ensures, omega (arith, c .before .before .put-all .ensures .next))
 
--- src/lines.rt:33:1
 same-length-2 : tie.Need-same-length-2
 same-length-2 c = search needs
 
--- src/lines.rt:33:1
 returns-2 : tie.Need-returns-2
 returns-2 c = rw (c .before .before .before .before .before .enum-told2 .given .1) (c .before .before .put-all2 .ensures, omega (arith, c .before .before .put-all2 .ensures .next))
 
--- src/lines.rt:33:1
 same-length-3 : tie.Need-same-length-3
 same-length-3 c = search needs
 
--- src/lines.rt:33:1
 returns-3 : tie.Need-returns-3
 returns-3 c = rw (c .before .before .before .before .before .enum-told3 .given .1) (c .before .before .put-all3 .ensures, omega (arith, c .before .before .put-all3 .ensures .next))
 
--- src/lines.rt:33:1
 same-length-4 : tie.Need-same-length-4
 same-length-4 c = search needs
 
--- src/lines.rt:33:1
 returns-4 : tie.Need-returns-4
 returns-4 c = rw (c .before .before .before .before .before .enum-told4 .given .1) (c .before .before .put-all4 .ensures, omega (arith, c .before .before .put-all4 .ensures .next))
 
--- src/lines.rt:33:1
 same-length-5 : tie.Need-same-length-5
 same-length-5 c = search needs
 
--- src/lines.rt:33:1
 returns-5 : tie.Need-returns-5
 returns-5 c = rw (c .before .before .before .before .before .enum-told5 .given .1) (c .before .before .put-all5 .ensures, omega (arith, c .before .before .put-all5 .ensures .next))
 
--- src/lines.rt:33:1
 same-length-6 : tie.Need-same-length-6
 same-length-6 c = search needs
 
--- src/lines.rt:33:1
 returns-6 : tie.Need-returns-6
 returns-6 c = rw (c .before .before .before .before .before .enum-told6 .given .1) (c .before .before .put-all6 .ensures, omega (arith, c .before .before .put-all6 .ensures .next))
 

@@ -1,3 +1,4 @@
+-- `listing::put_tones` meets its contract. Assumes nothing.
 use borrow.Author.Needs.{needs}
 use native.Mathlib.Omega.{arith}
 use mathlib.Core.Path.{_≡_, ap, _∙_}
@@ -9,9 +10,6 @@ use Rattle.resource.specs.Runs.{spanOf, noRun}
 use Rattle.listing.specs.Lines.{spanText, heldText}
 use Rattle.listing.proofs.lines.put_tones.Statement.{statement}
 use Rattle.listing.proofs.lines.put_tones.Tie as tie
-use Rattle.listing.proofs.lines.put_tones.Reads as reads
-use Rattle.listing.proofs.lines.put_tones.Lts as lts
-use Rattle.listing.proofs.lines.put_run.Reads as put-run-reads
 
 abbrev Inv-loop : tie.InvT-loop
 Inv-loop out₀ at n count runs o₀ i₀ out o i =
@@ -20,43 +18,33 @@ Inv-loop out₀ at n count runs o₀ i₀ out o i =
 abbrev μ-loop : tie.MeasureT-loop
 μ-loop out₀ at n count runs o₀ i₀ out o i = count - i
 
--- src/lines.rt:109:17
 cast-count : tie.Need-cast-count Inv-loop μ-loop
 cast-count c = search needs
 
--- src/lines.rt:113:5
 loop-holds : tie.Need-loop-holds Inv-loop μ-loop
 loop-holds c = (search needs, no-item _ _ _, omega arith)
 
--- src/lines.rt:114:32
 mul-put-run : tie.Need-mul-put-run Inv-loop μ-loop
 mul-put-run c = search needs
 
--- src/lines.rt:114:32
 array-copy-out-put-run : tie.Need-array-copy-out-put-run Inv-loop μ-loop
 array-copy-out-put-run c = search needs
 
--- src/lines.rt:114:9
 put-run-requires : tie.Need-put-run-requires Inv-loop μ-loop
 put-run-requires c κs = search needs
 
--- src/lines.rt:115:9
 add-i : tie.Need-add-i Inv-loop μ-loop
 add-i c = search needs
 
--- src/lines.rt:113:5
 loop-less : tie.Need-loop-less Inv-loop μ-loop
 loop-less c = search needs
 
--- src/lines.rt:113:5
 loop-again : tie.Need-loop-again Inv-loop μ-loop
 loop-again c = (omega arith, item _ _ (c .before .before .before .before .before .before .loop .inv .1) (c .before .before .put-run .ensures .0), omega arith)
 
--- src/lines.rt:104:1
 same-length : tie.Need-same-length Inv-loop μ-loop
 same-length c = kept (c .before .loop .inv .1)
 
--- src/lines.rt:104:1
 returns : tie.Need-returns Inv-loop μ-loop
 unfolding heldText
 returns c = let e : c .before .loop .i ≡ c .before .before .before .before .before .args .t .count = omega arith in (rw e at (c .before .loop .inv .1), omega arith)
