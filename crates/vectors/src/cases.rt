@@ -7,6 +7,7 @@ use crate::print::text;
 use crate::words::has;
 use crate::words::number;
 use crate::words::string;
+use crate::writes::write;
 
 fn print_bool(holds: bool) {
     if holds {
@@ -143,6 +144,12 @@ fn by_letter(line: &[u8], letter: u8) {
         b'R' => {
             if has(line, b"nssn") {
                 read(line);
+                return;
+            }
+        }
+        b'W' => {
+            if has(line, b"nsnn") {
+                write(line);
                 return;
             }
         }

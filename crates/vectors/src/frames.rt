@@ -5,7 +5,7 @@ use crate::print::words as print_words;
 use crate::words::number;
 use crate::words::string;
 
-fn bandwidth(line: &[u8]) -> u32 {
+pub fn bandwidth(line: &[u8]) -> u32 {
     (number(line, 1) % 4294967296) as u32
 }
 

@@ -6,6 +6,7 @@ mod cases;
 mod frames;
 mod print;
 mod words;
+mod writes;
 
 use cases::respond;
 use libc::STDIN_FILENO;
