@@ -1,3 +1,5 @@
 pub mod Held
 pub mod Owner
 pub mod Outcome
+pub mod Facts
+pub mod Example

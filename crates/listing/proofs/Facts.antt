@@ -1,0 +1,109 @@
+-- What the contracts of the listing say. Assumes nothing.
+use mathlib.Core.Path.{_≡_, refl, sym, ap, _∙_}
+use mathlib.Core.Bool.{Bool, true, false}
+use mathlib.Core.List.{List, _++_}
+use mathlib.Core.Logic.{_⊎_, inl, inr}
+use Prim.Native.Nat.{ℕ, _+_, _-_, _≤_, _<_}
+use native.Mathlib.Omega.{arith}
+use borrow.Author.Tests.{lt-ltb, le-ltb, ltb-true, ltb-false}
+use denote.Ref.{now}
+use lib.Dec.{ltb}
+use lib.ListN.{length, take, getD}
+use lib.Seq.{take-all, length-take-le}
+use Rattle.answer.specs.Answer.{_or_}
+use Rattle.answer.specs.Order.{after-kept}
+use Rattle.answer.specs.declared.Answer.{Answer}
+use Rattle.answer.specs.declared.Out.the-variants.{Pass, Refuse}
+use Rattle.text.specs.Text.{upto}
+use Rattle.channel.specs.Layout.{row, count}
+use Rattle.channel.specs.Laws.{count-le}
+use Rattle.plan.specs.Plan.{at, Signals}
+use Rattle.plan.specs.Guess.{onlyPlan}
+use Rattle.records.specs.Owns.{fieldsBefore, Owns}
+use Rattle.records.specs.Records.{blank}
+use Rattle.records.proofs.Owners.{owner-owns}
+use Rattle.reader.specs.Table.{readable, check12, noRoom, wordCount}
+use Rattle.reader.specs.Stages.{reading-stages}
+use Rattle.reader.specs.Result.{answerOf}
+use Rattle.input.specs.Parse.{parsed}
+use Rattle.listing.specs.Lines.{headText}
+use Rattle.listing.specs.Listing.{recordLine, resources, ruLines, ownerIn, staLineAt, staLines, listingOf, listing, check23, listable, listAnswer, listAfter, programText}
+use Rattle.listing.proofs.list.Reads as list
+use Rattle.listing.proofs.respond.Reads as respond
+
+-- ---- any two results that a contract allows for one input agree
+pub list-agrees : (κs : _) (a : _) (r r' : _) (s s' : _) → list.Post κs a r s → list.Post κs a r' s'
+    → (r ≡ r') × (now (s .1 .1 .1 .0) ≡ now (s' .1 .1 .1 .0))
+list-agrees κs a r r' s s' p q = (p .0 ∙ sym (q .0), p .1 ∙ sym (q .1))
+
+pub respond-agrees : (κs : _) (a : _) (r r' : _) (s s' : _) → respond.Post κs a r s → respond.Post κs a r' s'
+    → (r ≡ r') × (now (s .1 .0) ≡ now (s' .1 .0))
+respond-agrees κs a r r' s s' p q = (p .0 .next ∙ sym (q .0 .next), p .0 .bytes ∙ sym (q .0 .bytes))
+
+-- ---- "Every refusal writes nothing"
+pub list-kept : (bw : ℕ) (a b d : List ℕ) → (listAnswer bw a b (length d) .number ≡ 0 → ⊥) → listAfter bw a b d ≡ d
+unfolding listAnswer listAfter
+list-kept bw a b d h = after-kept (listable bw a b (length d)) (length (listing bw a b)) _ d h
+
+-- ---- 1 to 11 as the reader: `list` refuses with one of them exactly when `read` with room for 154 words does
+words-fit : (bw : ℕ) (a b : List ℕ) → wordCount bw a b ≤ 154
+unfolding wordCount
+words-fit bw a b = omega (arith, count-le bw 1 a, count-le bw 2 b)
+
+pub read-refuses : (bw : ℕ) (a b : List ℕ) (x : Answer) → readable bw a b ≡ Refuse x → answerOf bw a b 154 ≡ x
+unfolding answerOf _or_
+read-refuses bw a b x e = rw (reading-stages bw a b 154, e)
+
+pub read-accepts : (bw : ℕ) (a b : List ℕ) → readable bw a b ≡ Pass → answerOf bw a b 154 .number ≡ 0
+unfolding answerOf _or_ check12 noRoom
+read-accepts bw a b e = rw (reading-stages bw a b 154, e, le-ltb 154 (wordCount bw a b) (words-fit bw a b))
+
+pub list-refuses : (bw : ℕ) (a b : List ℕ) (room : ℕ) (x : Answer) → readable bw a b ≡ Refuse x → listAnswer bw a b room ≡ x
+unfolding listAnswer listable _or_
+list-refuses bw a b room x e = rw e
+
+pub list-accepts : (bw : ℕ) (a b : List ℕ) (room : ℕ) → readable bw a b ≡ Pass
+    → (listAnswer bw a b room .number ≡ 0) ⊎ (listAnswer bw a b room .number ≡ 23)
+unfolding listAnswer listable check23 _or_
+list-accepts bw a b room e = go (ltb room (length (listing bw a b))) refl
+  where
+    go : (t : Bool) → ltb room (length (listing bw a b)) ≡ t
+        → (listAnswer bw a b room .number ≡ 0) ⊎ (listAnswer bw a b room .number ≡ 23)
+    go true f = inr (rw (e, f))
+    go false f = inl (rw (e, f))
+
+-- ---- "Stations counts User fields": as many as there are words past the first ten
+pub stations-words : (bw : ℕ) (a b : List ℕ) → 10 + (count bw 1 a + count bw 2 b) ≡ wordCount bw a b
+unfolding wordCount
+stations-words bw a b = refl
+
+-- ---- the k-th `ru=` line is the k-th record's, the i-th `sta=` line is the i-th User field's
+pub listing-lines : (bw : ℕ) (a b : List ℕ)
+    → listing bw a b
+    ≡ headText bw (length (resources (row bw a b))) (count bw 1 a) (count bw 2 b)
+    ++ upto (λ k. recordLine (length (row bw a b)) (getD (resources (row bw a b)) k blank)) (length (resources (row bw a b)))
+    ++ upto (staLineAt bw (row bw a b) a b (count bw 1 a)) (count bw 1 a + count bw 2 b)
+unfolding listing listingOf ruLines staLines
+listing-lines bw a b = refl
+
+-- its resource is the one that owns the field, in the plan of the row
+module _ (r : List ℕ) (m i : ℕ) (h : Signals (onlyPlan (at r)) (at r) 0 (length r)) where
+  pub owned-1 : i < m → i < fieldsBefore 0 (at r) (length r) → Owns (onlyPlan (at r)) (at r) (length r) (ownerIn r m i) 0 i
+  unfolding ownerIn
+  owned-1 l f = rw (lt-ltb i m l) (owner-owns (onlyPlan (at r)) (at r) (length r) h 0 i f)
+
+  pub owned-2 : m ≤ i → i - m < fieldsBefore 1 (at r) (length r) → Owns (onlyPlan (at r)) (at r) (length r) (ownerIn r m i) 1 (i - m)
+  unfolding ownerIn
+  owned-2 l f = rw (le-ltb i m l) (owner-owns (onlyPlan (at r)) (at r) (length r) h 1 (i - m) f)
+
+-- ---- the program hands over at most 8,193 bytes, and that suffices to tell
+pub enough : (s : List ℕ) → programText (take 8193 s) ≡ programText s
+unfolding programText parsed
+enough s = go (ltb 8193 (length s)) refl
+  where
+    go : (t : Bool) → ltb 8193 (length s) ≡ t → programText (take 8193 s) ≡ programText s
+    go true e =
+        let l : 8193 < length s = ltb-true 8193 (length s) e in
+        let k : length (take 8193 s) ≡ 8193 = length-take-le 8193 s (omega arith) in
+        rw (k, lt-ltb 8192 (length s) (omega arith))
+    go false e = ap programText (take-all 8193 s (ltb-false 8193 (length s) e))
