@@ -1,0 +1,40 @@
+-- What the contracts of the C entries leave open: nothing. Assumes nothing.
+use mathlib.Core.Path.{_≡_, sym, _∙_, ap}
+use denote.Ref.{now}
+use lib.ListN.{length}
+use Prim.Native.Nat.{_*_, _/_}
+use Rattle.answer.specs.declared.Answer.{Answer}
+use Rattle.answer.specs.Order.{after-kept}
+use Rattle.answer.specs.Filled.{filled}
+use Rattle.reader.specs.Table.{reading, wordCount}
+use Rattle.reader.specs.Words.{wordsOf}
+use Rattle.reader.specs.Result.{answerOf}
+use Rattle.writer.specs.Candidate.{needed, candidate}
+use Rattle.writer.specs.Result.{front}
+use Rattle.brachymel.specs.Bytes.{byteAt, readBytes, wordsIn, writingText, writeAnswer, writeChannel}
+use Rattle.brachymel.proofs.brachymel_read.Reads as read
+use Rattle.brachymel.proofs.brachymel_write.Reads as write
+use Rattle.brachymel.proofs.brachymel_list.Reads as list
+
+pub read-agrees : (κs : _) (a : _) (r r' : _) (s s' : _) → read.Post κs a r s → read.Post κs a r' s'
+    → (r ≡ r') × (now (s .1 .1 .1 .0) ≡ now (s' .1 .1 .1 .0))
+read-agrees κs a r r' s s' p q = (p .0 ∙ sym (q .0), p .1 ∙ sym (q .1))
+
+pub list-agrees : (κs : _) (a : _) (r r' : _) (s s' : _) → list.Post κs a r s → list.Post κs a r' s'
+    → (r ≡ r') × (now (s .1 .1 .1 .0) ≡ now (s' .1 .1 .1 .0))
+list-agrees κs a r r' s s' p q = (p .0 ∙ sym (q .0), p .1 ∙ sym (q .1))
+
+pub write-agrees : (κs : _) (a : _) (r r' : _) (s s' : _) → write.Post κs a r s → write.Post κs a r' s'
+    → (r ≡ r') × ((now (s .1 .1 .0) ≡ now (s' .1 .1 .0)) × (now (s .1 .1 .1 .0) ≡ now (s' .1 .1 .1 .0)))
+write-agrees κs a r r' s s' p q = (p .0 ∙ sym (q .0), (p .1 .0 ∙ sym (q .1 .0), p .1 .1 ∙ sym (q .1 .1)))
+
+-- "Every refusal writes nothing"
+pub read-keeps : (κs : _) (a : _) (r : _) (s : _) → read.Post κs a r s → (r .number ≡ 0 → ⊥) → now (s .1 .1 .1 .0) ≡ now (a .1 .1 .1 .0)
+unfolding readBytes answerOf
+read-keeps κs a r s p n =
+    let x = now (a .1 .0) in
+    let y = now (a .1 .1 .0) in
+    let w = now (a .1 .1 .1 .0) in
+    p .1
+    ∙ after-kept (reading (a .0) x y (length w / 4)) (wordCount (a .0) x y) (filled (byteAt (wordsOf (a .0) x y)) (4 * wordCount (a .0) x y) w) w
+    (λ e. n (ap (λ (z : Answer). z .number) (p .0) ∙ e))

@@ -1,0 +1,71 @@
+-- Reading through words of its own: what comes of the lent bytes. Assumes nothing.
+use mathlib.Core.Path.{_≡_, refl, sym, _∙_, ap}
+use mathlib.Core.List.{List, _++_, append-assoc}
+use Prim.Native.Nat.{ℕ, _+_, _*_, _/_, _%_, _^_, _≤_, _<_, min}
+use native.Mathlib.Omega.{arith}
+use lib.ListN.{length, getD, drop, length-append, List·getD-append}
+use Rattle.answer.specs.Answer.{answerAt, after}
+use Rattle.answer.specs.Order.{after-kept, after-passed}
+use Rattle.answer.specs.Filled.{filled, filled-cong}
+use Rattle.answer.specs.declared.Answer.{Answer}
+use Rattle.answer.specs.declared.Out.{Out}
+use Rattle.answer.specs.declared.Out.the-variants.{Pass, Refuse}
+use Rattle.words.specs.Words.{nth}
+use Rattle.reader.specs.Table.{reading, wordCount}
+use Rattle.reader.specs.Words.{wordsOf}
+use Rattle.reader.specs.Result.{answerOf, wordsAfter}
+use Rattle.reader.specs.Stages.{reading-pass}
+use Rattle.reader.specs.Determine.{words-length}
+use Rattle.reader.proofs.Exactly.{accepted-exactly}
+use Rattle.brachymel.specs.Bytes.{byteAt, readAnswer, readBytes}
+use Rattle.brachymel.specs.Rooms.{reading-room, words-most}
+
+module _ (bw : ℕ) (a b w p p′ : List ℕ) (x : Answer) (er : length p ≡ min (length w / 4) 154) (ex : x ≡ answerOf bw a b (length p)) (ep : p′ ≡ wordsAfter bw a b p) where
+  same-reading : reading bw a b (length p) ≡ reading bw a b (length w / 4)
+  same-reading = ap (reading bw a b) er ∙ reading-room bw a b (length w / 4)
+
+  pub answer-is : x ≡ readAnswer bw a b w
+  unfolding answerOf
+  answer-is = ex ∙ ap (λ (o : Out). answerAt o (wordCount bw a b)) same-reading
+
+  pub kept-bytes : (x .number ≡ 0 → ⊥) → w ≡ readBytes bw a b w
+  unfolding readBytes answerOf
+  kept-bytes n =
+      sym (after-kept (reading bw a b (length w / 4)) (wordCount bw a b) (filled (byteAt (wordsOf bw a b)) (4 * wordCount bw a b) w) w
+      (λ e. n (ap (λ (y : Answer). y .number) answer-is ∙ e)))
+
+  module _ (z : x .number ≡ 0) where
+    passed : reading bw a b (length p) ≡ Pass
+    passed = accepted-exactly bw a b (length p) (ap (λ (y : Answer). y .number) (sym ex) ∙ z)
+
+    pub place-is : x .place ≡ wordCount bw a b
+    unfolding answerOf
+    place-is = ap (λ (y : Answer). y .place) ex ∙ ap (λ (o : Out). answerAt o (wordCount bw a b) .place) passed
+
+    pub room-for : wordCount bw a b ≤ length p
+    room-for = reading-pass bw a b (length p) passed .room-enough
+
+    words-there : p′ ≡ wordsOf bw a b ++ drop (wordCount bw a b) p
+    unfolding wordsAfter
+    words-there = ep ∙ after-passed (reading bw a b (length p)) _ _ passed
+
+    pub holds-words : (rest : List ℕ) → wordCount bw a b ≤ length (p′ ++ rest)
+    holds-words rest =
+        omega (arith, length-append p′ rest, ap length words-there, length-append (wordsOf bw a b) (drop (wordCount bw a b) p), words-length bw a b)
+
+    same-byte : (rest : List ℕ) (j : ℕ) → j < 4 * wordCount bw a b → byteAt (p′ ++ rest) j ≡ byteAt (wordsOf bw a b) j
+    unfolding byteAt
+    same-byte rest j l =
+        let i : j / 4 < length (wordsOf bw a b) = omega (arith, words-length bw a b) in
+        let e : nth (p′ ++ rest) (j / 4) ≡ nth (wordsOf bw a b) (j / 4) =
+        ap (λ (q : List ℕ). nth (q ++ rest) (j / 4)) words-there
+        ∙ ap (λ (q : List ℕ). nth q (j / 4)) (append-assoc (wordsOf bw a b) (drop (wordCount bw a b) p) rest)
+        ∙ List·getD-append (wordsOf bw a b) (drop (wordCount bw a b) p ++ rest) 0 (j / 4) i in
+        ap (λ (q : ℕ). q / 256 ^ (j % 4) % 256) e
+
+    pub bytes-are : (rest out : List ℕ) → out ≡ filled (byteAt (p′ ++ rest)) (4 * x .place) w → out ≡ readBytes bw a b w
+    unfolding readBytes
+    bytes-are rest out e =
+        e ∙ ap (λ (n : ℕ). filled (byteAt (p′ ++ rest)) (4 * n) w) place-is
+        ∙ filled-cong (byteAt (p′ ++ rest)) (byteAt (wordsOf bw a b)) (4 * wordCount bw a b) w (same-byte rest)
+        ∙ sym (after-passed (reading bw a b (length w / 4)) _ _ (sym same-reading ∙ passed))

@@ -1,0 +1,61 @@
+-- `brachymel::brachymel_write` meets its contract. Assumes nothing.
+use Rattle.writer.specs.Result.{answerOf, channelAfter}
+use Rattle.brachymel.specs.Bytes.{writeAnswer, writeChannel}
+use Rattle.brachymel.specs.Early.{early-refuses, early-passes, few-words}
+use lib.ListN.{length}
+use Prim.Native.Nat.{_/_}
+use mathlib.Core.Path.{refl, sym, _∙_}
+use borrow.Author.Needs.{needs}
+use Rattle.brachymel.proofs.brachymel_write.Statement.{statement}
+use Rattle.brachymel.proofs.brachymel_write.Tie as tie
+
+refused-early-requires : tie.Need-refused-early-requires
+refused-early-requires c κs = search needs
+
+enum-known-early : tie.Need-enum-known-early
+enum-known-early c = search needs
+
+returns : tie.Need-returns
+unfolding writeAnswer writeChannel
+returns c =
+    let s = c .before .before .before .before .before .before .before .args in
+    let f = early-refuses (s .bandwidth) (s .words .now) (length (s .cc1 .now)) (length (s .cc2 .now)) _ (sym (c .before .before .before .refused-early .ensures) ∙ c .before .early .given .1) in
+    (rw f, (rw f, rw f))
+
+enum-told : tie.Need-enum-told
+enum-told c = search needs
+
+slice-aggregate-write-through : tie.Need-slice-aggregate-write-through
+slice-aggregate-write-through c = search needs
+
+write-through-requires : tie.Need-write-through-requires
+write-through-requires c κs =
+    let s = c .before .before .before .before .before .before .before .before .before .args in
+    (few-words (s .bandwidth) (length (s .words .now)) (length (s .words .now) / 4) (sym (c .before .before .before .before .before .refused-early .ensures) ∙ c .before .before .before .enum-told .given .1), refl)
+
+same-length : tie.Need-same-length
+same-length c = search needs
+
+same-length-2 : tie.Need-same-length-2
+same-length-2 c = search needs
+
+returns-2 : tie.Need-returns-2
+unfolding writeAnswer writeChannel answerOf channelAfter
+returns-2 c =
+    let s = c .before .before .before .before .before .before .before .before .before .before .before .before .before .before .before .args in
+    let f = early-passes (s .bandwidth) (s .words .now) (length (s .cc1 .now)) (length (s .cc2 .now)) (sym (c .before .before .before .before .before .before .before .before .before .before .before .refused-early .ensures) ∙ c .before .before .before .before .before .before .before .before .before .enum-told .given .1) in
+    rw f (c .before .before .before .before .before .write-through .ensures)
+
+pub brachymel-write-spec : {M : Type 1} → statement M
+brachymel-write-spec =
+    tie.close
+    (tie.spec
+    refused-early-requires
+    enum-known-early
+    returns
+    enum-told
+    slice-aggregate-write-through
+    write-through-requires
+    same-length
+    same-length-2
+    returns-2)

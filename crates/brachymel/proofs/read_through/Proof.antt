@@ -1,0 +1,64 @@
+-- `brachymel::read_through` meets its contract. Assumes nothing.
+use Rattle.brachymel.proofs.Through.{answer-is, kept-bytes, place-is, room-for, holds-words, bytes-are}
+use lib.Seq.{length-take-le}
+use lib.ListN.{length, take, drop}
+use native.Mathlib.Omega.{arith}
+use mathlib.Core.Path.{_≡_, sym, _∙_}
+use borrow.Author.Needs.{needs}
+use Rattle.brachymel.proofs.read_through.Statement.{statement}
+use Rattle.brachymel.proofs.read_through.Tie as tie
+
+room-of-requires : tie.Need-room-of-requires
+room-of-requires c κs = search needs
+
+slice-relend-prefix-read : tie.Need-slice-relend-prefix-read
+slice-relend-prefix-read c = search needs
+
+slice-aggregate-read : tie.Need-slice-aggregate-read
+slice-aggregate-read c = sym (length-take-le _ _ (omega arith))
+
+read-requires : tie.Need-read-requires
+read-requires c κs = search needs
+
+same-length : tie.Need-same-length
+same-length c = search needs
+
+returns : tie.Need-returns
+returns c =
+    let s = c .before .before .before .before .before .before .before .before .before .before .before .args in
+    (answer-is (s .bandwidth) (s .cc1 .now) (s .cc2 .now) (s .words .now) (take (c .before .before .before .before .before .before .room-of .result) (s .local .now)) _ _ (length-take-le _ _ (omega arith) ∙ c .before .before .before .before .before .before .room-of .ensures .1) (c .before .before .before .before .read .ensures .0) (c .before .before .before .before .read .ensures .1), kept-bytes (s .bandwidth) (s .cc1 .now) (s .cc2 .now) (s .words .now) (take (c .before .before .before .before .before .before .room-of .result) (s .local .now)) _ _ (length-take-le _ _ (omega arith) ∙ c .before .before .before .before .before .before .room-of .ensures .1) (c .before .before .before .before .read .ensures .0) (c .before .before .before .before .read .ensures .1) (c .if1 .taken))
+
+put-bytes-requires : tie.Need-put-bytes-requires
+put-bytes-requires c κs =
+    let s = c .before .before .before .before .before .before .before .before .before .before .before .before .before .args in
+    let z = c .before .before .if1 .left in
+    let e = place-is (s .bandwidth) (s .cc1 .now) (s .cc2 .now) (s .words .now) (take (c .before .before .before .before .before .before .before .before .room-of .result) (s .local .now)) _ _ (length-take-le _ _ (omega arith) ∙ c .before .before .before .before .before .before .before .before .room-of .ensures .1) (c .before .before .before .before .before .before .read .ensures .0) (c .before .before .before .before .before .before .read .ensures .1) z in
+    let r = room-for (s .bandwidth) (s .cc1 .now) (s .cc2 .now) (s .words .now) (take (c .before .before .before .before .before .before .before .before .room-of .result) (s .local .now)) _ _ (length-take-le _ _ (omega arith) ∙ c .before .before .before .before .before .before .before .before .room-of .ensures .1) (c .before .before .before .before .before .before .read .ensures .0) (c .before .before .before .before .before .before .read .ensures .1) z in
+    let n = length-take-le (c .before .before .before .before .before .before .before .before .room-of .result) (s .local .now) (omega arith) in
+    (rw e (holds-words (s .bandwidth) (s .cc1 .now) (s .cc2 .now) (s .words .now) (take (c .before .before .before .before .before .before .before .before .room-of .result) (s .local .now)) _ _ (length-take-le _ _ (omega arith) ∙ c .before .before .before .before .before .before .before .before .room-of .ensures .1) (c .before .before .before .before .before .before .read .ensures .0) (c .before .before .before .before .before .before .read .ensures .1) z (drop (c .before .before .before .before .before .before .before .before .room-of .result) (s .local .now))), omega arith, omega arith)
+
+same-length-2 : tie.Need-same-length-2
+same-length-2 c = search needs
+
+same-length-3 : tie.Need-same-length-3
+same-length-3 c = search needs
+
+returns-2 : tie.Need-returns-2
+returns-2 c =
+    let s = c .before .before .before .before .before .before .before .before .before .before .before .before .before .before .before .before .args in
+    (answer-is (s .bandwidth) (s .cc1 .now) (s .cc2 .now) (s .words .now) (take (c .before .before .before .before .before .before .before .before .before .before .before .room-of .result) (s .local .now)) _ _ (length-take-le _ _ (omega arith) ∙ c .before .before .before .before .before .before .before .before .before .before .before .room-of .ensures .1) (c .before .before .before .before .before .before .before .before .before .read .ensures .0) (c .before .before .before .before .before .before .before .before .before .read .ensures .1), bytes-are (s .bandwidth) (s .cc1 .now) (s .cc2 .now) (s .words .now) (take (c .before .before .before .before .before .before .before .before .before .before .before .room-of .result) (s .local .now)) _ _ (length-take-le _ _ (omega arith) ∙ c .before .before .before .before .before .before .before .before .before .before .before .room-of .ensures .1) (c .before .before .before .before .before .before .before .before .before .read .ensures .0) (c .before .before .before .before .before .before .before .before .before .read .ensures .1) (c .before .before .before .before .before .if1 .left) (drop (c .before .before .before .before .before .before .before .before .before .before .before .room-of .result) (s .local .now)) _ (c .before .before .put-bytes .ensures))
+
+pub read-through-spec : {M : Type 1} → statement M
+read-through-spec =
+    tie.close
+    (tie.spec
+    room-of-requires
+    slice-relend-prefix-read
+    slice-aggregate-read
+    read-requires
+    same-length
+    returns
+    put-bytes-requires
+    same-length-2
+    same-length-3
+    returns-2)

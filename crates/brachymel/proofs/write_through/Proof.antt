@@ -1,0 +1,53 @@
+-- `brachymel::write_through` meets its contract. Assumes nothing.
+use Rattle.brachymel.specs.Bytes.{wordAt}
+use Rattle.answer.specs.Filled.{build, filled-length, take-filled}
+use lib.Seq.{length-take-le}
+use lib.ListN.{length, take}
+use native.Mathlib.Omega.{arith}
+use mathlib.Core.Path.{sym, _∙_, ap}
+use borrow.Author.Needs.{needs}
+use Rattle.brachymel.proofs.write_through.Statement.{statement}
+use Rattle.brachymel.proofs.write_through.Tie as tie
+
+get-words-requires : tie.Need-get-words-requires
+get-words-requires c κs = search needs
+
+slice-reshare-prefix-write : tie.Need-slice-reshare-prefix-write
+slice-reshare-prefix-write c = search needs
+
+slice-aggregate-write : tie.Need-slice-aggregate-write
+slice-aggregate-write c =
+    let s = c .before .before .before .before .before .before .before .before .before .args in
+    let l = ap length (c .before .before .before .get-words .ensures) ∙ filled-length (wordAt (s .words .now)) (s .n) (s .local .now) (omega arith) in
+    sym (length-take-le (s .n) _ (omega arith))
+
+write-requires : tie.Need-write-requires
+write-requires c κs = search needs
+
+same-length : tie.Need-same-length
+same-length c = search needs
+
+same-length-2 : tie.Need-same-length-2
+same-length-2 c = search needs
+
+same-length-3 : tie.Need-same-length-3
+same-length-3 c = search needs
+
+returns : tie.Need-returns
+returns c =
+    let s = c .before .before .before .before .before .before .before .before .before .before .before .before .before .before .before .before .args in
+    let e = ap (take (s .n)) (c .before .before .before .before .before .before .before .before .before .before .get-words .ensures) ∙ take-filled (wordAt (s .words .now)) (s .n) (s .local .now) ∙ ap (build (wordAt (s .words .now))) (c .before .before .before .before .before .before .before .before .before .before .before .before .before .before .before .before .pre .1) in
+    rw e at (c .before .before .before .before .write .ensures)
+
+pub write-through-spec : {M : Type 1} → statement M
+write-through-spec =
+    tie.close
+    (tie.spec
+    get-words-requires
+    slice-reshare-prefix-write
+    slice-aggregate-write
+    write-requires
+    same-length
+    same-length-2
+    same-length-3
+    returns)

@@ -1,0 +1,55 @@
+-- Words as bytes, for C. Assumes nothing.
+--
+-- 01, "What comes back": "The capture software is written in C and calls reader and writer with numbers and bytes, words then being
+-- little-endian. For the reader's room only whole words count".
+use mathlib.Core.Bool.{Bool, true, false, not}
+use mathlib.Core.List.{List, _++_}
+use Prim.Native.Nat.{ℕ, _+_, _*_, _/_, _%_, _^_}
+use lib.Dec.{eqb}
+use lib.ListN.{length, drop}
+use Rattle.answer.specs.Answer.{no, refuseIf, _or_, answerAt, after}
+use Rattle.answer.specs.Filled.{build, filled}
+use Rattle.answer.specs.declared.Answer.{Answer}
+use Rattle.answer.specs.declared.Out.{Out}
+use Rattle.words.specs.Words.{nth}
+use Rattle.reader.specs.Table.{check1, reading, wordCount}
+use Rattle.reader.specs.Words.{wordsOf}
+use Rattle.reader.specs.Result.{answerOf}
+use Rattle.writer.specs.Candidate.{needed, candidate}
+use Rattle.writer.specs.Result.{writing, front}
+
+-- byte 4 i + k of the text is byte k, the lowest first, of word i
+unfoldable pub byteAt : List ℕ → ℕ → ℕ
+byteAt ws j = nth ws (j / 4) / 256 ^ (j % 4) % 256
+
+-- "0 and 12 give places in words"
+abbrev pub readAnswer : ℕ → List ℕ → List ℕ → List ℕ → Answer
+readAnswer bw a b w = answerOf bw a b (length w / 4)
+
+-- the lent bytes afterwards; those past the words keep what they held
+unfoldable pub readBytes : ℕ → List ℕ → List ℕ → List ℕ → List ℕ
+readBytes bw a b w = after (reading bw a b (length w / 4)) (filled (byteAt (wordsOf bw a b)) (4 * wordCount bw a b) w) w
+
+-- ---- the writer's words
+
+-- word i of a text of bytes
+unfoldable pub wordAt : List ℕ → ℕ → ℕ
+wordAt t i = nth t (4 * i) + 256 * (nth t (4 * i + 1) + 256 * (nth t (4 * i + 2) + 256 * nth t (4 * i + 3)))
+
+abbrev pub wordsIn : List ℕ → List ℕ
+wordsIn t = build (wordAt t) (length t / 4)
+
+-- "a word text not divisible by four gives the writer's 13"
+unfoldable pub ragged : List ℕ → Out
+ragged t = refuseIf (not (eqb (length t % 4) 0)) (no 13 0 0)
+
+-- of a text, n and m bytes lent for the channels: 1, 13, 14 in that order
+unfoldable pub writingText : ℕ → List ℕ → ℕ → ℕ → Out
+writingText bw t n m = check1 bw or ragged t or writing bw (wordsIn t) n m
+
+unfoldable pub writeAnswer : ℕ → List ℕ → ℕ → ℕ → Answer
+writeAnswer bw t n m = answerAt (writingText bw t n m) (needed bw (wordsIn t))
+
+-- channel c afterwards, which was d
+unfoldable pub writeChannel : ℕ → List ℕ → ℕ → ℕ → ℕ → List ℕ → List ℕ
+writeChannel bw t n m c d = after (writingText bw t n m) (front (candidate bw (wordsIn t) c) d) d
