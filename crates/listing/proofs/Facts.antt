@@ -11,19 +11,22 @@ use lib.Dec.{ltb}
 use lib.ListN.{length, take, getD}
 use lib.Seq.{take-all, length-take-le}
 use Rattle.answer.specs.Answer.{_or_}
-use Rattle.answer.specs.Order.{after-kept}
+use Rattle.answer.specs.Order.{after-kept, pass-left, pass-right, pass-not-refuse}
+use Rattle.answer.specs.declared.Out.{Out}
 use Rattle.answer.specs.declared.Answer.{Answer}
 use Rattle.answer.specs.declared.Out.the-variants.{Pass, Refuse}
 use Rattle.text.specs.Text.{upto}
 use Rattle.channel.specs.Layout.{row, count}
 use Rattle.channel.specs.Laws.{count-le}
 use Rattle.plan.specs.Plan.{at, Signals}
-use Rattle.plan.specs.Guess.{onlyPlan}
+use Rattle.plan.specs.Guess.{onlyPlan, layoutOf}
+use Rattle.plan.specs.Layout.{Laid, accepted, no-plan, over-eight}
+use Rattle.plan.proofs.Laid.{part-plan, whole-signals, layout-laid}
 use Rattle.records.specs.Owns.{fieldsBefore, Owns}
 use Rattle.records.specs.Records.{blank}
 use Rattle.records.proofs.Owners.{owner-owns}
 use Rattle.reader.specs.Table.{readable, check12, noRoom, wordCount}
-use Rattle.reader.specs.Stages.{reading-stages}
+use Rattle.reader.specs.Stages.{commonChecks, userChecks, readable-stages, reading-stages}
 use Rattle.reader.specs.Result.{answerOf}
 use Rattle.input.specs.Parse.{parsed}
 use Rattle.listing.specs.Lines.{headText}
@@ -95,6 +98,19 @@ module _ (r : List ℕ) (m i : ℕ) (h : Signals (onlyPlan (at r)) (at r) 0 (len
   pub owned-2 : m ≤ i → i - m < fieldsBefore 1 (at r) (length r) → Owns (onlyPlan (at r)) (at r) (length r) (ownerIn r m i) 1 (i - m)
   unfolding ownerIn
   owned-2 l f = rw (le-ltb i m l) (owner-owns (onlyPlan (at r)) (at r) (length r) h 1 (i - m) f)
+
+-- which is a plan where the frame is accepted
+pub accepted-signals : (bw : ℕ) (a b : List ℕ) → readable bw a b ≡ Pass → Signals (onlyPlan (at (row bw a b))) (at (row bw a b)) 0 (length (row bw a b))
+accepted-signals bw a b e =
+    go (layout-laid r) (pass-right (commonChecks bw a b) (layoutOf r) (pass-left _ (userChecks bw a b) (sym (readable-stages bw a b) ∙ e)))
+  where
+    r : List ℕ
+    r = row bw a b
+
+    go : {o : Out} → Laid r o → o ≡ Pass → Signals (onlyPlan (at r)) (at r) 0 (length r)
+    go (accepted w) f = whole-signals r (λ s l. part-plan r (w .0, w .1) s)
+    go (no-plan s l n h) f = absurd (pass-not-refuse f refl)
+    go (over-eight s l h n k) f = absurd (pass-not-refuse f refl)
 
 -- ---- the program hands over at most 8,193 bytes, and that suffices to tell
 pub enough : (s : List ℕ) → programText (take 8193 s) ≡ programText s

@@ -3,3 +3,4 @@ pub mod Owner
 pub mod Outcome
 pub mod Facts
 pub mod Example
+pub mod Longest
