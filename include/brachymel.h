@@ -56,12 +56,13 @@ enum {
     BRACHYMEL_LISTING_ROOM = 23      /* list: the text buffer is too short: 0, bytes needed */
 };
 
-/* Sizes, in bytes, that always suffice. */
+/* Sizes, in bytes, that always suffice. Of a listing, 10,131 is the longest that was met, and 42,680 is proved to be
+ * enough; a call with too little room answers 23 with the bytes needed. */
 enum {
     BRACHYMEL_CHANNEL_LIMIT = 512,   /* a longer channel is refused */
     BRACHYMEL_WORDS_SIZE = 616,      /* 154 words: 10, and 144 User fields */
     BRACHYMEL_CHANNEL_SIZE = 257,    /* a channel that is written */
-    BRACHYMEL_LISTING_SIZE = 10131   /* a listing */
+    BRACHYMEL_LISTING_SIZE = 10131   /* a listing: the longest that was met */
 };
 
 /* Reads two channels into words. Refusals 1 to 12. Only whole words of the buffer count. */

@@ -192,7 +192,7 @@ same-bandwidth bw bw' a b a' b' l l' e = go (decLt bw bw') (decLt bw' bw)
     go (no m) (yes k) = absurd (not-wider bw' bw a' b' a b l (sym e) k)
     go (no m) (no k) = omega arith
 
--- DESIGN, equal words: the same bandwidth, row, overflow and User fields of 22 bits, as many of each channel
+-- equal words say the same bandwidth, row, overflow and User fields of 22 bits, as many of each channel
 pub record SameFrame (bw : ℕ) (a b : List ℕ) (bw' : ℕ) (a' b' : List ℕ) : Type 0 where
   pub bandwidth : bw ≡ bw'
   pub the-row : row bw a b ≡ row bw' a' b'
