@@ -3,7 +3,7 @@ use mathlib.Core.Path.{_≡_, refl, sym, ap, _∙_}
 use mathlib.Core.Bool.{Bool, true, false}
 use mathlib.Core.List.{List, _++_}
 use mathlib.Core.Logic.{_⊎_, inl, inr}
-use Prim.Native.Nat.{ℕ, _+_, _-_, _≤_, _<_}
+use Prim.Native.Nat.{ℕ, _+_, _≤_, _<_}
 use native.Mathlib.Omega.{arith}
 use borrow.Author.Tests.{lt-ltb, le-ltb, ltb-true, ltb-false}
 use denote.Ref.{now}
@@ -22,15 +22,13 @@ use Rattle.plan.specs.Plan.{at, Signals}
 use Rattle.plan.specs.Guess.{onlyPlan, layoutOf}
 use Rattle.plan.specs.Layout.{Laid, accepted, no-plan, over-eight}
 use Rattle.plan.proofs.Laid.{part-plan, whole-signals, layout-laid}
-use Rattle.records.specs.Owns.{fieldsBefore, Owns}
 use Rattle.records.specs.Records.{blank}
-use Rattle.records.proofs.Owners.{owner-owns}
 use Rattle.reader.specs.Table.{readable, check12, noRoom, wordCount}
 use Rattle.reader.specs.Stages.{commonChecks, userChecks, readable-stages, reading-stages}
 use Rattle.reader.specs.Result.{answerOf}
 use Rattle.input.specs.Parse.{parsed}
 use Rattle.listing.specs.Lines.{headText}
-use Rattle.listing.specs.Listing.{recordLine, resources, ruLines, ownerIn, staLineAt, staLines, listingOf, listing, check23, listable, listAnswer, listAfter, programText}
+use Rattle.listing.specs.Listing.{recordLine, resources, ruLines, staLineAt, staLines, listingOf, listing, check23, listable, listAnswer, listAfter, programText}
 use Rattle.listing.proofs.list.Reads as list
 use Rattle.listing.proofs.respond.Reads as respond
 
@@ -75,12 +73,7 @@ list-accepts bw a b room e = go (ltb room (length (listing bw a b))) refl
     go true f = inr (rw (e, f))
     go false f = inl (rw (e, f))
 
--- ---- "Stations counts User fields": as many as there are words past the first ten
-pub stations-words : (bw : ℕ) (a b : List ℕ) → 10 + (count bw 1 a + count bw 2 b) ≡ wordCount bw a b
-unfolding wordCount
-stations-words bw a b = refl
-
--- ---- the k-th `ru=` line is the k-th record's, the i-th `sta=` line is the i-th User field's
+-- ---- the k-th `ru=` line is the k-th record's, the i-th `sta=` line is the i-th User field's (`Stations.antt`)
 pub listing-lines : (bw : ℕ) (a b : List ℕ)
     → listing bw a b
     ≡ headText bw (length (resources (row bw a b))) (count bw 1 a) (count bw 2 b)
@@ -89,17 +82,7 @@ pub listing-lines : (bw : ℕ) (a b : List ℕ)
 unfolding listing listingOf ruLines staLines
 listing-lines bw a b = refl
 
--- its resource is the one that owns the field, in the plan of the row
-module _ (r : List ℕ) (m i : ℕ) (h : Signals (onlyPlan (at r)) (at r) 0 (length r)) where
-  pub owned-1 : i < m → i < fieldsBefore 0 (at r) (length r) → Owns (onlyPlan (at r)) (at r) (length r) (ownerIn r m i) 0 i
-  unfolding ownerIn
-  owned-1 l f = rw (lt-ltb i m l) (owner-owns (onlyPlan (at r)) (at r) (length r) h 0 i f)
-
-  pub owned-2 : m ≤ i → i - m < fieldsBefore 1 (at r) (length r) → Owns (onlyPlan (at r)) (at r) (length r) (ownerIn r m i) 1 (i - m)
-  unfolding ownerIn
-  owned-2 l f = rw (le-ltb i m l) (owner-owns (onlyPlan (at r)) (at r) (length r) h 1 (i - m) f)
-
--- which is a plan where the frame is accepted
+-- ---- the plan that is listed signals the row of an accepted frame
 pub accepted-signals : (bw : ℕ) (a b : List ℕ) → readable bw a b ≡ Pass → Signals (onlyPlan (at (row bw a b))) (at (row bw a b)) 0 (length (row bw a b))
 accepted-signals bw a b e =
     go (layout-laid r) (pass-right (commonChecks bw a b) (layoutOf r) (pass-left _ (userChecks bw a b) (sym (readable-stages bw a b) ∙ e)))

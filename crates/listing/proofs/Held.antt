@@ -1,13 +1,13 @@
 -- The runs and the plan that the program holds have the text of the resource's and of the row's. Assumes nothing.
 use mathlib.Core.Path.{_≡_, refl, ap, _∙_}
-use mathlib.Core.List.{List, [], _++_}
-use Prim.Native.Nat.{ℕ, _*_, _≤_, _<_}
+use mathlib.Core.List.{List}
+use Prim.Native.Nat.{ℕ, _≤_}
 use native.Mathlib.Omega.{arith}
-use lib.ListN.{length, getD, drop, replicate, length-append, length-drop, length-replicate, List·getD-append}
+use lib.ListN.{length, drop, replicate, length-append, length-drop, length-replicate, List·getD-append}
 use Rattle.text.specs.Laws.{upto-cong}
 use Rattle.resource.specs.declared.Resource.{Resource}
 use Rattle.resource.specs.declared.Run.{Run}
-use Rattle.resource.specs.Runs.{spanOf, runsOf, noRun, held}
+use Rattle.resource.specs.Runs.{spanOf, runsOf, held}
 use Rattle.resource.proofs.Held.{runs-few, held-at}
 use Rattle.plan.specs.Plan.{at}
 use Rattle.plan.specs.Guess.{onlyPlan}

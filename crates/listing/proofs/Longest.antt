@@ -1,13 +1,11 @@
 -- The most bytes that a listing can take: 200 before the resources, then at most 144 lines of resources with 240 bytes each and 144 of
 -- stations with 55 each. The program's buffer has room for 43,008. Assumes nothing.
 
-use mathlib.Core.List.{List, _++_}
-use Prim.Native.Nat.{ℕ, _+_, _*_, _≤_, _<_}
+use mathlib.Core.List.{List}
+use Prim.Native.Nat.{ℕ, _+_, _≤_}
 use native.Mathlib.Omega.{arith}
 use lib.ListN.{length, getD, length-append}
-use Rattle.text.specs.Text.{codes, dec, upto}
 use Rattle.text.specs.Laws.{dec-short, upto-short}
-use Rattle.resource.specs.declared.Size.{Size}
 use Rattle.resource.specs.declared.Size.the-variants.{S26, S52, S106, S242, S484, S996}
 use Rattle.resource.specs.declared.Pairing.the-variants.{P106And26, P484And242}
 use Rattle.resource.specs.declared.Resource.{Resource}

@@ -1,10 +1,10 @@
 -- What each way through `list` comes to. Assumes nothing.
-use mathlib.Core.Path.{_≡_, refl, sym, ap, _∙_}
+use mathlib.Core.Path.{_≡_, sym, ap, _∙_}
 use mathlib.Core.List.{List, [], _++_}
 use Prim.Native.Nat.{ℕ, _≤_, _<_}
 use native.Mathlib.Omega.{arith}
 use borrow.Author.Tests.{lt-ltb, le-ltb}
-use lib.ListN.{length, drop, take}
+use lib.ListN.{length, take}
 use Rattle.answer.specs.Answer.{no, _or_}
 use Rattle.answer.specs.Order.{pass-left}
 use Rattle.answer.specs.Filled.{build, filled, take-filled}

@@ -1,16 +1,15 @@
 -- The number of a field's owner is small. Assumes nothing.
 use mathlib.Core.Path.{_≡_, refl}
 use mathlib.Core.Bool.{Bool, true, false, cond}
-use Prim.Native.Nat.{ℕ, zero, suc, _+_, _-_, _*_, _/_, _≤_, _<_}
+use Prim.Native.Nat.{ℕ, zero, suc, _+_, _-_, _*_, _/_, _≤_}
 use native.Mathlib.Omega.{arith}
 use borrow.Author.Tests.{ltb-true}
 use lib.Dec.{ltb, eqb}
-use lib.ListN.{length}
 use Rattle.plan.specs.declared.Owner.{Owner}
 use Rattle.plan.specs.declared.Owner.the-variants.{Itself, Pair, Whole, Three}
 use Rattle.resource.specs.Values.{fieldsOf}
 use Rattle.resource.proofs.Fields.{fields-most}
-use Rattle.records.specs.Records.{inChannel, divides, recordsFrom}
+use Rattle.records.specs.Records.{divides}
 use Rattle.records.specs.Owns.{fieldsBefore, number, lowest, ownerAt, ownerOf}
 use Rattle.records.proofs.Listing.{records-most}
 use Rattle.records.proofs.Owners.{in-most}

@@ -1,19 +1,19 @@
 -- The listing of a frame (01, "Listing"), what `list` answers, and the program's whole text. Assumes nothing.
 --
 -- a and b are the bytes of channel 1 and channel 2.
-use mathlib.Core.Bool.{Bool, true, false, cond}
-use mathlib.Core.List.{List, [], _∷_, _++_}
-use Prim.Native.Nat.{ℕ, suc, _+_, _-_}
+use mathlib.Core.Bool.{cond}
+use mathlib.Core.List.{List, _++_}
+use Prim.Native.Nat.{ℕ, _+_, _-_}
 use lib.Dec.{ltb}
 use lib.ListN.{length, drop, getD}
 use Rattle.answer.specs.Answer.{no, refuseIf, _or_, answerAt, after}
 use Rattle.answer.specs.declared.Answer.{Answer}
 use Rattle.answer.specs.declared.Out.{Out}
 use Rattle.answer.specs.declared.Out.the-variants.{Pass, Refuse}
-use Rattle.text.specs.Text.{codes, upto}
+use Rattle.text.specs.Text.{upto}
 use Rattle.plan.specs.Plan.{at}
 use Rattle.plan.specs.Guess.{onlyPlan}
-use Rattle.channel.specs.Layout.{positions, row, count}
+use Rattle.channel.specs.Layout.{row, count}
 use Rattle.records.specs.declared.Record.{Record}
 use Rattle.records.specs.declared.Plan.{Plan}
 use Rattle.records.specs.Records.{recordsOf, blank}

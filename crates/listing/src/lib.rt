@@ -11,12 +11,11 @@ use lines::put_sta;
 use records::Plan;
 use records::Record;
 ghost use mathlib.Core.Path.{_≡_};
-ghost use mathlib.Core.List.{_++_};
 ghost use Prim.Native.Nat.{_+_, _*_, _≤_, _<_};
-ghost use lib.ListN.{length, drop};
+ghost use lib.ListN.{length};
 ghost use Rattle.text.specs.Text.{Wrote};
 ghost use Rattle.input.specs.Parse.{bytesAt, secondAt};
-ghost use Rattle.listing.specs.Listing.{recordLine, planLines, ownerIn, staLineAt, staLines, listingOf, listing, listAnswer, listAfter, frameText, programText};
+ghost use Rattle.listing.specs.Listing.{recordLine, planLines, staLineAt, staLines, listingOf, listing, listAnswer, listAfter, frameText, programText};
 
 // ---- the listing of an accepted frame
 

@@ -5,12 +5,11 @@ use resource::Run;
 use resource::Size;
 use resource::Tones;
 ghost use mathlib.Core.Path.{_≡_};
-ghost use mathlib.Core.List.{_++_};
 ghost use Prim.Native.Nat.{_+_, _*_, _≤_, _<_};
 ghost use lib.ListN.{length};
-ghost use Rattle.text.specs.Text.{Wrote, dec};
+ghost use Rattle.text.specs.Text.{Wrote};
 ghost use Rattle.resource.specs.Names.{numberOf};
-ghost use Rattle.resource.specs.Runs.{runsOf, spanOf};
+ghost use Rattle.resource.specs.Runs.{spanOf};
 ghost use Rattle.listing.specs.Lines.{keyed, line, sizeText, pairingText, nameText, comma, spanText, heldText, ruHead, ruLine, staLine, refusalText, headText};
 
 // A fixed key and a number.

@@ -197,7 +197,7 @@ fn records_before(row: &[u16], q: usize) -> usize
     ensures { λ r. ⌜ (r ≡ length (recordsFrom (onlyPlan (at (now (row .entry)))) (at (now (row .entry))) q)) × (r ≤ 9 * q) ⌝ }
 {
     let mut sum: usize = 0;
-    let mut p: usize = 0;
+    let mut p: usize = 0; // numbers run over the whole plan, not from each segment's first position
     while p < q {
         sum += listed_at(row, p) as usize;
         p += 1;

@@ -1,9 +1,9 @@
 -- `listing::put_tones` meets its contract. Assumes nothing.
 use borrow.Author.Needs.{needs}
 use native.Mathlib.Omega.{arith}
-use mathlib.Core.Path.{_≡_, ap, _∙_}
+use mathlib.Core.Path.{_≡_}
 use Prim.Native.Nat.{_+_, _-_, _*_, _≤_}
-use lib.ListN.{length, getD}
+use lib.ListN.{getD}
 use Rattle.text.specs.Text.{Wrote, upto}
 use Rattle.text.specs.Laws.{no-item, item, kept}
 use Rattle.resource.specs.Runs.{spanOf, noRun}

@@ -1,0 +1,172 @@
+-- "Stations counts User fields; sta= lines follow the User words" (01, "Listing"): how many `sta=` lines there are, what each says, and
+-- whose field it is. Assumes nothing.
+use mathlib.Core.Path.{_≡_, refl, sym, ap, _∙_}
+use mathlib.Core.Bool.{Bool, true, false, cond}
+use mathlib.Core.List.{List}
+use Prim.Native.Nat.{ℕ, zero, suc, _+_, _-_, _*_, _/_, _%_, _≤_, _<_}
+use native.Mathlib.Decide.{decLt}
+use native.Mathlib.Omega.{arith}
+use borrow.Author.Tests.{lt-ltb, le-ltb, ltb-true, ltb-false, eq-eqb, ne-eqb}
+use lib.Dec.{ltb, eqb}
+use lib.ListN.{length}
+use Rattle.answer.specs.declared.Out.the-variants.{Pass}
+use Rattle.bits.specs.Bits.{field}
+use Rattle.bits.specs.Fields.{field-lt, field-split}
+use Rattle.words.specs.Words.{nth}
+use Rattle.words.specs.Back.{fieldIn, userField}
+use Rattle.resource.specs.Values.{fieldsOf}
+use Rattle.channel.specs.Layout.{positions, present, firsts, seconds, subfields, subfieldsIn, value, row, total, count, userAt}
+use Rattle.channel.specs.Laws.{half, subfields-wide, row-length, row-even, row-odd, total-cong}
+use Rattle.plan.specs.Plan.{at}
+use Rattle.plan.specs.Guess.{onlyPlan}
+use Rattle.records.specs.Owns.{fieldsBefore, Owns}
+use Rattle.records.proofs.Owners.{owner-owns}
+use Rattle.records.proofs.Shares.{owner-listed}
+use Rattle.reader.specs.Table.{readable, wordCount}
+use Rattle.reader.specs.Words.{wordsOf}
+use Rattle.reader.specs.Determine.{words-length, user-back-1, user-back-2}
+use Rattle.listing.specs.Lines.{staLine}
+use Rattle.listing.specs.Listing.{resources, ownerIn, staLineAt}
+use Rattle.listing.proofs.Outcome.{known-code}
+use Rattle.listing.proofs.Facts.{accepted-signals}
+
+-- ---- how many: "the count is the sum over the row's values", in each channel
+
+-- of whole pairs of positions
+even-fields : (row : ℕ → ℕ) (n : ℕ) → fieldsBefore 0 row (2 * n) ≡ total (λ k. fieldsOf (row (2 * k))) n
+unfolding total
+even-fields row zero = refl
+even-fields row (suc n) =
+    let e : 2 * suc n ≡ suc (suc (2 * n)) = omega arith in
+    let z : 2 * n % 2 ≡ 0 = omega arith in
+    rw (e, eq-eqb (2 * n % 2) 0 z, ne-eqb (suc (2 * n) % 2) 0 (λ f. omega arith)) (omega (arith, even-fields row n))
+
+odd-fields : (row : ℕ → ℕ) (n : ℕ) → fieldsBefore 1 row (2 * n) ≡ total (λ k. fieldsOf (row (2 * k + 1))) n
+unfolding total
+odd-fields row zero = refl
+odd-fields row (suc n) =
+    let e : 2 * suc n ≡ suc (suc (2 * n)) = omega arith in
+    let z : suc (2 * n) % 2 ≡ 1 = omega arith in
+    let s : 2 * n + 1 ≡ suc (2 * n) = omega arith in
+    rw (e, s, ne-eqb (2 * n % 2) 1 (λ f. omega arith), eq-eqb (suc (2 * n) % 2) 1 z) (omega (arith, odd-fields row n))
+
+module _ (bw : ℕ) (a b : List ℕ) (l : bw ≤ 4) where
+  abbrev at-p : ℕ → ℕ
+  at-p = at (row bw a b)
+
+  -- at 20 MHz there is one position, and no channel 2
+  lone : bw ≡ 0 → (fieldsBefore 0 at-p (positions bw) ≡ count bw 1 a) × (fieldsBefore 1 at-p (positions bw) ≡ count bw 2 b)
+  unfolding count total positions subfieldsIn present subfields firsts seconds
+  lone e =
+      let v : at-p 0 ≡ value bw a 0 = row-even bw a b 0 (rw e (omega arith)) in
+      (rw e (ap (λ (x : ℕ). 0 + fieldsOf x) (rw e at v)), rw e)
+
+  in-each : (fieldsBefore 0 at-p (positions bw) ≡ count bw 1 a) × (fieldsBefore 1 at-p (positions bw) ≡ count bw 2 b)
+  unfolding count
+  in-each = go (decLt 0 bw)
+    where
+      go : Dec (0 < bw) → (fieldsBefore 0 at-p (positions bw) ≡ count bw 1 a) × (fieldsBefore 1 at-p (positions bw) ≡ count bw 2 b)
+      go (yes h) =
+          let n : 2 * subfields bw ≡ positions bw = half bw h l in (
+            ap (fieldsBefore 0 at-p) (sym n)
+                ∙ even-fields at-p (subfields bw)
+                ∙ total-cong (λ k. fieldsOf (at-p (2 * k))) (λ k. fieldsOf (value bw a k)) (subfields bw) (λ k m. ap fieldsOf (row-even bw a b k (omega arith)))
+                ∙ ap (total (λ k. fieldsOf (value bw a k))) (sym (subfields-wide bw 1 h)),
+            ap (fieldsBefore 1 at-p) (sym n)
+                ∙ odd-fields at-p (subfields bw)
+                ∙ total-cong (λ k. fieldsOf (at-p (2 * k + 1))) (λ k. fieldsOf (value bw b k)) (subfields bw) (λ k m. ap fieldsOf (row-odd bw a b k (omega arith)))
+                ∙ ap (total (λ k. fieldsOf (value bw b k))) (sym (subfields-wide bw 2 h)),
+          )
+      go (no h) = lone (omega arith)
+
+  -- fields1=
+  pub fields-1 : fieldsBefore 0 (at (row bw a b)) (length (row bw a b)) ≡ count bw 1 a
+  fields-1 = ap (fieldsBefore 0 at-p) (row-length bw a b) ∙ in-each .0
+
+  -- fields2=
+  pub fields-2 : fieldsBefore 1 (at (row bw a b)) (length (row bw a b)) ≡ count bw 2 b
+  fields-2 = ap (fieldsBefore 1 at-p) (row-length bw a b) ∙ in-each .1
+
+-- stations=: their sum, as many as there are words past the first ten
+pub stations-words : (bw : ℕ) (a b : List ℕ) → count bw 1 a + count bw 2 b ≡ length (wordsOf bw a b) - 10
+unfolding wordCount
+stations-words bw a b = omega (arith, words-length bw a b)
+
+-- ---- the STA-ID of a User word: 002, "STA-ID 0x7ff00", its bits 8 to 18
+low-part : (x y : ℕ) → x < 2048 → (x + 2048 * y) % 2048 ≡ x
+low-part x y l = omega arith
+
+station-bits : (w : ℕ) → userField w % 2048 ≡ w / 256 % 2048
+unfolding userField
+station-bits w = go (eqb (w % 256) 0x47)
+  where
+    go : (t : Bool) → fieldIn t w % 2048 ≡ w / 256 % 2048
+    go true = low-part (w / 256 % 2048) _ (omega arith)
+    go false = low-part (w / 256 % 2048) _ (omega arith)
+
+first-11 : (s : List ℕ) (n : ℕ) → field s n 22 % 2048 ≡ field s n 11
+first-11 s n = omega (arith, field-split s n 11 11, field-lt s n 11)
+
+-- ---- "one per User field, channel 1 first": of the i-th User field over both channels, m of which are channel 1's, the channel, from 0,
+-- and its number there
+abbrev pub channelIn : ℕ → ℕ → ℕ
+channelIn m i = cond (ltb i m) 0 1
+
+abbrev pub placeIn : ℕ → ℕ → ℕ
+placeIn m i = cond (ltb i m) i (i - m)
+
+-- the i-th `sta=` line is that of the i-th User word
+pub record Station (bw : ℕ) (a b r : List ℕ) (m i : ℕ) : Type 0 where
+  -- it says the word's STA-ID, and a resource's number, from 1
+  pub line : staLineAt bw r a b m i ≡ staLine (nth (wordsOf bw a b) (10 + i) / 256 % 2048) (ownerIn r m i + 1)
+  -- which has a `ru=` line
+  pub listed : ownerIn r m i < length (resources r)
+  -- and owns the field
+  pub owns : Owns (onlyPlan (at r)) (at r) (length r) (ownerIn r m i) (channelIn m i) (placeIn m i)
+
+module _ (bw : ℕ) (a b : List ℕ) (e : readable bw a b ≡ Pass) where
+  abbrev the-row : List ℕ
+  the-row = row bw a b
+
+  abbrev first : ℕ
+  first = count bw 1 a
+
+  -- of channel 1
+  station-1 : (i : ℕ) → i < first → Station bw a b the-row first i
+  unfolding staLineAt ownerIn
+  station-1 i l =
+      let f : i < fieldsBefore 0 (at the-row) (length the-row) = omega (arith, fields-1 bw a b (known-code bw a b e)) in
+      let s = accepted-signals bw a b e in
+      let t : ltb i first ≡ true = lt-ltb i first l in
+      let w : nth (wordsOf bw a b) (10 + i) / 256 % 2048 ≡ field a (userAt bw i) 11 =
+      sym (station-bits (nth (wordsOf bw a b) (10 + i))) ∙ ap (λ (x : ℕ). x % 2048) (user-back-1 bw a b i l) ∙ first-11 a (userAt bw i) in
+      record {
+        line = rw (t, w);
+        listed = rw t (owner-listed (onlyPlan (at the-row)) (at the-row) (length the-row) s 0 i f);
+        owns = rw t (owner-owns (onlyPlan (at the-row)) (at the-row) (length the-row) s 0 i f);
+      }
+
+  -- of channel 2
+  station-2 : (i : ℕ) → first ≤ i → i - first < count bw 2 b → Station bw a b the-row first i
+  unfolding staLineAt ownerIn
+  station-2 i h l =
+      let j = i - first in
+      let f : j < fieldsBefore 1 (at the-row) (length the-row) = omega (arith, fields-2 bw a b (known-code bw a b e)) in
+      let s = accepted-signals bw a b e in
+      let t : ltb i first ≡ false = le-ltb i first h in
+      let n : 10 + i ≡ 10 + first + j = omega arith in
+      let w : nth (wordsOf bw a b) (10 + i) / 256 % 2048 ≡ field b (userAt bw j) 11 =
+      sym (station-bits (nth (wordsOf bw a b) (10 + i))) ∙ ap (λ (x : ℕ). x % 2048) (ap (λ (x : ℕ). userField (nth (wordsOf bw a b) x)) n ∙ user-back-2 bw a b j l) ∙ first-11 b (userAt bw j) in
+      record {
+        line = rw (t, w);
+        listed = rw t (owner-listed (onlyPlan (at the-row)) (at the-row) (length the-row) s 1 j f);
+        owns = rw t (owner-owns (onlyPlan (at the-row)) (at the-row) (length the-row) s 1 j f);
+      }
+
+  -- of an accepted frame, for each User word
+  pub station : (i : ℕ) → i < length (wordsOf bw a b) - 10 → Station bw a b (row bw a b) (count bw 1 a) i
+  station i l = go (ltb i first) refl
+    where
+      go : (t : Bool) → ltb i first ≡ t → Station bw a b the-row first i
+      go true f = station-1 i (ltb-true i first f)
+      go false f = let h = ltb-false i first f in station-2 i h (omega (arith, stations-words bw a b))
