@@ -4,6 +4,8 @@ use crate::print::bytes;
 use crate::print::no_case;
 use crate::print::number as print_number;
 use crate::print::text;
+use crate::rows::is_row;
+use crate::rows::row;
 use crate::words::has;
 use crate::words::number;
 use crate::words::string;
@@ -138,6 +140,12 @@ fn by_letter(line: &[u8], letter: u8) {
         b'k' => {
             if has(line, b"snn") {
                 block(line);
+                return;
+            }
+        }
+        b'r' => {
+            if is_row(line) {
+                row(line);
                 return;
             }
         }

@@ -5,6 +5,7 @@
 mod cases;
 mod frames;
 mod print;
+mod rows;
 mod words;
 mod writes;
 

@@ -1,0 +1,54 @@
+-- `vectors::rows::print_owners` is safe and ends. Assumes nothing.
+use Prim.Native.Nat.{_≤_, _-_}
+use borrow.Author.Needs.{needs}
+use Rattle.vectors.proofs.rows.print_owners.Statement.{statement}
+use Rattle.vectors.proofs.rows.print_owners.Tie as tie
+
+abbrev Inv-loop : tie.InvT-loop
+Inv-loop row channel j₀ j = j ≤ 144
+
+abbrev μ-loop : tie.MeasureT-loop
+μ-loop row channel j₀ j = 144 - j
+
+loop-holds : tie.Need-loop-holds Inv-loop μ-loop
+loop-holds c = search needs
+
+owner-of-requires : tie.Need-owner-of-requires Inv-loop μ-loop
+owner-of-requires c κs = search needs
+
+returns : tie.Need-returns Inv-loop μ-loop
+returns c = search needs
+
+add-print-next : tie.Need-add-print-next Inv-loop μ-loop
+add-print-next c = search needs
+
+print-next-requires : tie.Need-print-next-requires Inv-loop μ-loop
+print-next-requires c κs = search needs
+
+add-j : tie.Need-add-j Inv-loop μ-loop
+add-j c = search needs
+
+loop-less : tie.Need-loop-less Inv-loop μ-loop
+loop-less c = search needs
+
+loop-again : tie.Need-loop-again Inv-loop μ-loop
+loop-again c = search needs
+
+returns-2 : tie.Need-returns-2 Inv-loop μ-loop
+returns-2 c = search needs
+
+pub print-owners-spec : {M : Type 1} → statement M
+print-owners-spec =
+    tie.close
+    (tie.spec
+    Inv-loop
+    μ-loop
+    loop-holds
+    owner-of-requires
+    returns
+    add-print-next
+    print-next-requires
+    add-j
+    loop-less
+    loop-again
+    returns-2)

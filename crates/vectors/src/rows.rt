@@ -1,0 +1,215 @@
+// The cases of rows: the layout, the plan's resources with their subcarriers, and the owner of every User field.
+use crate::print::answer as print_answer;
+use crate::print::number as print_number;
+use crate::print::text;
+use crate::words::has;
+use crate::words::lesser;
+use crate::words::number;
+use crate::words::words;
+use answer::Answer;
+use answer::Out;
+use records::Plan;
+use records::Record;
+use resource::Pairing;
+use resource::Resource;
+use resource::Run;
+use resource::Size;
+use resource::Tones;
+ghost use mathlib.Core.Path.{_≡_};
+ghost use Prim.Native.Nat.{_≤_};
+ghost use lib.ListN.{length};
+
+// Whether a line's words are a row of 1, 2, 4, 8 or 16 values.
+pub fn is_row(line: &[u8]) -> bool {
+    match words(line) {
+        2 => has(line, b"n"),
+        3 => has(line, b"nn"),
+        5 => has(line, b"nnnn"),
+        9 => has(line, b"nnnnnnnn"),
+        17 => has(line, b"nnnnnnnnnnnnnnnn"),
+        _ => false,
+    }
+}
+
+// Word k as a value. Nine bits hold no more than 511, which is carried no more than what is above it.
+fn value(line: &[u8], k: usize) -> u16 {
+    lesser(number(line, k), 511) as u16
+}
+
+fn print_size(size: Size) {
+    match size {
+        Size::S26 => text(b"26"),
+        Size::S52 => text(b"52"),
+        Size::S106 => text(b"106"),
+        Size::S242 => text(b"242"),
+        Size::S484 => text(b"484"),
+        Size::S996 => text(b"996"),
+    }
+}
+
+fn print_pairing(pairing: Pairing) {
+    match pairing {
+        Pairing::P106And26 => text(b"106+26"),
+        Pairing::P484And242 => text(b"484+242"),
+    }
+}
+
+// A space and a number.
+fn print_next(n: u64) {
+    text(b" ");
+    print_number(n);
+}
+
+// A resource's name and index.
+fn print_resource(r: Resource) {
+    match r {
+        Resource::Single(size, i) => {
+            print_size(size);
+            print_next(i as u64);
+        }
+        Resource::Joined(pairing, i) => {
+            print_pairing(pairing);
+            print_next(i as u64);
+        }
+    }
+}
+
+// The number u - zero.
+fn print_signed(u: u32, zero: u32) {
+    if u < zero {
+        text(b"-");
+        print_number((zero - u) as u64);
+    } else {
+        print_number((u - zero) as u64);
+    }
+}
+
+fn print_run(run: Run, zero: u32) {
+    print_signed(run.lo, zero);
+    text(b":");
+    print_signed(run.hi, zero);
+}
+
+// Between the runs.
+fn print_comma(i: usize) {
+    if 0 < i {
+        text(b",");
+    }
+}
+
+// The runs of a resource, in a channel of n positions.
+fn print_tones(t: Tones, n: u16)
+    requires { ⌜ (t .count ≤ 3) × (length (t .runs) ≡ 3) ⌝ }
+{
+    let count = t.count as usize;
+    let runs = t.runs;
+    let mut i: usize = 0;
+    while i < count {
+        print_comma(i);
+        print_run(runs[i], 128 * (n as u32));
+        i += 1;
+    }
+}
+
+// A resource of segment g, in a channel of n positions: its subcarriers.
+fn print_subcarriers(n: u16, g: u16, r: Resource) {
+    text(b" ");
+    let t = resource::tones_of(n, g, r);
+    print_tones(t, n);
+}
+
+fn print_record(x: Record, n: u16) {
+    let resource = x.resource;
+    text(b" | ");
+    print_resource(resource);
+    print_next(x.segment as u64);
+    print_next(x.position as u64);
+    print_next(x.fields1 as u64);
+    print_next(x.fields2 as u64);
+    print_subcarriers(n, x.segment, resource);
+}
+
+// The resources of a plan, in a channel of n positions.
+fn print_records(plan: Plan, n: u16)
+    requires { ⌜ (plan .count ≤ 144) × (length (plan .records) ≡ 144) ⌝ }
+{
+    let count = plan.count;
+    let records = plan.records;
+    let mut i: usize = 0;
+    while i < count {
+        print_record(records[i], n);
+        i += 1;
+    }
+}
+
+// The resources, from 1, that own the fields of a channel (0 or 1): 144 is told of the field after the last.
+fn print_owners(row: &[u16], channel: usize)
+    requires { ⌜ length (now row) ≤ 16 ⌝ }
+{
+    let mut j: usize = 0;
+    while j < 144 {
+        let k = records::owner_of(row, channel, j);
+        if 144 <= k {
+            return;
+        }
+        print_next((k + 1) as u64);
+        j += 1;
+    }
+}
+
+fn print_row(row: &[u16])
+    requires { ⌜ length (now row) ≤ 16 ⌝ }
+{
+    if let Out::Refuse(x) = plan::layout(row) {
+        print_answer(x);
+        return;
+    }
+    let plan = records::plan_of(row);
+    print_answer(Answer {
+        number: 0,
+        channel: 0,
+        place: plan.count,
+    });
+    print_records(plan, row.len() as u16);
+    text(b" ;");
+    print_owners(row, 0);
+    print_owners(row, 1);
+}
+
+// The values of a line, in the row lent, and what they come to.
+fn row_line(row: &mut [u16], line: &[u8])
+    requires { ⌜ length (now row) ≤ 16 ⌝ }
+{
+    let n = row.len();
+    let mut p: usize = 0;
+    while p < n {
+        row[p] = value(line, p + 1);
+        p += 1;
+    }
+    print_row(row);
+}
+
+// How many values a line has, at most 16.
+fn positions(line: &[u8]) -> usize
+    ensures { λ r. ⌜ r ≤ 16 ⌝ }
+{
+    let n = lesser(words(line), 17);
+    if n == 0 { 0 } else { n - 1 }
+}
+
+// The same, of as many of the values lent as the line has.
+fn row_room(row: &mut [u16], line: &[u8]) {
+    let n = lesser(positions(line), row.len());
+    row_line(&mut row[..n], line);
+}
+
+// As a reference to an array, so that no proof has to count its values.
+fn lend_row(row: &mut [u16; 16], line: &[u8]) {
+    row_room(row, line);
+}
+
+// r v v ..: what a row of values comes to.
+pub fn row(line: &[u8]) {
+    let mut row = [0u16; 16];
+    lend_row(&mut row, line);
+}
