@@ -61,13 +61,13 @@ module _ (bw : ℕ) (a b : List ℕ) where
   unfolding wordsOf wordsIn
   past-ten j = getD-append-add (headerOf bw theRow a) tails j 0
 
-  word-1 : (j : ℕ) → j < count bw 1 a → nth (wordsOf bw a b) (10 + j) ≡ userWordAt bw theRow 1 a j
+  pub word-1 : (j : ℕ) → j < count bw 1 a → nth (wordsOf bw a b) (10 + j) ≡ userWordAt bw theRow 1 a j
   word-1 j l =
       past-ten j
       ∙ List·getD-append (userWords bw theRow 1 a) (userWords bw theRow 2 b) 0 j (omega (arith, length-build (userWordAt bw theRow 1 a) (count bw 1 a)))
       ∙ getD-build (userWordAt bw theRow 1 a) (count bw 1 a) j 0 l
 
-  word-2 : (j : ℕ) → j < count bw 2 b → nth (wordsOf bw a b) (10 + count bw 1 a + j) ≡ userWordAt bw theRow 2 b j
+  pub word-2 : (j : ℕ) → j < count bw 2 b → nth (wordsOf bw a b) (10 + count bw 1 a + j) ≡ userWordAt bw theRow 2 b j
   word-2 j l =
       let n : length (userWords bw theRow 1 a) ≡ count bw 1 a = length-build (userWordAt bw theRow 1 a) (count bw 1 a) in
       ap (nth (wordsOf bw a b)) (omega arith)

@@ -83,7 +83,7 @@ no-share (Three k) p v n = go (ltb k 4) (eqb (p % 4) k) refl refl
     go true false e f = absurd (n (ltb-true k 4 e, eqb-false (p % 4) k f))
     go false b e f = refl
 
-low-share : (x : Owner) (p v : ℕ) → v < 64 → share x p v ≡ 0
+pub low-share : (x : Owner) (p v : ℕ) → v < 64 → share x p v ≡ 0
 unfolding share gives
 low-share x p v h = go x (takes x (p % span x)) (other x)
   where
@@ -115,7 +115,7 @@ family-fields Whole j v t e = big-fields v (omega arith) (omega arith) (λ f. om
 family-fields (Three k) j v t e = let l : k < 4 = t .0 in big-fields v (omega arith) (omega arith) (λ f. omega arith)
 
 -- what a value gives to the resource that its position is a place of is all of its fields
-share-fields : (x : Owner) (p v : ℕ) → Fits x p v → divides v ≡ false → share x p v ≡ fieldsOf v
+pub share-fields : (x : Owner) (p v : ℕ) → Fits x p v → divides v ≡ false → share x p v ≡ fieldsOf v
 unfolding share gives
 share-fields x p v f e =
     ⊎-elim
@@ -212,7 +212,7 @@ takes-cases Whole j = inl tt
 takes-cases (Three k) j =
     ⊎-elim (λ l. ⊎-elim (λ e. inr (λ t. t .1 e)) (λ e. inl (l, e)) (eqb-cases j k)) (λ (l : 4 ≤ k). inr (λ t. omega (arith, t .0))) (below-or k 4)
 
-own-fieldsIn : (c : ℕ) (row : ℕ → ℕ) (p : ℕ) → fieldsIn c Itself row p ≡ inChannel c p (share Itself p (row p))
+pub own-fieldsIn : (c : ℕ) (row : ℕ → ℕ) (p : ℕ) → fieldsIn c Itself row p ≡ inChannel c p (share Itself p (row p))
 unfolding fieldsIn
 own-fieldsIn c row p =
     let e : 1 * (p / 1) + 0 ≡ p = omega arith in
@@ -241,7 +241,7 @@ module _ (o : ℕ → Owner) (row : ℕ → ℕ) (n : ℕ) (s : Signals o row 0 
   fit p h = s .fits p (omega arith) h
 
   -- where a field's owner is listed
-  home-piece : (p k : ℕ) → p < n → k < fieldsOf (row p) → divides (row p) ≡ true → Located o row n (number o row p k) p k
+  pub home-piece : (p k : ℕ) → p < n → k < fieldsOf (row p) → divides (row p) ≡ true → Located o row n (number o row p k) p k
   home-piece p k h l e =
       let f = divided-itself (o p) p (row p) e (fit p h) in
       record { inside = h; place = rw f (omega (arith, own-length row p, divided-own (row p) e)); numbered = refl }
@@ -251,7 +251,7 @@ module _ (o : ℕ → Owner) (row : ℕ → ℕ) (n : ℕ) (s : Signals o row 0 
       let w = s .entire p (lowest (o p) p) (omega arith) h (lowest-place (o p) p (row p) (fit p h) .0) in
       (w .1, w .2)
 
-  home-whole : (p : ℕ) → p < n → 0 < fieldsOf (row p) → divides (row p) ≡ false → Located o row n (number o row (lowest (o p) p) 0) (lowest (o p) p) 0
+  pub home-whole : (p : ℕ) → p < n → 0 < fieldsOf (row p) → divides (row p) ≡ false → Located o row n (number o row (lowest (o p) p) 0) (lowest (o p) p) 0
   home-whole p h l e =
       let w = home-entire p h in
       record { inside = w .0; place = rw (w .1) (some (o p) refl); numbered = refl }

@@ -11,7 +11,7 @@ use lib.Dec.{ltb}
 use lib.ListN.{length}
 use Rattle.bits.specs.Bits.{bit, field, put}
 use Rattle.bits.specs.Fields.{field-of, field-ext}
-use Rattle.bits.specs.Writes.{put-length, put-before, put-after, field-put}
+use Rattle.bits.specs.Writes.{Small, put-length, put-small, put-before, put-after, field-put}
 use Rattle.check4.specs.Check.{check}
 use Rattle.check4.specs.Checks.{Right, check-lt, check-ext, right-says, says-right, right-ext}
 use Rattle.channel.specs.Layout.{firsts, firstBits, secondAt, secondBits, hasSecond, common, subfields, valueAt, value, userAt, blockAt, blocks, covered, endOf}
@@ -378,3 +378,26 @@ sealed-length bw n v x s f d =
     ∙ puts-length (userAt bw) 22 f _ n
     ∙ puts-length (valueAt bw) 9 x _ s
     ∙ put-length d 0 17 v
+
+-- and every element is a byte
+seal-small : (x n : ℕ) (d : List ℕ) → Small (seal x n d)
+unfolding seal
+seal-small x n d = put-small d (x + n) 4 (check d x n)
+
+second-small : (bw : ℕ) (d : List ℕ) → Small d → Small (sealSecond bw d)
+unfolding sealSecond
+second-small bw d h = go (hasSecond bw)
+  where
+    go : (t : Bool) → Small (cond t (seal (secondAt bw) (secondBits bw) d) d)
+    go true = seal-small (secondAt bw) (secondBits bw) d
+    go false = h
+
+blocks-small : (bw n m : ℕ) (d : List ℕ) → Small d → Small (sealBlocks bw n m d)
+unfolding sealBlocks
+blocks-small bw n zero d h = h
+blocks-small bw n (suc b) d h = seal-small (blockAt bw b) (covered n b) (sealBlocks bw n b d)
+
+pub sealed-small : (bw n : ℕ) (d : List ℕ) → Small (sealed bw n d)
+unfolding sealed
+sealed-small bw n d =
+    blocks-small bw n (blocks n) _ (second-small bw (seal 0 (firstBits bw) d) (seal-small 0 (firstBits bw) d))

@@ -95,7 +95,8 @@ zeros-at zero k = refl
 zeros-at (suc n) zero = refl
 zeros-at (suc n) (suc k) = zeros-at n k
 
-blank : (n i : ℕ) → bit (replicate n 0) i ≡ 0
+-- zeros have no bit set
+pub blank : (n i : ℕ) → bit (replicate n 0) i ≡ 0
 unfolding bit
 blank n i = rw (zeros-at n (i / 8), zero-div (2 ^ (i % 8)))
 

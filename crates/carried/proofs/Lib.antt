@@ -1,0 +1,4 @@
+pub mod Channels
+pub mod Answers
+pub mod Counts
+pub mod Formats

@@ -1,0 +1,48 @@
+-- Channels that carry a row, and what they get for its layout. Assumes nothing.
+--
+-- 01, "What a plan is": "A row is accepted when channels that carry it pass checks 1 to 6 and get neither 7 nor 8."
+use mathlib.Core.Path.{_≡_}
+use mathlib.Core.Logic.{_≢_, _⊎_}
+use mathlib.Core.Bool.{true}
+use mathlib.Core.List.{List}
+use Prim.Native.Nat.{ℕ, _≤_, _<_}
+use lib.ListN.{length}
+use Rattle.answer.specs.Answer.{no}
+use Rattle.answer.specs.declared.Answer.{Answer}
+use Rattle.answer.specs.declared.Out.the-variants.{Pass}
+use Rattle.resource.specs.Values.{carried}
+use Rattle.plan.specs.Plan.{at}
+use Rattle.plan.specs.Layout.{segments, PlanOfEight, SegmentPlan, SegmentOfEight}
+use Rattle.channel.specs.Layout.{positions, row}
+use Rattle.reader.specs.Stages.{commonChecks}
+
+-- "any bandwidth and any row of carried RU Allocation values of the number it needs" (the third demand)
+pub record CarriedRow (bw : ℕ) (r : List ℕ) : Type 0 where
+  pub known : bw ≤ 4
+  pub as-many : length r ≡ positions bw
+  pub each : (p : ℕ) → p < positions bw → carried (at r p) ≡ true
+
+-- the channels, of bytes a and b, carry the row r and pass checks 1 to 6. At 20 MHz channel 2 is empty by 2.
+pub record Carry (bw : ℕ) (r a b : List ℕ) : Type 0 where
+  pub the-row : row bw a b ≡ r
+  pub one-to-six : commonChecks bw a b ≡ Pass
+
+-- s is the lowest below n that lacks P
+abbrev pub Lowest : (ℕ → Type 0) → ℕ → ℕ → Type 0
+Lowest P n s = (s < n) × (P s → ⊥) × ((t : ℕ) → t < s → P t)
+
+-- x is what 01 answers to channels that carry the row r and pass 1 to 6, as far as its layout goes
+pub record ForLayout (r : List ℕ) (x : Answer) : Type 0 where
+  -- "neither 7 nor 8": exactly when a plan signals the row with at most eight User fields on each resource
+  pub neither : x .number ≢ 7 → x .number ≢ 8 → PlanOfEight r 0 (length r)
+  pub signalled : PlanOfEight r 0 (length r) → (x .number ≢ 7) × (x .number ≢ 8)
+  -- "Otherwise it is refused, for its layout." (the third demand)
+  pub otherwise : (PlanOfEight r 0 (length r) → ⊥) → (x .number ≡ 7) ⊎ (x .number ≡ 8)
+  -- "7 | no plan, even with any number of fields | 0, lowest such segment": exactly when some segment has none
+  pub seven : x .number ≡ 7 → (s : ℕ) × (x ≡ no 7 0 s) × Lowest (SegmentPlan r) (segments r) s
+  pub gets-7 : (s : ℕ) → s < segments r → (SegmentPlan r s → ⊥) → x .number ≡ 7
+  -- "8 | plan, but a resource over eight fields | 0, lowest such segment": exactly when each segment has a plan, and some segment none
+  -- that keeps to eight
+  pub eight : x .number ≡ 8
+      → ((t : ℕ) → t < segments r → SegmentPlan r t) × (s : ℕ) × (x ≡ no 8 0 s) × Lowest (SegmentOfEight r) (segments r) s
+  pub gets-8 : ((t : ℕ) → t < segments r → SegmentPlan r t) → (s : ℕ) → s < segments r → (SegmentOfEight r s → ⊥) → x .number ≡ 8
