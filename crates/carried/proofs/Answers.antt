@@ -132,7 +132,7 @@ module _ (bw : ℕ) (r a b : List ℕ) (room : ℕ) (h : Carry bw r a b) where
     gets-8 = has-8;
   }
 
--- of any answer that the contract of `reader::read` allows
+-- of any answer that the contract of `reader::read` allows, and any words lent
 pub all-channels : (r : List ℕ) (κs : _) (a : _) (x : _) (s : _) → read.Post κs a x s
     → Carry (a .0) r (now (a .1 .0)) (now (a .1 .1 .0)) → ForLayout r x
 all-channels r κs a x s p h = rw (p .0) (for-layout (a .0) r (now (a .1 .0)) (now (a .1 .1 .0)) (length (now (a .1 .1 .1 .0))) h)

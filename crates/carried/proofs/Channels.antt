@@ -1,7 +1,7 @@
 -- Every carried row has channels that carry it, with every check right: overflow 0, the row's values, each User field 0. Assumes nothing.
 use mathlib.Core.Path.{_≡_, refl, sym, _∙_, ap}
 use mathlib.Core.Bool.{Bool, true, false, cond, false≢true}
-use mathlib.Core.List.{List, []}
+use mathlib.Core.List.{List, [], _∷_}
 use Prim.Native.Nat.{ℕ, _+_, _-_, _*_, _/_, _%_, _^_, _≤_, _<_}
 use native.Mathlib.Decide.{decLt, ℕ-discrete}
 use native.Mathlib.Nat.{mod-eq-of-lt}
@@ -10,7 +10,7 @@ use lib.ListN.{length, replicate, length-replicate}
 use lib.Seq.{ext-getD}
 use borrow.Author.Tests.{lt-ltb, le-ltb}
 use Rattle.answer.specs.Answer.{_or_}
-use Rattle.answer.specs.Order.{or-pass, if-pass}
+use Rattle.answer.specs.Order.{pass-left, pass-right, or-pass, if-pass}
 use Rattle.answer.specs.Least.{least-none}
 use Rattle.answer.specs.declared.Out.the-variants.{Pass}
 use Rattle.bits.specs.Bits.{field}
@@ -21,8 +21,8 @@ use Rattle.resource.proofs.Fields.{carried-high, fields-most}
 use Rattle.plan.specs.Plan.{at}
 use Rattle.channel.specs.Layout.{positions, present, overflow, ltfSymbols, subfields, subfieldsIn, value, rowAt, row, total, count, userAt, blocks}
 use Rattle.channel.specs.Checks.{tooLong, cutCommon, wrongCommon, notCarried, cutUsers, wrongUsers}
-use Rattle.channel.specs.Laws.{present-1, subfields-le, subfieldsIn-le, common-le, total-cong, total-le, row-length, row-at, position-subfield, end-le}
-use Rattle.channel.specs.Passing.{pass-tooLong, pass-cutCommon, pass-wrongCommon, pass-overflowDiffers, pass-notCarried, pass-cutUsers, pass-wrongUsers}
+use Rattle.channel.specs.Laws.{present-1, absent-2, subfields-le, subfieldsIn-le, common-le, total-cong, total-le, row-length, row-at, position-subfield, end-le}
+use Rattle.channel.specs.Passing.{tooLong-pass, pass-tooLong, pass-cutCommon, pass-wrongCommon, pass-overflowDiffers, pass-notCarried, pass-cutUsers, pass-wrongUsers}
 use Rattle.reader.specs.Table.{check1, check2, check3, check4, check5, check6, check9, check10, check11, stationOf, repeated, firstRepeated, stationTwice}
 use Rattle.reader.specs.Words.{positionOf}
 use Rattle.reader.specs.Stages.{commonChecks, userChecks}
@@ -268,3 +268,15 @@ some-channels bw r w = (
   carrying-small bw r w 2 (inside-2 bw r w),
   passes-users bw r w,
 )
+
+-- "At 20 MHz channel 2 is lent empty": by 2
+pub empty-at-20 : (r a b : List ℕ) → Carry 0 r a b → b ≡ []
+unfolding commonChecks check2
+empty-at-20 r a b h =
+    let f = pass-left _ (check3 0 a b) (pass-left _ (check4 0 a b) (pass-left _ (check5 0 a b) (pass-left _ (check6 0 a b) (h .one-to-six)))) in
+    let g = pass-right (tooLong 0 1 a) (tooLong 0 2 b) (pass-right (check1 0) _ f) in
+    nothing b (tooLong-pass 0 2 b g .1 absent-2)
+  where
+    nothing : (s : List ℕ) → length s ≡ 0 → s ≡ []
+    nothing [] e = refl
+    nothing (x ∷ s) e = absurd (omega arith)

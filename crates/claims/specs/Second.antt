@@ -21,12 +21,19 @@ use Rattle.reader.proofs.read.Reads as read
 use Rattle.writer.specs.Candidate.{bytesFor}
 use Rattle.writer.proofs.write.Reads as write
 use Rattle.writer.proofs.Inverse.{Accepts, GivenBack, write-after-read, read-after-write, thirteen-none, none-thirteen, equal-words}
+use Rattle.carried.specs.Formats.{UserWords}
+use Rattle.carried.proofs.Formats.{user-words}
 
 -- "Reading is what IEEE 802.11be and the radiotap EHT page say, to the bit": as 01's table and words, `reader`'s Table, Words and Result
 pub reading-is : (κs : _) (a : _) (r : _) (s : _) → read.Post κs a r s
     → (r ≡ answerOf (a .0) (now (a .1 .0)) (now (a .1 .1 .0)) (length (now (a .1 .1 .1 .0))))
     × (now (s .1 .1 .1 .0) ≡ wordsAfter (a .0) (now (a .1 .0)) (now (a .1 .1 .0)) (now (a .1 .1 .1 .0)))
 reading-is κs a r s p = (p .0, p .1)
+
+-- "User fields, words.": each User word is that of its field, in the format of the resource that owns it in any plan of the row
+pub user-words-are : (κs : _) (a : _) (r : _) (s : _) → read.Post κs a r s → r .number ≡ 0
+    → UserWords (a .0) (now (a .1 .0)) (now (a .1 .1 .0)) (now (s .1 .1 .1 .0))
+user-words-are = user-words
 
 -- and the words say all of the frame: equal words are of equal bandwidth, row, overflow and User fields
 pub words-say-all : (κs : _) (a : _) (r : _) (s : _) (κs' : _) (a' : _) (r' : _) (s' : _)

@@ -5,16 +5,19 @@
 -- plan no two resources share a subcarrier, none has one in a punctured 20 MHz, and each User field in either channel has exactly one
 -- resource."
 --
--- A plan is `plan`'s `Signals`; its resources are `records`' `recordsOf`; what `plan::layout` answers is what its contract says, `Laid`.
+-- A plan is `plan`'s `Signals`; its resources are `records`' `recordsOf`; what `plan::layout` answers is what its contract says, `Laid`; what
+-- `reader::read` answers to channels that carry the row is what its contract says, `read.Post`.
 use mathlib.Core.Path.{_≡_, refl, sym, _∙_, ap, subst}
 use mathlib.Core.Logic.{_≢_, _⊎_, inl, inr, ⊎-elim}
 use mathlib.Core.List.{List}
 use Prim.Native.Nat.{ℕ, _+_, _*_, _^_, _≤_, _<_}
 use native.Mathlib.Omega.{arith}
+use denote.Ref.{now}
 use lib.ListN.{length, getD}
 use Rattle.answer.specs.Answer.{no}
 use Rattle.answer.specs.declared.Out.{Out}
 use Rattle.answer.specs.declared.Out.the-variants.{Pass, Refuse}
+use Rattle.bits.specs.Writes.{Small}
 use Rattle.plan.specs.declared.Owner.{Owner}
 use Rattle.plan.specs.Plan.{at, Signals}
 use Rattle.plan.specs.Layout.{PlanOfEight, Laid, accepted}
@@ -25,6 +28,10 @@ use Rattle.records.specs.Owns.{Owns, fieldsBefore, ownerOf}
 use Rattle.records.proofs.Listing.{same-records}
 use Rattle.records.proofs.Owners.{one-owner, owner-owns}
 use Rattle.records.proofs.Subcarriers.{no-shared, none-punctured}
+use Rattle.reader.proofs.read.Reads as read
+use Rattle.carried.specs.Carried.{CarriedRow, Carry, ForLayout}
+use Rattle.carried.proofs.Channels.{some-channels}
+use Rattle.carried.proofs.Answers.{ReadAccepts, all-channels, no-reader-always-refuses}
 
 -- the resources of the plan o at the first n positions, and u a subcarrier of resource i, counted from the lower edge of the channel
 abbrev pub Tone : (ℕ → Owner) → (ℕ → ℕ) → ℕ → ℕ → ℕ → Type 0
@@ -73,3 +80,20 @@ third-demand b row l e = record {
     λ i′ w. one-owner o (at row) (length row) i′ (ownerOf o (at row) c (length row) j) c j w (owner-owns o (at row) (length row) s c j h),
   );
 }
+
+-- ---- of whole frames: "A row is accepted when channels that carry it pass checks 1 to 6 and get neither 7 nor 8." (01, "What a plan is")
+
+-- "Take any bandwidth and any row of carried RU Allocation values of the number it needs.": some channels, of bytes, carry it and pass 1 to 6
+pub row-is-carried : (bw : ℕ) (r : List ℕ) → CarriedRow bw r → (a : List ℕ) × (b : List ℕ) × Carry bw r a b × Small a × Small b
+row-is-carried bw r w = let g = some-channels bw r w in (g .0, g .1, g .2, g .3, g .4)
+
+-- "If any plan .. signals that row .., the row is accepted .. Otherwise it is refused, for its layout.": all channels that carry it and pass
+-- 1 to 6 get 7 or 8 exactly when no plan signals it with at most eight on each resource, with the segment that 01's table says
+pub row-is-answered : (r : List ℕ) (κs : _) (a : _) (x : _) (s : _) → read.Post κs a x s
+    → Carry (a .0) r (now (a .1 .0)) (now (a .1 .1 .0)) → ForLayout r x
+row-is-answered = all-channels
+
+-- "A reader that always refuses falls to the third demand, as the row's plan exists." (01, "What nobody may get away with")
+pub plan-is-read : (bw : ℕ) (r : List ℕ) → CarriedRow bw r → PlanOfEight r 0 (length r)
+    → (a : List ℕ) × (b : List ℕ) × Carry bw r a b × Small a × Small b × ReadAccepts bw a b
+plan-is-read = no-reader-always-refuses
