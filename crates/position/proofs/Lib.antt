@@ -1,0 +1,3 @@
+pub mod Whole
+pub mod Agree
+pub mod Example
