@@ -56,13 +56,13 @@ enum {
     BRACHYMEL_LISTING_ROOM = 23      /* list: the text buffer is too short: 0, bytes needed */
 };
 
-/* Sizes, in bytes, that always suffice. Of a listing, 10,131 is the longest that was met, and 42,680 is proved to be
- * enough; a call with too little room answers 23 with the bytes needed. */
+/* Sizes, in bytes, that always suffice. No smaller one does: 320 MHz with all values 0 needs each of the last three,
+ * the listing where every STA-ID has four digits. A call with too little room is refused with what it needs. */
 enum {
     BRACHYMEL_CHANNEL_LIMIT = 512,   /* a longer channel is refused */
     BRACHYMEL_WORDS_SIZE = 616,      /* 154 words: 10, and 144 User fields */
     BRACHYMEL_CHANNEL_SIZE = 257,    /* a channel that is written */
-    BRACHYMEL_LISTING_SIZE = 10131   /* a listing: the longest that was met */
+    BRACHYMEL_LISTING_SIZE = 10131   /* a listing: proved to be the longest */
 };
 
 /* Reads two channels into words. Refusals 1 to 12. Only whole words of the buffer count. */

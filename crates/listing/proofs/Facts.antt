@@ -39,7 +39,7 @@ list-agrees κs a r r' s s' p q = (p .0 ∙ sym (q .0), p .1 ∙ sym (q .1))
 
 pub respond-agrees : (κs : _) (a : _) (r r' : _) (s s' : _) → respond.Post κs a r s → respond.Post κs a r' s'
     → (r ≡ r') × (now (s .1 .0) ≡ now (s' .1 .0))
-respond-agrees κs a r r' s s' p q = (p .0 .next ∙ sym (q .0 .next), p .0 .bytes ∙ sym (q .0 .bytes))
+respond-agrees κs a r r' s s' p q = (p .next ∙ sym (q .next), p .bytes ∙ sym (q .bytes))
 
 -- ---- "Every refusal writes nothing"
 pub list-kept : (bw : ℕ) (a b d : List ℕ) → (listAnswer bw a b (length d) .number ≡ 0 → ⊥) → listAfter bw a b d ≡ d

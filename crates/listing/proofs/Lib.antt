@@ -3,5 +3,4 @@ pub mod Owner
 pub mod Outcome
 pub mod Facts
 pub mod Example
-pub mod Longest
 pub mod Stations

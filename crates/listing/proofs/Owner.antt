@@ -26,7 +26,7 @@ lowest-near (Three k) p = go (eqb k 0)
     go false = omega arith
 
 module _ (o : ℕ → Owner) (row : ℕ → ℕ) where
-  at-small : (p k : ℕ) → ownerAt o row p k ≤ 9 * p + 9 + k
+  pub at-small : (p k : ℕ) → ownerAt o row p k ≤ 9 * p + 9 + k
   unfolding ownerAt
   at-small p k = go (divides (row p))
     where

@@ -83,7 +83,6 @@ fn put_stations(
 ) -> usize
     requires { ⌜ (at ≤ 40000) × (m ≤ 72) × (k ≤ 72) × (length (now row) ≤ 16) ⌝ }
     ensures { λ r. ⌜ Wrote (now (out .entry)) at (staLines bw (now (row .entry)) (now (a .entry)) (now (b .entry)) m (m + k)) (now (out .exit)) r ⌝ }
-    ensures bounded { λ r. ⌜ r ≤ at + 7920 ⌝ }
 {
     let mut o = at;
     let mut i: usize = 0;
@@ -98,7 +97,6 @@ fn put_stations(
 fn put_row(out: &mut [u8], bw: u32, a: &[u8], b: &[u8], row: &[u16], m: usize, k: usize) -> usize
     requires { ⌜ (m ≤ 72) × (k ≤ 72) × (length (now row) ≤ 16) ⌝ }
     ensures { λ r. ⌜ Wrote (now (out .entry)) 0 (listingOf bw (now (row .entry)) (now (a .entry)) (now (b .entry)) m k) (now (out .exit)) r ⌝ }
-    ensures bounded { λ r. ⌜ r ≤ 43000 ⌝ }
 {
     let plan = records::plan_of(row);
     let n = row.len() as u16;
@@ -111,7 +109,6 @@ fn put_row(out: &mut [u8], bw: u32, a: &[u8], b: &[u8], row: &[u16], m: usize, k
 fn put_listing(out: &mut [u8], bw: u32, a: &[u8], b: &[u8]) -> usize
     requires { ⌜ bw ≤ 4 ⌝ }
     ensures { λ r. ⌜ Wrote (now (out .entry)) 0 (listing bw (now (a .entry)) (now (b .entry))) (now (out .exit)) r ⌝ }
-    ensures bounded { λ r. ⌜ r ≤ 43000 ⌝ }
 {
     let row = channel::fill_row(bw, a, b);
     let n = channel::positions_of(bw);
@@ -150,7 +147,6 @@ pub fn list(bandwidth: u32, cc1: &[u8], cc2: &[u8], out: &mut [u8]) -> Answer
 // The listing of a frame, or its refusal.
 fn put_outcome(out: &mut [u8], bw: u32, a: &[u8], b: &[u8]) -> usize
     ensures { λ r. ⌜ Wrote (now (out .entry)) 0 (frameText bw (now (a .entry)) (now (b .entry))) (now (out .exit)) r ⌝ }
-    ensures bounded { λ r. ⌜ r ≤ 43000 ⌝ }
 {
     let checked = reader::check_frame(bw, a, b);
     if let Out::Refuse(x) = checked {
@@ -163,7 +159,6 @@ fn put_outcome(out: &mut [u8], bw: u32, a: &[u8], b: &[u8]) -> usize
 fn put_lines(out: &mut [u8], text: &[u8], bw: u32, n: usize, m: usize) -> usize
     requires { ⌜ (n ≤ 4096) × (m ≤ 4096) ⌝ }
     ensures { λ r. ⌜ Wrote (now (out .entry)) 0 (frameText bw (bytesAt (now (text .entry)) 9 n) (bytesAt (now (text .entry)) (secondAt n) m)) (now (out .exit)) r ⌝ }
-    ensures bounded { λ r. ⌜ r ≤ 43000 ⌝ }
 {
     let mut cc1 = [0u8; 4096];
     let mut cc2 = [0u8; 4096];
@@ -175,7 +170,6 @@ fn put_lines(out: &mut [u8], text: &[u8], bw: u32, n: usize, m: usize) -> usize
 // What the program writes for a text: stored where the buffer reaches; how many bytes it is.
 pub fn respond(text: &[u8], out: &mut [u8]) -> usize
     ensures { λ r. ⌜ Wrote (now (out .entry)) 0 (programText (now (text .entry))) (now (out .exit)) r ⌝ }
-    ensures bounded { λ r. ⌜ r ≤ 43000 ⌝ }
 {
     let parsed = input::parse(text);
     match parsed {

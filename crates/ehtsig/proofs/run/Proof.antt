@@ -1,6 +1,9 @@
 -- `ehtsig::run` meets its contract. Assumes nothing.
 use mathlib.Core.Path.{sym}
 use lib.Seq.{length-take-le}
+use native.Mathlib.Omega.{arith}
+use Rattle.text.specs.Laws.{kept}
+use Rattle.longest.specs.Longest.{respond-most}
 use borrow.Author.Needs.{needs}
 use Rattle.ehtsig.proofs.run.Statement.{statement}
 use Rattle.ehtsig.proofs.run.Tie as tie
@@ -18,7 +21,7 @@ respond-requires : tie.Need-respond-requires
 respond-requires c κs = search needs
 
 slice-reshare-prefix-write-all : tie.Need-slice-reshare-prefix-write-all
-slice-reshare-prefix-write-all c = search needs
+slice-reshare-prefix-write-all c = omega (arith, respond-most _ (c .before .before .respond .ensures), kept (c .before .before .respond .ensures))
 
 slice-aggregate-write-all : tie.Need-slice-aggregate-write-all
 slice-aggregate-write-all c = sym (length-take-le _ _ (slice-reshare-prefix-write-all (c .before)))

@@ -36,7 +36,7 @@ same-length c = search needs
 returns-2 : tie.Need-returns-2
 returns-2 c =
     let s = c .before .before .before .before .before .before .before .before .before .before .before .args in
-    too-short (s .bandwidth) (s .cc1 .now) (s .cc2 .now) (s .out .now) (sym (c .before .before .before .before .before .before .before .check-frame .ensures) ∙ c .before .before .before .before .before .enum-told .given .1) (c .before .before .before .put-listing .ensures .0) (c .if1 .taken)
+    too-short (s .bandwidth) (s .cc1 .now) (s .cc2 .now) (s .out .now) (sym (c .before .before .before .before .before .before .before .check-frame .ensures) ∙ c .before .before .before .before .before .enum-told .given .1) (c .before .before .before .put-listing .ensures) (c .if1 .taken)
 
 put-listing-requires-2 : tie.Need-put-listing-requires-2
 put-listing-requires-2 c κs =
@@ -49,7 +49,7 @@ same-length-2 c = search needs
 returns-3 : tie.Need-returns-3
 returns-3 c =
     let s = c .before .before .before .before .before .before .before .before .before .before .before .before .before .before .before .args in
-    listed (s .bandwidth) (s .cc1 .now) (s .cc2 .now) (s .out .now) (sym (c .before .before .before .before .before .before .before .before .before .before .before .check-frame .ensures) ∙ c .before .before .before .before .before .before .before .before .before .enum-told .given .1) (c .before .before .before .before .before .before .before .put-listing .ensures .0) (c .before .before .before .before .if1 .left) (c .before .before .put-listing2 .ensures .0)
+    listed (s .bandwidth) (s .cc1 .now) (s .cc2 .now) (s .out .now) (sym (c .before .before .before .before .before .before .before .before .before .before .before .check-frame .ensures) ∙ c .before .before .before .before .before .before .before .before .before .enum-told .given .1) (c .before .before .before .before .before .before .before .put-listing .ensures) (c .before .before .before .before .if1 .left) (c .before .before .put-listing2 .ensures)
 
 pub list-spec : {M : Type 1} → statement M
 list-spec =

@@ -1,5 +1,4 @@
 -- `listing::put_lines` meets its contract. Assumes nothing.
-use native.Mathlib.Omega.{arith}
 use mathlib.Core.Path.{sym}
 use Rattle.answer.specs.Filled.{length-build}
 use Rattle.listing.proofs.Outcome.{front-of}
@@ -47,7 +46,7 @@ same-length c = search needs
 
 returns : tie.Need-returns
 returns c =
-    (rw (← (front-of _ _ _ (c .before .before .before .before .before .before .before .before .before .before .unhex .ensures)), ← (front-of _ _ _ (c .before .before .before .before .before .before .before .unhex2 .ensures))) (c .before .before .put-outcome .ensures .0), omega arith)
+    rw (← (front-of _ _ _ (c .before .before .before .before .before .before .before .before .before .before .unhex .ensures)), ← (front-of _ _ _ (c .before .before .before .before .before .before .before .unhex2 .ensures))) (c .before .before .put-outcome .ensures)
 
 pub put-lines-spec : {M : Type 1} → statement M
 put-lines-spec =

@@ -43,7 +43,7 @@ unfolding listing
 returns c =
     let s = c .before .before .before .before .before .before .before .before .before .before .before .before .args in
     let e = front (s .bw) (s .a .now) (s .b .now) _ _ (c .before .before .before .before .before .before .before .positions-of .ensures .0) (c .before .before .before .before .before .before .before .before .fill-row .ensures) in
-    (rw (← e, ← (c .before .before .before .before .before .before .count-of .ensures .0), ← (c .before .before .before .before .before .count-of2 .ensures .0)) (c .before .before .put-row .ensures .0), omega arith)
+    rw (← e, ← (c .before .before .before .before .before .before .count-of .ensures .0), ← (c .before .before .before .before .before .count-of2 .ensures .0)) (c .before .before .put-row .ensures)
 
 pub put-listing-spec : {M : Type 1} → statement M
 put-listing-spec =

@@ -1,5 +1,4 @@
 -- `listing::put_outcome` meets its contract. Assumes nothing.
-use native.Mathlib.Omega.{arith}
 use mathlib.Core.Path.{sym, _∙_}
 use Rattle.listing.specs.Listing.{frameText}
 use Rattle.listing.proofs.Outcome.{known-code}
@@ -23,7 +22,7 @@ returns : tie.Need-returns
 unfolding frameText
 returns c =
     let e = sym (c .before .before .before .before .before .before .before .check-frame .ensures) ∙ c .before .before .before .before .before .checked .given .1 in
-    (rw e (c .before .before .put-refusal .ensures .0), omega arith)
+    rw e (c .before .before .put-refusal .ensures .0)
 
 enum-told : tie.Need-enum-told
 enum-told c = search needs
@@ -40,7 +39,7 @@ returns-2 : tie.Need-returns-2
 unfolding frameText
 returns-2 c =
     let e = sym (c .before .before .before .before .before .before .check-frame .ensures) ∙ c .before .before .before .before .enum-told .given .1 in
-    (rw e (c .before .before .put-listing .ensures .0), omega arith)
+    rw e (c .before .before .put-listing .ensures)
 
 pub put-outcome-spec : {M : Type 1} → statement M
 put-outcome-spec =

@@ -40,7 +40,7 @@ returns c =
     let e = c .before .before .before .before .before .before .before .before .before .before .before .before .plan-of .ensures in
     let q : c .before .before .before .before .before .before .before .before .before .before .before .before .plan-of .result .count ≡ length (resources r) = ap (λ (p : Plan). p .count) e ∙ plan-count (resources r) in
     let l : planLines (length r) (c .before .before .before .before .before .before .before .before .before .before .before .before .plan-of .result) ≡ ruLines (length r) (resources r) = ap (planLines (length r)) e ∙ plan-lines (length r) (resources r) in
-    (after (after (rw q at (c .before .before .before .before .before .before .before .before .before .before .put-head .ensures .0)) (rw l at (c .before .before .before .before .before .before .put-records .ensures .0))) (c .before .before .put-stations .ensures .0), omega arith)
+    after (after (rw q at (c .before .before .before .before .before .before .before .before .before .before .put-head .ensures .0)) (rw l at (c .before .before .before .before .before .before .put-records .ensures .0))) (c .before .before .put-stations .ensures)
 
 pub put-row-spec : {M : Type 1} → statement M
 put-row-spec =

@@ -39,7 +39,7 @@ same-length c = kept (c .before .loop .inv .1)
 
 returns : tie.Need-returns Inv-loop μ-loop
 unfolding staLines
-returns c = let e : c .before .loop .i ≡ c .before .before .before .before .before .before .args .m + c .before .before .before .before .before .before .args .k = omega arith in (rw e at (c .before .loop .inv .1), omega arith)
+returns c = let e : c .before .loop .i ≡ c .before .before .before .before .before .before .args .m + c .before .before .before .before .before .before .args .k = omega arith in rw e at (c .before .loop .inv .1)
 
 pub put-stations-spec : {M : Type 1} → statement M
 put-stations-spec =

@@ -31,7 +31,7 @@ returns : tie.Need-returns
 unfolding programText
 returns c =
     let e = sym (c .before .before .before .before .before .before .before .parse .ensures) ∙ c .before .before .before .before .before .parsed .given .1 in
-    (rw e (c .before .before .put-refusal .ensures .0), omega arith)
+    rw e (c .before .before .put-refusal .ensures .0)
 
 same-length-2 : tie.Need-same-length-2
 same-length-2 c = search needs
@@ -40,7 +40,7 @@ returns-2 : tie.Need-returns-2
 unfolding programText
 returns-2 c =
     let e = sym (c .before .before .before .before .before .before .before .parse .ensures) ∙ c .before .before .before .before .before .parsed2 .given .1 in
-    (rw e (c .before .before .put-lines .ensures .0), omega arith)
+    rw e (c .before .before .put-lines .ensures)
 
 pub respond-spec : {M : Type 1} → statement M
 respond-spec =

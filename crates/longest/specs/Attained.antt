@@ -1,0 +1,82 @@
+-- The longest listing of all accepted frames, at each bandwidth: none has more bytes (`Longest.antt`), and this frame's has as many. Assumes
+-- nothing.
+use mathlib.Core.Path.{_≡_, refl}
+use mathlib.Core.List.{List, [], _∷_, _++_}
+use mathlib.Core.Bool.{cond}
+use Prim.Native.Nat.{ℕ, zero, suc, _^_, _≤_, _<_}
+use native.Mathlib.Omega.{arith}
+use lib.Dec.{ltb}
+use lib.ListN.{length, getD}
+use Rattle.answer.specs.Answer.{_or_}
+use Rattle.answer.specs.Order.{firstOf}
+use Rattle.answer.specs.Least.{least}
+use Rattle.answer.specs.Filled.{build}
+use Rattle.answer.specs.declared.Out.the-variants.{Pass}
+use Rattle.bits.specs.Bits.{bit, field, differs}
+use Rattle.check4.specs.Check.{step, register, sent, check, right}
+use Rattle.resource.specs.Values.{carried, pieces, fieldsOf, ownPieces}
+use Rattle.channel.specs.Layout.{positions, present, firsts, seconds, firstBits, secondAt, secondBits, hasSecond, common, subfields, subfieldsIn, valueAt, value, rowAt, row, total, count, userAt, blockAt, blocks, covered, endOf}
+use Rattle.channel.specs.Checks.{tooLong, cutCommon, wrongFirst, wrongSecond, wrongCommon, overflowDiffers, foreign, firstForeign, notCarried, cutUsers, wrongBlock, firstWrong, wrongUsersOf, wrongUsers}
+use Rattle.text.specs.Text.{dec, signed, upto}
+use Rattle.resource.specs.Index.{indexOf, resourceAt, positionOf, placeOf}
+use Rattle.resource.specs.Runs.{offset26, offset52, offset106, wide, narrow, narrow26, narrow52, narrow106, runsOf}
+use Rattle.records.specs.Records.{divides, pieceFields, listAt}
+use Rattle.records.specs.Owns.{lowest, ownerAt, ownerOf}
+use Rattle.listing.specs.Lines.{nameText, comma, tonesText, ruHead, ruLine, staLine, headText}
+use Rattle.listing.specs.Listing.{ruLines, ownerIn, staLineAt, staLines, listingOf, listing}
+use Rattle.reader.specs.Table.{check1, check2, check3, check4, check5, check6, check7, check8, check9, check10, check11, firstRepeated, stationTwice, readable}
+use Rattle.plan.specs.Fields.{gives, share, fieldsIn}
+use Rattle.plan.specs.Guess.{threeOf, orElse, like996, like484, choose, onlyPlan, fitting, planned, withinEight, unplanned, overEight, answer7, answer8}
+use Rattle.longest.specs.Longest.{longest, longest-most}
+
+-- ---- frames whose values are all 0, with 0 for the overflow, STA-ID 2047, which may repeat, and 0 for the rest of each User field
+-- four User blocks are 27 bytes
+times : ℕ → List ℕ → List ℕ
+times zero blocks = []
+times (suc n) blocks = blocks ++ times n blocks
+
+-- the channel of a bandwidth: the bytes in which the common field ends, then the User blocks, whole fours of them from 80 MHz on; what
+-- follows the last is padding
+channel : ℕ → List ℕ
+channel bw =
+    getD
+    ((0 ∷ 0 ∷ 0 ∷ 40 ∷ 240 ∷ 127 ∷ 0 ∷ 252 ∷ 31 ∷ 0 ∷ 13 ∷ 252 ∷ 31 ∷ 0 ∷ 255 ∷ 7 ∷ 64 ∷ 3 ∷ 255 ∷ 7 ∷ 192 ∷ 255 ∷ 1 ∷ 208 ∷ 192 ∷ 255 ∷ 1 ∷ 240 ∷ 127 ∷ 0 ∷ 52 ∷ 240 ∷ 127 ∷ 0 ∷ 20 ∷ 0 ∷ [])
+    ∷ (0 ∷ 0 ∷ 0 ∷ 40 ∷ 240 ∷ 127 ∷ 0 ∷ 252 ∷ 31 ∷ 0 ∷ 13 ∷ 252 ∷ 31 ∷ 0 ∷ 255 ∷ 7 ∷ 64 ∷ 3 ∷ 255 ∷ 7 ∷ 192 ∷ 255 ∷ 1 ∷ 208 ∷ 192 ∷ 255 ∷ 1 ∷ 240 ∷ 127 ∷ 0 ∷ 52 ∷ 240 ∷ 127 ∷ 0 ∷ 20 ∷ 0 ∷ [])
+    ∷ ((0 ∷ 0 ∷ 0 ∷ 0 ∷ 48 ∷ 224 ∷ []) ++ times 9 (255 ∷ 0 ∷ 248 ∷ 63 ∷ 0 ∷ 26 ∷ 248 ∷ 63 ∷ 0 ∷ 254 ∷ 15 ∷ 128 ∷ 6 ∷ 254 ∷ 15 ∷ 128 ∷ 255 ∷ 3 ∷ 160 ∷ 129 ∷ 255 ∷ 3 ∷ 224 ∷ 255 ∷ 0 ∷ 104 ∷ 224 ∷ []))
+    ∷ ((0 ∷ 0 ∷ 0 ∷ 0 ∷ 48 ∷ 0 ∷ 0 ∷ 128 ∷ 2 ∷ 254 ∷ []) ++ times 9 (15 ∷ 128 ∷ 255 ∷ 3 ∷ 160 ∷ 129 ∷ 255 ∷ 3 ∷ 224 ∷ 255 ∷ 0 ∷ 104 ∷ 224 ∷ 255 ∷ 0 ∷ 248 ∷ 63 ∷ 0 ∷ 26 ∷ 248 ∷ 63 ∷ 0 ∷ 254 ∷ 15 ∷ 128 ∷ 6 ∷ 254 ∷ []))
+    ∷ ((0 ∷ 0 ∷ 0 ∷ 0 ∷ 48 ∷ 0 ∷ 0 ∷ 0 ∷ 0 ∷ 0 ∷ 0 ∷ 0 ∷ 56 ∷ 224 ∷ []) ++ times 9 (255 ∷ 0 ∷ 248 ∷ 63 ∷ 0 ∷ 26 ∷ 248 ∷ 63 ∷ 0 ∷ 254 ∷ 15 ∷ 128 ∷ 6 ∷ 254 ∷ 15 ∷ 128 ∷ 255 ∷ 3 ∷ 160 ∷ 129 ∷ 255 ∷ 3 ∷ 224 ∷ 255 ∷ 0 ∷ 104 ∷ 224 ∷ []))
+    ∷ [])
+    bw []
+
+-- "At 20 MHz channel 2 is lent empty"
+second : ℕ → List ℕ
+second bw = cond (ltb 0 bw) (channel bw) []
+
+is-accepted : (bw : ℕ) → bw < 5 → readable bw (channel bw) (second bw) ≡ Pass
+unfolding times channel second count total present subfieldsIn subfields fieldsOf pieces carried positions row build rowAt value valueAt firsts seconds secondAt firstBits secondBits field bit wrongUsers wrongUsersOf firstWrong wrongBlock least blocks blockAt covered common hasSecond right check sent register step readable check1 check2 check3 check4 check5 check6 check7 check8 check9 check10 check11 tooLong cutCommon wrongFirst wrongSecond wrongCommon overflowDiffers differs foreign firstForeign notCarried cutUsers endOf userAt firstRepeated stationTwice answer7 answer8 unplanned overEight planned withinEight fitting onlyPlan choose orElse threeOf like996 like484 gives share fieldsIn firstOf _or_
+is-accepted zero l = refl
+is-accepted (suc zero) l = refl
+is-accepted (suc (suc zero)) l = refl
+is-accepted (suc (suc (suc zero))) l = refl
+is-accepted (suc (suc (suc (suc zero)))) l = refl
+is-accepted (suc (suc (suc (suc (suc bw))))) l = absurd (omega arith)
+
+as-long : (bw : ℕ) → bw < 5 → length (listing bw (channel bw) (second bw)) ≡ longest (2 ^ bw)
+unfolding times channel second count total present subfieldsIn subfields fieldsOf pieces carried positions row build rowAt value valueAt firsts seconds secondAt firstBits secondBits field bit common hasSecond userAt onlyPlan choose orElse threeOf like996 like484 fieldsIn dec signed upto ownPieces indexOf resourceAt positionOf placeOf offset26 wide runsOf divides pieceFields listAt lowest ownerAt ownerOf nameText comma tonesText ruHead ruLine staLine headText ruLines ownerIn staLineAt staLines listingOf listing offset52 offset106 narrow narrow26 narrow52 narrow106 longest
+as-long zero l = refl
+as-long (suc zero) l = refl
+as-long (suc (suc zero)) l = refl
+as-long (suc (suc (suc zero))) l = refl
+as-long (suc (suc (suc (suc zero)))) l = refl
+as-long (suc (suc (suc (suc (suc bw))))) l = absurd (omega arith)
+
+-- n is the length of the longest listing of all accepted frames of a bandwidth
+pub record Longest (bw n : ℕ) : Type 0 where
+  pub most : (a b : List ℕ) → readable bw a b ≡ Pass → length (listing bw a b) ≤ n
+  pub attained : (a : List ℕ) × (b : List ℕ) × (readable bw a b ≡ Pass) × (length (listing bw a b) ≡ n)
+
+pub longest-listing : (bw : ℕ) → bw < 5 → Longest bw (longest (2 ^ bw))
+longest-listing bw l = record {
+  most = longest-most bw;
+  attained = (channel bw, second bw, is-accepted bw l, as-long bw l);
+}
