@@ -218,6 +218,16 @@ static void every_length(chance *c, unsigned bandwidth)
         call_write(c, &w);
 }
 
+/* A size of the header is just what the largest frame needs. */
+static void hold_size(const char *name, unsigned long size, unsigned long long needed)
+{
+    calls++;
+    if (needed == size)
+        return;
+    wrong++;
+    printf("driver: WRONG, %s is %lu, and %llu bytes are needed\n", name, size, needed);
+}
+
 /* The largest of everything: 320 MHz, all 0. */
 static void largest(chance *c)
 {
@@ -235,9 +245,14 @@ static void largest(chance *c)
         call_read(c, &f, n);
     for (size_t n = BRACHYMEL_LISTING_SIZE - 5; n <= BRACHYMEL_LISTING_SIZE + 5; n++)
         call_list(c, &f, n);
+    a = reference_list(4, f.cc[0], f.length[0], f.cc[1], f.length[1], expected(&other), 0);
+    hold_size("BRACHYMEL_LISTING_SIZE", BRACHYMEL_LISTING_SIZE, a.place);
     a = reference_read_bytes(4, f.cc[0], f.length[0], f.cc[1], f.length[1], w.bytes, sizeof w.bytes);
     w.bandwidth = 4;
     w.length = 4 * (size_t)a.place;
+    hold_size("BRACHYMEL_WORDS_SIZE", BRACHYMEL_WORDS_SIZE, w.length);
+    a = reference_write_bytes(4, w.bytes, w.length, expected(&cc1), 0, expected(&cc2), 0);
+    hold_size("BRACHYMEL_CHANNEL_SIZE", BRACHYMEL_CHANNEL_SIZE, a.place);
     for (size_t n = BRACHYMEL_CHANNEL_SIZE - 5; n <= BRACHYMEL_CHANNEL_SIZE + 5; n++) {
         w.room[0] = w.room[1] = n;
         call_write(c, &w);
