@@ -1,3 +1,4 @@
 pub mod Whole
 pub mod Agree
 pub mod Example
+pub mod Short

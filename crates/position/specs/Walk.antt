@@ -25,15 +25,19 @@ readAt s at n = cond (eqb (lacks s at n) 0) (Value (field s at n) (at + n)) (Lac
 unfoldable pub leftAt : List ℕ → ℕ → ℕ
 leftAt s at = 8 * length s - at
 
--- ---- the walk: all that a channel holds which the bandwidth has, by `channel`'s definitions; bits past the end are 0, as in `bits`.
--- (Of a channel that the bandwidth has, its number makes no difference to the count: `proofs/Whole.antt`: `count-any`.)
+-- ---- the walk, of a channel that the bandwidth has
+
+-- "User blocks of two fields of 22 bits": the 22 bits of User field i
 unfoldable pub user : ℕ → List ℕ → ℕ → ℕ
 user bw s i = field s (userAt bw i) 22
 
--- the bits lacking: of the common field, or else of the User blocks
+-- "common field cut short", or else "User blocks cut short": by how many bits. By none exactly where answers 3 and 9 pass
+-- (`proofs/Short.antt`: `short-uncut`, `uncut-short`).
 unfoldable pub firstShort : ℕ → ℕ → ℕ
 firstShort c u = cond (ltb 0 c) c u
 
+-- all that it holds, by `channel`'s definitions; bits past the end are 0, as in `bits`. The number of a channel that the bandwidth has makes no
+-- difference to its count (`proofs/Whole.antt`: `count-any`).
 unfoldable pub whole : ℕ → List ℕ → Channel
 whole bw s = record {
   overflow = overflow s;
@@ -44,7 +48,7 @@ whole bw s = record {
   short = firstShort (lacks s 0 (common bw)) (lacks s 0 (endOf bw (count bw 1 s)));
 }
 
--- ---- its two parts, from any bit of the channel on
+-- ---- its two parts, from any bit of the channel on; from the first one they are `whole` (`proofs/Whole.antt`: `walk-whole`)
 
 -- a common field that starts at `at`
 unfoldable pub valueFrom : List ℕ → ℕ → ℕ → ℕ → ℕ
