@@ -1,4 +1,4 @@
-/* Cases of rows, frames, words and texts: the letters v r R W L T. */
+/* Cases of rows, frames, words and texts: the letters v r w R W L T. */
 #include "print.h"
 
 #include "../reference/reference.h"
@@ -30,6 +30,19 @@ void print_frame(char letter, const frame *f, size_t room)
     print_string(f->cc[0], f->length[0]);
     print_string(f->cc[1], f->length[1]);
     print_number(room);
+    print_end();
+}
+
+/* One channel of a frame, good or damaged. */
+void print_walk(chance *c, unsigned long k)
+{
+    frame f;
+    unsigned channel = (unsigned)below(c, 2);
+    (void)k;
+    draw_frame(c, &f);
+    print_letter('w');
+    print_number(f.bandwidth % 5);
+    print_string(f.cc[channel], f.length[channel]);
     print_end();
 }
 

@@ -215,6 +215,34 @@ static void case_row(void)
             printf(" %u", l.owner[c][j] + 1);
 }
 
+/* One channel, field by field: "Overflow, 17 bits", its subfields and its User fields, up to the padding. */
+static void case_walk(void)
+{
+    want(3);
+    string s = string_of(2);
+    uint32_t bw = bandwidth(1);
+    unsigned fields = 0, end, values[8] = {0};
+    uint64_t lacking;
+    if (bw > 4)
+        wrong_case(line_number, "a channel of a bandwidth code above 4");
+    for (unsigned k = 0; k < subfields_of(bw); k++) {
+        values[k] = field_of(s.bytes, s.length, subfield_at(bw, k), 9);
+        fields += fields_of(values[k]);
+    }
+    end = end_of_channel(bw, fields);
+    lacking = bits_lacking(s.bytes, s.length, 0, common_bits(bw));
+    if (lacking == 0)
+        lacking = bits_lacking(s.bytes, s.length, 0, end);
+    printf("%lu %u %u %llu", (unsigned long)field_of(s.bytes, s.length, 0, 17), fields, end,
+           (unsigned long long)lacking);
+    for (unsigned k = 0; k < 8; k++)
+        printf(" %u", values[k]);
+    printf(" ;");
+    for (unsigned j = 0; j < fields; j++)
+        printf(" %lu", (unsigned long)field_of(s.bytes, s.length, user_field_at(bw, j), 22));
+    free(s.bytes);
+}
+
 static void case_read(void)
 {
     want(5);
@@ -283,6 +311,7 @@ static void run_case(char *line)
     case 'c': case_check(); break;
     case 'k': case_block(); break;
     case 'r': case_row(); break;
+    case 'w': case_walk(); break;
     case 'R': case_read(); break;
     case 'W': case_write(); break;
     case 'L': case_list(); break;

@@ -4,13 +4,13 @@ use mathlib.Core.Path.{_≡_, refl, sym, _∙_, ap}
 use mathlib.Core.Bool.{true}
 use mathlib.Core.List.{List}
 use native.Mathlib.Omega.{arith}
-use lib.ListN.{replicate}
-use Rattle.answer.specs.Filled.{filled, filled-cong}
+use lib.ListN.{length, replicate, length-replicate}
+use Rattle.answer.specs.Filled.{filled, filled-cong, filled-length}
 use Rattle.bits.specs.Bits.{field}
 use Rattle.resource.specs.Values.{fieldsOf}
 use Rattle.resource.proofs.Fields.{fields-most}
 use Rattle.channel.specs.Layout.{present, common, subfields, subfieldsIn, valueAt, value, total, count, userAt, endOf}
-use Rattle.channel.specs.Laws.{present-1, common-le, subfields-le, total-cong, total-le}
+use Rattle.channel.specs.Laws.{present-1, common-le, count-le, subfields-le, total-cong, total-le}
 use Rattle.position.specs.Walk.{user, whole, valueFrom, commonAt, userFrom, endFrom, blocksAt}
 
 -- of a channel that the bandwidth has, the number makes no difference
@@ -69,3 +69,18 @@ pub walk-whole : (bw : ℕ) (s : List ℕ) → blocksAt s (commonAt s 0 bw .next
 unfolding blocksAt whole
 walk-whole bw s =
     rw (common-next s bw, first-overflow s bw, first-values s bw, first-count s bw, users-after s bw (count bw 1 s), end-after bw (count bw 1 s))
+
+-- what it is held in
+pub whole-count : (bw : ℕ) (s : List ℕ) → whole bw s .count ≤ 72
+unfolding whole
+whole-count bw s = count-le bw 1 s
+
+pub whole-values : (bw : ℕ) (s : List ℕ) → length (whole bw s .values) ≡ 8
+unfolding whole
+whole-values bw s =
+    filled-length (value bw s) (subfields bw) (replicate 8 0) (omega (arith, subfields-le bw, length-replicate {A = ℕ} 8 0)) ∙ length-replicate {A = ℕ} 8 0
+
+pub whole-users : (bw : ℕ) (s : List ℕ) → length (whole bw s .users) ≡ 72
+unfolding whole
+whole-users bw s =
+    filled-length (user bw s) (count bw 1 s) (replicate 72 0) (omega (arith, count-le bw 1 s, length-replicate {A = ℕ} 72 0)) ∙ length-replicate {A = ℕ} 72 0

@@ -6,6 +6,7 @@ use crate::print::number as print_number;
 use crate::print::text;
 use crate::rows::is_row;
 use crate::rows::row;
+use crate::walks::walk;
 use crate::words::has;
 use crate::words::number;
 use crate::words::string;
@@ -146,6 +147,12 @@ fn by_letter(line: &[u8], letter: u8) {
         b'r' => {
             if is_row(line) {
                 row(line);
+                return;
+            }
+        }
+        b'w' => {
+            if has(line, b"ns") {
+                walk(line);
                 return;
             }
         }

@@ -6,6 +6,7 @@ mod cases;
 mod frames;
 mod print;
 mod rows;
+mod walks;
 mod words;
 mod writes;
 

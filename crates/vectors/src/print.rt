@@ -20,6 +20,12 @@ pub fn number(n: u64) {
     io::print_decimal(STDOUT_FILENO, n);
 }
 
+// A space and a number.
+pub fn next(n: u64) {
+    text(b" ");
+    number(n);
+}
+
 // The capital hex digit of the lowest four bits.
 fn glyph(x: u8) -> u8
     ensures { λ r. ⌜ r ≡ glyphOf (x % 16) ⌝ }

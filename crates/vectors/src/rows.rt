@@ -1,5 +1,6 @@
 // The cases of rows: the layout, the plan's resources with their subcarriers, and the owner of every User field.
 use crate::print::answer as print_answer;
+use crate::print::next;
 use crate::print::number as print_number;
 use crate::print::text;
 use crate::words::has;
@@ -54,22 +55,16 @@ fn print_pairing(pairing: Pairing) {
     }
 }
 
-// A space and a number.
-fn print_next(n: u64) {
-    text(b" ");
-    print_number(n);
-}
-
 // A resource's name and index.
 fn print_resource(r: Resource) {
     match r {
         Resource::Single(size, i) => {
             print_size(size);
-            print_next(i as u64);
+            next(i as u64);
         }
         Resource::Joined(pairing, i) => {
             print_pairing(pairing);
-            print_next(i as u64);
+            next(i as u64);
         }
     }
 }
@@ -122,10 +117,10 @@ fn print_record(x: Record, n: u16) {
     let resource = x.resource;
     text(b" | ");
     print_resource(resource);
-    print_next(x.segment as u64);
-    print_next(x.position as u64);
-    print_next(x.fields1 as u64);
-    print_next(x.fields2 as u64);
+    next(x.segment as u64);
+    next(x.position as u64);
+    next(x.fields1 as u64);
+    next(x.fields2 as u64);
     print_subcarriers(n, x.segment, resource);
 }
 
@@ -152,7 +147,7 @@ fn print_owners(row: &[u16], channel: usize)
         if 144 <= k {
             return;
         }
-        print_next((k + 1) as u64);
+        next((k + 1) as u64);
         j += 1;
     }
 }

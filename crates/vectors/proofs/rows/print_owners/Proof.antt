@@ -19,11 +19,11 @@ owner-of-requires c κs = search needs
 returns : tie.Need-returns Inv-loop μ-loop
 returns c = search needs
 
-add-print-next : tie.Need-add-print-next Inv-loop μ-loop
-add-print-next c = search needs
+add-next : tie.Need-add-next Inv-loop μ-loop
+add-next c = search needs
 
-print-next-requires : tie.Need-print-next-requires Inv-loop μ-loop
-print-next-requires c κs = search needs
+next-requires : tie.Need-next-requires Inv-loop μ-loop
+next-requires c κs = search needs
 
 add-j : tie.Need-add-j Inv-loop μ-loop
 add-j c = search needs
@@ -46,8 +46,8 @@ print-owners-spec =
     loop-holds
     owner-of-requires
     returns
-    add-print-next
-    print-next-requires
+    add-next
+    next-requires
     add-j
     loop-less
     loop-again
