@@ -1,4 +1,6 @@
 /* bench [MILLISECONDS]: times the library's entries and the C baseline on the same frames.
+ * bench --calls ENTRY BANDWIDTH KIND SIDE TIMES: only makes so many calls on one such frame, for counting what they
+ * execute.
  *
  * For each kind of frame the library, the baseline, and the baseline with its check worked out bit by bit are
  * timed in turn, round by round, in one process; the best round of each counts: nanoseconds per frame, and the
@@ -34,6 +36,7 @@ static words_case words[FRAMES];                /* to write */
 static size_t room[FRAMES];                     /* of words (bytes) or text */
 static uint8_t buffer[2][BRACHYMEL_LISTING_SIZE];
 static double round_ns = 1e6;
+static unsigned used = FRAMES;                  /* how many of the frames are in use */
 
 static double now(void)
 {
@@ -68,7 +71,7 @@ static double round_of(int side, unsigned times)
     static volatile uint64_t kept;
     double began = now();
     for (unsigned n = 0; n < times; n++)
-        for (unsigned k = 0; k < FRAMES; k++)
+        for (unsigned k = 0; k < used; k++)
             kept += call(side, k).place;
     return (now() - began) / times / FRAMES;
 }
@@ -76,7 +79,7 @@ static double round_of(int side, unsigned times)
 static void hold_to_reference(int side)
 {
     static uint8_t right[2][BRACHYMEL_LISTING_SIZE];
-    for (unsigned k = 0; k < FRAMES; k++) {
+    for (unsigned k = 0; k < used; k++) {
         answer should;
         brachymel_answer is;
         memset(buffer, 0x5A, sizeof buffer);
@@ -132,7 +135,7 @@ static uint32_t number_of(const frame *f, size_t bytes)
 /* Words and rooms to go with the frames, where these are good. */
 static void complete(void)
 {
-    for (unsigned k = 0; k < FRAMES; k++) {
+    for (unsigned k = 0; k < used; k++) {
         frame *f = &frames[k];
         words_case *w = &words[k];
         answer a = reference_read_bytes(f->bandwidth, f->cc[0], f->length[0], f->cc[1], f->length[1], w->bytes,
@@ -146,14 +149,14 @@ static void complete(void)
 
 static void of_row(chance *c, unsigned bandwidth, const unsigned *row)
 {
-    for (unsigned k = 0; k < FRAMES; k++)
+    for (unsigned k = 0; k < used; k++)
         build_frame(c, bandwidth, row, &frames[k]);
     complete();
 }
 
 static void of_random_rows(chance *c, unsigned bandwidth)
 {
-    for (unsigned k = 0; k < FRAMES; k++)
+    for (unsigned k = 0; k < used; k++)
         do {
             unsigned row[16];
             draw_good_row(c, positions_of(bandwidth), row);
@@ -165,7 +168,7 @@ static void of_random_rows(chance *c, unsigned bandwidth)
 /* Frames that reading or listing refuses with this number. */
 static void of_refusal(chance *c, uint32_t number)
 {
-    for (unsigned k = 0; k < FRAMES; k++)
+    for (unsigned k = 0; k < used; k++)
         do {
             draw_frame(c, &frames[k]);
             room[k] = number == 12 ? 36 : number == 23 ? 100 : entry == LIST ? BRACHYMEL_LISTING_SIZE : BRACHYMEL_WORDS_SIZE;
@@ -174,7 +177,7 @@ static void of_refusal(chance *c, uint32_t number)
 
 static void of_written_refusal(chance *c, uint32_t number)
 {
-    for (unsigned k = 0; k < FRAMES; k++)
+    for (unsigned k = 0; k < used; k++)
         do {
             draw_words(c, &words[k]);
             words[k].room[0] = words[k].room[1] = number == 14 ? 4 : BRACHYMEL_CHANNEL_SIZE;
@@ -184,7 +187,7 @@ static void of_written_refusal(chance *c, uint32_t number)
 /* Every station 2046, which may repeat, so that there is nothing for the repeat check to find. */
 static void of_one_station(void)
 {
-    for (unsigned k = 0; k < FRAMES; k++) {
+    for (unsigned k = 0; k < used; k++) {
         frame *f = &frames[k];
         for (unsigned ch = 0; ch < 2; ch++) {
             unsigned n = 0;
@@ -205,24 +208,30 @@ static void print_head(const char *what)
     printf("\n%-34s %10s %10s %7s %14s %7s\n", what, "proved, ns", "in C, ns", "ratio", "bit by bit, ns", "ratio");
 }
 
-static void print_accepted(chance *c, const char *what)
+static const char *const kind_name[] = {"few fields", "random", "all 0"};
+
+/* Frames of a bandwidth with few User fields, drawn at random, or with all values 0. */
+static void of_kind(chance *c, unsigned bandwidth, unsigned kind)
 {
     static const unsigned few[5][16] = {{64}, {72, 29}, {80, 30, 30, 30}, {80, 30, 30, 30, 80, 30, 30, 30},
                                         {80, 30, 30, 30, 80, 30, 30, 30, 80, 30, 30, 30, 80, 30, 30, 30}},
-                          zeros[16] = {0}, mhz[5] = {20, 40, 80, 160, 320};
+                          zeros[16] = {0};
+    if (kind == 1)
+        of_random_rows(c, bandwidth);
+    else
+        of_row(c, bandwidth, kind == 0 ? few[bandwidth] : zeros);
+}
+
+static void print_accepted(chance *c, const char *what)
+{
     char name[60];
     print_head(what);
-    for (unsigned bandwidth = 0; bandwidth < 5; bandwidth++) {
-        of_row(c, bandwidth, few[bandwidth]);
-        sprintf(name, "%u MHz, few fields", mhz[bandwidth]);
-        print_kind(name);
-        of_random_rows(c, bandwidth);
-        sprintf(name, "%u MHz, random", mhz[bandwidth]);
-        print_kind(name);
-        of_row(c, bandwidth, zeros);
-        sprintf(name, "%u MHz, all 0", mhz[bandwidth]);
-        print_kind(name);
-    }
+    for (unsigned bandwidth = 0; bandwidth < 5; bandwidth++)
+        for (unsigned kind = 0; kind < 3; kind++) {
+            of_kind(c, bandwidth, kind);
+            sprintf(name, "%u MHz, %s", 20u << bandwidth, kind_name[kind]);
+            print_kind(name);
+        }
 }
 
 static void print_refusals(chance *c, uint32_t first, uint32_t last)
@@ -256,9 +265,25 @@ static void print_growth(chance *c)
     }
 }
 
+/* Calls on one frame, nothing printed. */
+static int make_calls(char **words_after)
+{
+    chance c = chance_from(1, 'B');
+    unsigned bandwidth = (unsigned)atoi(words_after[1]), kind = (unsigned)atoi(words_after[2]);
+    int side = atoi(words_after[3]), times = atoi(words_after[4]);
+    entry = atoi(words_after[0]);
+    used = 1;
+    of_kind(&c, bandwidth, kind);
+    while (times-- > 0)
+        call(side, 0);
+    return 0;
+}
+
 int main(int argc, char **argv)
 {
     chance c = chance_from(1, 'B');
+    if (argc == 7 && strcmp(argv[1], "--calls") == 0)
+        return make_calls(argv + 2);
     if (argc == 2)
         round_ns = 1e6 * atof(argv[1]);
     entry = READ;
