@@ -33,7 +33,7 @@ vector-5 = refl
 
 -- ---- bounds
 
-step-lt : (r b : ℕ) → step r b < 256
+pub step-lt : (r b : ℕ) → step r b < 256
 unfolding step
 step-lt r b = xor-lt 8 (r * 2 % 256) (7 * ((r / 128 + b) % 2)) (omega arith) (omega arith)
 

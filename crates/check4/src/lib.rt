@@ -1,7 +1,8 @@
 // The four-bit check and the tail of one block of bits.
 ghost use mathlib.Core.Path.{_≡_};
-ghost use Prim.Native.Nat.{_+_, _^_, _<_};
+ghost use Prim.Native.Nat.{_+_, _^_, _≤_, _<_, min};
 ghost use Rattle.check4.specs.Check.{step, check, right};
+ghost use Rattle.check4.specs.Parts.{steps};
 
 // One bit into the register.
 fn step_in(r: u32, b: u32) -> u32
@@ -9,6 +10,29 @@ fn step_in(r: u32, b: u32) -> u32
     ensures { λ x. ⌜ x ≡ step r b ⌝ }
 {
     (r * 2 % 256) ^ (7 * ((r / 128 + b) % 2))
+}
+
+// The m lowest bits of w into the register, the lowest first.
+fn bits_in(r: u32, w: u32, m: usize) -> u32
+    requires { ⌜ (r < 256) × (m ≤ 22) ⌝ }
+    ensures { λ x. ⌜ x ≡ steps r w m ⌝ }
+{
+    let mut x = r;
+    let mut v = w;
+    let mut k: usize = 0;
+    while k < m {
+        x = step_in(x, v % 2);
+        v = v / 2;
+        k += 1;
+    }
+    x
+}
+
+// As many of n bits as are looked at in one go: a User field's.
+fn part_of(n: usize) -> usize
+    ensures { λ r. ⌜ (r ≤ n) × (r ≤ 22) × (r ≡ min n 22) × (0 < n → 0 < r) ⌝ }
+{
+    if n < 22 { n } else { 22 }
 }
 
 // The check of the n bits from `at`, first sent bit lowest.
@@ -19,8 +43,9 @@ pub fn check_at(s: &[u8], at: usize, n: usize) -> u32
     let mut r: u32 = 255;
     let mut k: usize = 0;
     while k < n {
-        r = step_in(r, bits::bit_at(s, at + k));
-        k += 1;
+        let m = part_of(n - k);
+        r = bits_in(r, bits::field_at(s, at + k, m), m);
+        k += m;
     }
     let v = 255 - r;
     v / 128 % 2 + v / 64 % 2 * 2 + v / 32 % 2 * 4 + v / 16 % 2 * 8

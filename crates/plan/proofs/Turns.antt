@@ -1,14 +1,17 @@
 -- What one turn of the loops over a segment's places finds. Assumes nothing.
 use mathlib.Core.Path.{_≡_, sym, _∙_}
 use mathlib.Core.Bool.{Bool, true, false}
+use mathlib.Core.Logic.{⊎-elim}
 use Prim.Native.Nat.{ℕ, _+_, _*_, _/_, _%_, _≤_, _<_}
 use native.Mathlib.Omega.{arith}
+use native.Mathlib.Numerals.{add-one}
+use native.Mathlib.Nat.{add-zero, zero-add, eq-or-lt-of-le}
 use lib.Dec.{leb}
 use borrow.Author.Tests.{le-leb, lt-leb}
 use Rattle.plan.specs.declared.Owner.{Owner}
 use Rattle.plan.specs.Decides.{Decides}
 use Rattle.plan.specs.Plan.{Fits}
-use Rattle.plan.specs.Fields.{total}
+use Rattle.plan.specs.Fields.{share, channelShare, shares, total}
 use Rattle.plan.specs.Guess.{firstThree, choose, onlyPlan, fitting}
 use Rattle.plan.proofs.Tests.{decides, same-test}
 use Rattle.plan.proofs.Fitting.{fits-tested}
@@ -33,3 +36,17 @@ module _ (row : ℕ → ℕ) (s i k u : ℕ) (o : Owner) (l : i < 4) (ek : k ≡
 
     pub over-turn : 8 < n → leb (total (onlyPlan row (4 * s + i)) row (4 * s + i)) 8 ≡ false
     over-turn h = rw (← only-in, ← en) (lt-leb n 8 h)
+
+-- each position is one channel's
+pub both-channels : (o : Owner) (p v : ℕ) → channelShare 0 o p v + channelShare 1 o p v ≡ share o p v
+both-channels o p v =
+    ⊎-elim
+    (λ (e : 0 ≡ p % 2). rw (← e) (add-zero (share o p v)))
+    (λ (e : 0 < p % 2). let f : p % 2 ≡ 1 = omega arith in rw f (zero-add (share o p v)))
+    (eq-or-lt-of-le {n = 0} {m = p % 2} (omega arith))
+
+pub shares-next : (o : Owner) (row : ℕ → ℕ) (b i sum v : ℕ) → sum ≡ shares 0 o row b i + shares 1 o row b i → v ≡ share o (b + i) (row (b + i))
+    → sum + v ≡ shares 0 o row b (i + 1) + shares 1 o row b (i + 1)
+shares-next o row b i sum v e f =
+    let g = both-channels o (b + i) (row (b + i)) in
+    rw (add-one i, e, f) (omega (arith, g))

@@ -260,12 +260,20 @@ pub fn fields_in(channel: usize, o: Owner, row: &[u16], p: usize) -> u16
     sum
 }
 
-// The fields of both channels.
+// The fields of both channels: those of all its places.
 fn total_of(o: Owner, row: &[u16], p: usize) -> u16
     requires { ⌜ p < 4096 ⌝ }
     ensures { λ r. ⌜ r ≡ total o (at (now (row .entry))) p ⌝ }
 {
-    fields_in(0, o, row, p) + fields_in(1, o, row, p)
+    let n = span_of(o);
+    let b = span_start(o, p);
+    let mut sum: u16 = 0;
+    let mut place: usize = 0;
+    while place < n {
+        sum += share_of(o, b + place, value_at(row, b + place));
+        place += 1;
+    }
+    sum
 }
 
 // Position p's fields share their resource, in the only plan.

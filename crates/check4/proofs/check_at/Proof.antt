@@ -1,13 +1,12 @@
 -- `check4::check_at` meets its contract. Assumes nothing.
 use borrow.Author.Needs.{needs}
-use Prim.Native.Nat.{ℕ, _+_, _-_, _*_, _/_, _%_, _^_, _≤_, _<_}
+use Prim.Native.Nat.{ℕ, _+_, _-_, _*_, _/_, _%_, _^_, _≤_, _<_, min}
 use mathlib.Core.Path.{_≡_, sym, _∙_, refl, ap}
 use native.Mathlib.Omega.{arith}
-use native.Mathlib.Numerals.{add-one}
-use Rattle.bits.specs.Bits.{bit}
-use Rattle.bits.specs.Fields.{bit-lt}
-use Rattle.check4.specs.Check.{step, register, sent, check}
-use Rattle.check4.specs.Checks.{register-lt, register-next}
+use Rattle.bits.specs.Bits.{field}
+use Rattle.check4.specs.Check.{register, sent, check}
+use Rattle.check4.specs.Checks.{register-lt}
+use Rattle.check4.specs.Parts.{steps, register-part}
 use Rattle.check4.proofs.check_at.Statement.{statement}
 use Rattle.check4.proofs.check_at.Tie as tie
 
@@ -21,14 +20,20 @@ loop-holds : tie.Need-loop-holds Inv-loop μ-loop
 unfolding register
 loop-holds c = (search needs, refl, search needs)
 
-add-bit-at : tie.Need-add-bit-at Inv-loop μ-loop
-add-bit-at c = search needs
+sub-part-of : tie.Need-sub-part-of Inv-loop μ-loop
+sub-part-of c = search needs
 
-bit-at-requires : tie.Need-bit-at-requires Inv-loop μ-loop
-bit-at-requires c κs = search needs
+part-of-requires : tie.Need-part-of-requires Inv-loop μ-loop
+part-of-requires c κs = search needs
 
-step-in-requires : tie.Need-step-in-requires Inv-loop μ-loop
-step-in-requires c κs = omega (arith, bit-lt (c .before .before .before .before .args .s .now) (c .before .before .before .before .args .at + c .before .before .loop .k))
+add-field-at : tie.Need-add-field-at Inv-loop μ-loop
+add-field-at c = search needs
+
+field-at-requires : tie.Need-field-at-requires Inv-loop μ-loop
+field-at-requires c κs = search needs
+
+bits-in-requires : tie.Need-bits-in-requires Inv-loop μ-loop
+bits-in-requires c κs = search needs
 
 add-k : tie.Need-add-k Inv-loop μ-loop
 add-k c = search needs
@@ -38,10 +43,12 @@ loop-less c = search needs
 
 loop-again : tie.Need-loop-again Inv-loop μ-loop
 loop-again c =
-    let l = c .before .before .before .loop in
-    let a = c .before .before .before .before .before .args in
-    let e : c .step-in .result ≡ register (a .s .now) (a .at) (l .k + 1) = cc (register-next (a .s .now) (a .at) (l .k)) in
-    (search needs, e, omega (arith, register-lt (a .s .now) (a .at) (l .k + 1)))
+    let l = c .before .before .before .before .loop in
+    let a = c .before .before .before .before .before .before .args in
+    let m = c .before .before .part-of .result in
+    let p = register-part (a .s .now) (a .at) (l .k) m m (omega arith) in
+    let e : c .bits-in .result ≡ register (a .s .now) (a .at) (l .k + m) = cc (p, l .inv .1) in
+    (search needs, e, rw e (register-lt (a .s .now) (a .at) (l .k + m)))
 
 sub-v : tie.Need-sub-v Inv-loop μ-loop
 sub-v c = search needs
@@ -79,9 +86,11 @@ check-at-spec =
     Inv-loop
     μ-loop
     loop-holds
-    add-bit-at
-    bit-at-requires
-    step-in-requires
+    sub-part-of
+    part-of-requires
+    add-field-at
+    field-at-requires
+    bits-in-requires
     add-k
     loop-less
     loop-again
