@@ -1,3 +1,4 @@
 pub mod Four
 pub mod Through
 pub mod Agree
+pub mod Judged

@@ -23,7 +23,8 @@ use Rattle.channel.specs.Layout.{positions, present, overflow, ltfSymbols, subf
 use Rattle.channel.specs.Checks.{tooLong, cutCommon, wrongCommon, notCarried, cutUsers, wrongUsers}
 use Rattle.channel.specs.Laws.{present-1, absent-2, subfields-le, subfieldsIn-le, common-le, total-cong, total-le, row-length, row-at, position-subfield, end-le}
 use Rattle.channel.specs.Passing.{tooLong-pass, pass-tooLong, pass-cutCommon, pass-wrongCommon, pass-overflowDiffers, pass-notCarried, pass-cutUsers, pass-wrongUsers}
-use Rattle.reader.specs.Table.{check1, check2, check3, check4, check5, check6, check9, check10, check11, stationOf, repeated, firstRepeated, stationTwice}
+use Rattle.stations.specs.Stations.{stationOf, repeated, firstRepeated, stationTwice}
+use Rattle.reader.specs.Table.{check1, check2, check3, check4, check5, check6, check9, check10, check11}
 use Rattle.reader.specs.Words.{positionOf}
 use Rattle.reader.specs.Stages.{commonChecks, userChecks}
 use Rattle.reader.specs.Determine.{place-1, place-2, value-1, value-2}

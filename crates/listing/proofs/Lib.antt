@@ -4,3 +4,4 @@ pub mod Outcome
 pub mod Facts
 pub mod Example
 pub mod Stations
+pub mod Judged

@@ -18,7 +18,8 @@ use Rattle.records.specs.declared.Record.{Record}
 use Rattle.records.specs.declared.Plan.{Plan}
 use Rattle.records.specs.Records.{recordsOf, blank}
 use Rattle.records.specs.Owns.{ownerOf}
-use Rattle.reader.specs.Table.{readable, stationOf}
+use Rattle.stations.specs.Stations.{stationOf}
+use Rattle.reader.specs.Table.{readable}
 use Rattle.input.specs.declared.Parsed.{Parsed}
 use Rattle.input.specs.declared.Parsed.the-variants.{Wrong, Lines}
 use Rattle.input.specs.Parse.{parsed, bytesAt, secondAt}

@@ -24,7 +24,8 @@ use Rattle.records.specs.Records.{divides, pieceFields, listAt}
 use Rattle.records.specs.Owns.{lowest, ownerAt, ownerOf}
 use Rattle.listing.specs.Lines.{nameText, comma, tonesText, ruHead, ruLine, staLine, headText}
 use Rattle.listing.specs.Listing.{ruLines, ownerIn, staLineAt, staLines, listingOf, listing}
-use Rattle.reader.specs.Table.{check1, check2, check3, check4, check5, check6, check7, check8, check9, check10, check11, firstRepeated, stationTwice, readable}
+use Rattle.stations.specs.Stations.{firstRepeated, stationTwice}
+use Rattle.reader.specs.Table.{check1, check2, check3, check4, check5, check6, check7, check8, check9, check10, check11, readable}
 use Rattle.plan.specs.Fields.{gives, share, fieldsIn}
 use Rattle.plan.specs.Guess.{threeOf, orElse, like996, like484, choose, onlyPlan, fitting, planned, withinEight, unplanned, overEight, answer7, answer8}
 use Rattle.longest.specs.Longest.{longest, longest-most}

@@ -45,7 +45,8 @@ use Rattle.records.proofs.Owners.{found-left, in-most, divided-itself, divided-
 use Rattle.input.specs.declared.Parsed.{Parsed}
 use Rattle.input.specs.declared.Parsed.the-variants.{Wrong, Lines}
 use Rattle.input.specs.Parse.{parsed, bytesAt, secondAt}
-use Rattle.reader.specs.Table.{readable, stationAt}
+use Rattle.stations.specs.Stations.{stationAt}
+use Rattle.reader.specs.Table.{readable}
 use Rattle.listing.specs.Lines.{nameText, comma, spanText, tonesText, ruHead, ruLine, staLine, refusalText, headText}
 use Rattle.listing.specs.LineLaws.{span-short}
 use Rattle.listing.specs.Listing.{recordLine, resources, ruLines, ownerIn, staLineAt, staLines, listingOf, listing, outcomeText, frameText, parsedText, programText}

@@ -10,14 +10,10 @@ use Rattle.reader.specs.Table.{reading, wordCount}
 use Rattle.reader.specs.Words.{wordsOf}
 use Rattle.reader.specs.Result.{answerOf, wordsAfter}
 use Rattle.reader.proofs.check_frame.Reads as check-frame
-use Rattle.reader.proofs.word_count.Reads as word-count
 use Rattle.reader.proofs.read.Reads as read
 
 pub check-frame-agrees : (κs : _) (a : _) (r r' : _) (s s' : _) → check-frame.Post κs a r s → check-frame.Post κs a r' s' → r ≡ r'
 check-frame-agrees κs a r r' s s' p q = p ∙ sym q
-
-pub word-count-agrees : (κs : _) (a : _) (r r' : _) (s s' : _) → word-count.Post κs a r s → word-count.Post κs a r' s' → r ≡ r'
-word-count-agrees κs a r r' s s' p q = p .1 ∙ sym (q .1)
 
 -- any two answers, and any two states of the lent words afterwards, that `read` allows for one input
 pub read-agrees : (κs : _) (a : _) (r r' : _) (s s' : _) → read.Post κs a r s → read.Post κs a r' s'

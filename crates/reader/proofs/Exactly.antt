@@ -1,20 +1,23 @@
 -- "given exactly when (nothing earlier applies)": each number of 01's table, with its channel and place. Assumes nothing.
 use mathlib.Core.Path.{_≡_, refl, sym, _∙_, ap}
 use mathlib.Core.Bool.{Bool, true, false, cond}
-use mathlib.Core.List.{List, [], _∷_}
+use mathlib.Core.List.{List, [], _∷_, _++_}
 use Prim.Native.Nat.{ℕ, _+_, _-_, _<_}
 use lib.Dec.{ltb}
 use lib.ListN.{getD}
 use Rattle.answer.specs.Answer.{no}
 use Rattle.answer.specs.Order.{Applies, Only, only-if, only-or, Gives, none, more, distinct, absent, zero-pass, number-applies, applies-number, refuse-if}
 use Rattle.answer.specs.declared.Answer.{Answer}
+use Rattle.answer.specs.declared.Out.{Out}
 use Rattle.answer.specs.declared.Out.the-variants.{Pass, Refuse}
 use Rattle.plan.specs.Guess.{unplanned, overEight, answer7, answer8}
 use Rattle.plan.specs.Layout.{segments}
 use Rattle.channel.specs.Layout.{row, count, userAt}
 use Rattle.channel.specs.Passing.{tooLong-only, cutCommon-only, wrongCommon-only, overflowDiffers-only, notCarried-only, cutUsers-only, wrongUsers-only}
-use Rattle.reader.specs.Table.{check1, check2, check3, check4, check5, check6, check7, check8, check9, check10, check11, check12, stationTwice, stationPlace, firstRepeated, noRoom, wordCount, table, reading}
+use Rattle.stations.specs.Stations.{stationTwice, stationPlace, firstRepeated}
+use Rattle.reader.specs.Table.{check1, check2, check3, check4, check5, check6, check7, check8, check9, check10, check11, check12, noRoom, wordCount, eleven, table, reading}
 use Rattle.reader.specs.Result.{answerOf}
+use Rattle.reader.specs.Judged.{Judged, judged}
 
 abbrev pub numbers : List ℕ
 numbers = 1 ∷ 2 ∷ 3 ∷ 4 ∷ 5 ∷ 6 ∷ 7 ∷ 8 ∷ 9 ∷ 10 ∷ 11 ∷ 12 ∷ []
@@ -84,10 +87,14 @@ module _ (bw : ℕ) (a b : List ℕ) where
   unfolding check12 noRoom
   only-12 room = only-if (ltb room (wordCount bw a b)) 12 0 (wordCount bw a b)
 
-  pub table-gives : (room : ℕ) → Gives numbers (table bw a b room)
-  table-gives room =
+  -- 1 to 11, and one more that gives another number: 12 of the reader, 23 of the listing
+  pub eleven-then : {n : ℕ} {o : Out} → Only n o → Gives (1 ∷ 2 ∷ 3 ∷ 4 ∷ 5 ∷ 6 ∷ 7 ∷ 8 ∷ 9 ∷ 10 ∷ 11 ∷ n ∷ []) (eleven bw a b ++ (o ∷ []))
+  eleven-then last =
       more only-1 (more only-2 (more only-3 (more only-4 (more only-5 (more only-6 (more only-7 (more only-8
-      (more only-9 (more only-10 (more only-11-here (more (only-12 room) none)))))))))))
+      (more only-9 (more only-10 (more only-11-here (more last none)))))))))))
+
+  pub table-gives : (room : ℕ) → Gives numbers (table bw a b room)
+  table-gives room = eleven-then (only-12 room)
 
   numbers-distinct : distinct (0 ∷ numbers) ≡ true
   unfolding distinct absent
@@ -107,3 +114,8 @@ module _ (bw : ℕ) (a b : List ℕ) where
       → (answerOf bw a b room ≡ x) × (x .number ≡ getD numbers k 0)
   unfolding answerOf reading
   applies-exactly room k x = applies-number (table-gives room) numbers-distinct (wordCount bw a b) k x
+
+  -- so the answer is one by the table
+  pub read-judged : (room : ℕ) → Judged numbers (table bw a b room) (wordCount bw a b) (answerOf bw a b room)
+  unfolding answerOf reading
+  read-judged room = judged (table-gives room) numbers-distinct (wordCount bw a b)

@@ -1,4 +1,3 @@
-pub mod Seen
 pub mod Rows
 pub mod Grow
 pub mod Givers

@@ -4,3 +4,4 @@ pub mod Result
 pub mod Stages
 pub mod Padding
 pub mod Determine
+pub mod Judged

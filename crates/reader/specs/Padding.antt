@@ -24,7 +24,8 @@ use Rattle.channel.specs.Laws.{present-1, first-inside, second-inside, common-g
 use Rattle.channel.specs.Passing.{pass-tooLong, pass-cutCommon, pass-cutUsers}
 use Rattle.channel.specs.Padding.{Same, same-less, field-in, Alike, AlikeToEnd, alike-of, present-count, value-same, count-same, row-same, wrongCommon-same, notCarried-same, overflowDiffers-same, wrongUsers-same, user-same}
 use Rattle.words.specs.Words.{nth, header, secondWord, userWord}
-use Rattle.reader.specs.Table.{check1, check2, check3, check4, check5, check6, check7, check8, check9, check10, check11, noRoom, check12, stationOf, stationPlace, repeated, firstRepeated, stationTwice, eleven, readable, reading, wordCount}
+use Rattle.stations.specs.Stations.{stationOf, stationPlace, repeated, firstRepeated, stationTwice}
+use Rattle.reader.specs.Table.{check1, check2, check3, check4, check5, check6, check7, check8, check9, check10, check11, noRoom, check12, eleven, readable, reading, wordCount}
 use Rattle.reader.specs.Words.{before, giver, positionOf, sharedAt, userWordAt, userWords, headerOf, wordsIn, wordsOf}
 use Rattle.reader.specs.Stages.{reading-stages}
 use Rattle.reader.specs.Result.{answerOf, wordsAfter}

@@ -2,7 +2,7 @@
 use mathlib.Core.Path.{_≡_, refl, sym, _∙_, ap}
 use mathlib.Core.Bool.{Bool, true, false, not, _&&_, _||_}
 use mathlib.Core.List.{List, [], _∷_, _++_}
-use Prim.Native.Nat.{ℕ, _≤_, _<_}
+use Prim.Native.Nat.{ℕ, _+_, _≤_}
 use native.Mathlib.Omega.{arith}
 use lib.Dec.{ltb}
 use lib.ListN.{length}
@@ -13,7 +13,7 @@ use Rattle.answer.specs.declared.Answer.{Answer}
 use Rattle.answer.specs.declared.Out.{Out}
 use Rattle.answer.specs.declared.Out.the-variants.{Pass, Refuse}
 use Rattle.plan.specs.Guess.{answer7, answer8, layoutOf}
-use Rattle.channel.specs.Layout.{present, row}
+use Rattle.channel.specs.Layout.{row, count}
 use Rattle.channel.specs.Checks.{tooLong}
 use Rattle.reader.specs.Table.{check1, check2, check3, check4, check5, check6, check7, check8, check9, check10, check11, check12, eleven, table, readable, reading, wordCount, noRoom}
 
@@ -107,6 +107,21 @@ readable-stopped bw a b x e = stopped _ _ _ x e ∙ sym (readable-stages bw a b)
 pub reading-is : (bw : ℕ) (a b : List ℕ) (room need : ℕ) (r o : Out)
     → r ≡ readable bw a b → need ≡ wordCount bw a b → o ≡ (r or noRoom need room) → reading bw a b room ≡ o
 reading-is bw a b room need r o er en eo = reading-stages bw a b room ∙ sym (eo ∙ unfold check12 in rw (er, en))
+
+pub counted : (bw : ℕ) (a b : List ℕ) (n m : ℕ) → n ≡ count bw 1 a → m ≡ count bw 2 b → 10 + (n + m) ≡ wordCount bw a b
+unfolding wordCount
+counted bw a b n m e f = rw (e, f)
+
+-- the same, of a frame that passes 1 to 6
+pub reading-rest : (bw : ℕ) (a b : List ℕ) (room need : ℕ) (l r o : Out) → commonChecks bw a b ≡ Pass → l ≡ layoutOf (row bw a b)
+    → r ≡ (l or userChecks bw a b) → need ≡ wordCount bw a b → o ≡ (r or noRoom need room) → reading bw a b room ≡ o
+reading-rest bw a b room need l r o ec el er en eo =
+    reading-is bw a b room need r o (er ∙ ap (λ (q : Out). q or userChecks bw a b) el ∙ sym (readable-rest bw a b ec)) en eo
+
+-- and of one that does not
+pub reading-stopped : (bw : ℕ) (a b : List ℕ) (room : ℕ) (x : Answer) → commonChecks bw a b ≡ Refuse x → reading bw a b room ≡ Refuse x
+unfolding _or_
+reading-stopped bw a b room x e = reading-stages bw a b room ∙ rw (← readable-stopped bw a b x e, e) refl
 
 room-pass : (bw : ℕ) (a b : List ℕ) (room : ℕ) → check12 bw a b room ≡ Pass → wordCount bw a b ≤ room
 unfolding check12 noRoom

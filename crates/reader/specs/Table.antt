@@ -1,19 +1,16 @@
 -- 01's table, "What comes back", for the reader. Assumes nothing.
 --
 -- "Checks run in number order"; "inside one, channel 1 first, lowest bit first". The tests of 2 to 6, 9 and 10 are
--- `channel`'s, those of 7 and 8 are `plan`'s. a and b are the bytes of channel 1 and channel 2.
-use mathlib.Core.Bool.{Bool, true, false, cond, _&&_}
+-- `channel`'s, those of 7 and 8 are `plan`'s, that of 11 is `stations`'. a and b are the bytes of channel 1 and channel 2.
 use mathlib.Core.List.{List, [], _∷_, _++_}
-use Prim.Native.Nat.{ℕ, _+_, _-_}
-use lib.Dec.{ltb, leb, eqb}
+use Prim.Native.Nat.{ℕ, _+_}
+use lib.Dec.{ltb}
 use Rattle.answer.specs.Answer.{no, refuseIf, _or_}
 use Rattle.answer.specs.Order.{firstOf}
-use Rattle.answer.specs.Least.{least}
-use Rattle.answer.specs.declared.Answer.{Answer}
 use Rattle.answer.specs.declared.Out.{Out}
-use Rattle.bits.specs.Bits.{field}
 use Rattle.plan.specs.Guess.{answer7, answer8}
-use Rattle.channel.specs.Layout.{row, count, userAt}
+use Rattle.channel.specs.Layout.{row, count}
+use Rattle.stations.specs.Stations.{stationTwice}
 use Rattle.channel.specs.Checks.{tooLong, cutCommon, wrongCommon, overflowDiffers, notCarried, cutUsers, wrongUsers}
 
 -- "1 | bandwidth code above 4 | 0, 0"
@@ -55,35 +52,6 @@ check9 bw a b = cutUsers bw 1 a or cutUsers bw 2 b
 -- "10 | User check or tail wrong | channel, first check bit"
 unfoldable pub check10 : ℕ → List ℕ → List ℕ → Out
 check10 bw a b = wrongUsers bw 1 a or wrongUsers bw 2 b
-
--- ---- the STA-IDs, "channel 1 then 2"
-
--- a channel's i-th, the first 11 bits of its i-th User field
-abbrev pub stationAt : ℕ → List ℕ → ℕ → ℕ
-stationAt bw s i = field s (userAt bw i) 11
-
--- the j-th over both channels, n of which are channel 1's
-abbrev pub stationOf : ℕ → List ℕ → List ℕ → ℕ → ℕ → ℕ
-stationOf bw a b n j = cond (ltb j n) (stationAt bw a j) (stationAt bw b (j - n))
-
--- "a STA-ID from 1 to 2006 seen before": x is one, and one of the first j
-abbrev pub seenBefore : (ℕ → ℕ) → ℕ → ℕ → Bool
-seenBefore id j x = (ltb 0 x && leb x 2006) && ltb (least (λ i. eqb (id i) x) j) j
-
-abbrev pub repeated : (ℕ → ℕ) → ℕ → Bool
-repeated id j = seenBefore id j (id j)
-
--- where the j-th stands: "channel, first bit of the later field"
-abbrev pub stationPlace : ℕ → ℕ → ℕ → Answer
-stationPlace bw n j = cond (ltb j n) (no 11 1 (userAt bw j)) (no 11 2 (userAt bw (j - n)))
-
--- of n fields in channel 1 and m in channel 2
-unfoldable pub firstRepeated : ℕ → List ℕ → List ℕ → ℕ → ℕ → ℕ
-firstRepeated bw a b n m = least (repeated (stationOf bw a b n)) (n + m)
-
-unfoldable pub stationTwice : ℕ → List ℕ → List ℕ → ℕ → ℕ → Out
-stationTwice bw a b n m =
-    refuseIf (ltb (firstRepeated bw a b n m) (n + m)) (stationPlace bw n (firstRepeated bw a b n m))
 
 -- "11 | a STA-ID from 1 to 2006 seen before (channel 1 then 2) | channel, first bit of the later field"
 unfoldable pub check11 : ℕ → List ℕ → List ℕ → Out

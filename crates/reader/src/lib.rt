@@ -4,14 +4,12 @@ use answer::Out;
 ghost use mathlib.Core.Path.{_≡_};
 ghost use mathlib.Core.List.{_++_};
 ghost use Prim.Native.Nat.{ℕ, _+_, _*_, _-_, _<_, _≤_};
-ghost use lib.Dec.{eqb};
 ghost use lib.ListN.{length, getD, drop};
 ghost use Rattle.answer.specs.Answer.{_or_};
-ghost use Rattle.answer.specs.Least.{least};
 ghost use Rattle.answer.specs.Filled.{filled};
-ghost use Rattle.channel.specs.Layout.{count};
-ghost use Rattle.reader.specs.Table.{check1, check2, check3, check4, check5, check6, check9, check10, check11, check12, stationOf, seenBefore, stationPlace, firstRepeated, stationTwice, wordCount, noRoom, readable};
-ghost use Rattle.reader.specs.Words.{runWord, userWordAt, headerOf, wordsIn, wordsOf};
+ghost use Rattle.channel.specs.Layout.{row, count};
+ghost use Rattle.reader.specs.Table.{check1, check2, check3, check4, check5, check6, check9, check10, check11, check12, wordCount, noRoom, readable};
+ghost use Rattle.reader.specs.Words.{sharedAt, runWord, userWordAt, headerOf, wordsIn};
 ghost use Rattle.reader.specs.Result.{answerOf, wordsAfter};
 ghost use Rattle.reader.specs.Stages.{Short, commonChecks, userChecks};
 
@@ -80,89 +78,6 @@ fn common_checks(bw: u32, a: &[u8], b: &[u8]) -> Out
     then_not_carried(r, bw, a, b)
 }
 
-// ---- the repeat check
-
-// The first place below n where a STA-ID stands; n where there is none.
-fn index_of(seen: &[u16; 144], n: usize, id: u16) -> usize
-    requires { ⌜ n ≤ 144 ⌝ }
-    ensures { λ r. ⌜ r ≡ least (λ i. eqb (getD (now (seen .entry)) i 0) id) n ⌝ }
-{
-    let mut i = 0;
-    while i < n {
-        if seen[i] == id {
-            return i;
-        }
-        i += 1;
-    }
-    i
-}
-
-fn seen_before(seen: &[u16; 144], j: usize, id: u16) -> bool
-    requires { ⌜ j ≤ 144 ⌝ }
-    ensures { λ r. ⌜ r ≡ seenBefore (λ i. getD (now (seen .entry)) i 0) j id ⌝ }
-{
-    (0 < id) & (id <= 2006) & (index_of(seen, j, id) < j)
-}
-
-// The STA-ID of User field j over both channels, n of which are channel 1's.
-fn station_at(bw: u32, a: &[u8], b: &[u8], n: usize, j: usize) -> u16
-    requires { ⌜ (n ≤ 72) × (j < n + 72) ⌝ }
-    ensures { λ r. ⌜ r ≡ stationOf bw (now (a .entry)) (now (b .entry)) n j ⌝ }
-{
-    if j < n {
-        bits::field_at(a, channel::user_bit(bw, j), 11) as u16
-    } else {
-        bits::field_at(b, channel::user_bit(bw, j - n), 11) as u16
-    }
-}
-
-// The first field whose STA-ID was seen before, of n in channel 1 and m in channel 2.
-fn first_repeated(bw: u32, a: &[u8], b: &[u8], n: usize, m: usize) -> usize
-    requires { ⌜ (n ≤ 72) × (m ≤ 72) ⌝ }
-    ensures { λ r. ⌜ r ≡ firstRepeated bw (now (a .entry)) (now (b .entry)) n m ⌝ }
-    ensures { λ r. ⌜ r ≤ n + m ⌝ }
-{
-    let mut seen = [0u16; 144];
-    let mut j = 0;
-    while j < n + m {
-        let id = station_at(bw, a, b, n, j);
-        if seen_before(&seen, j, id) {
-            return j;
-        }
-        seen[j] = id;
-        j += 1;
-    }
-    j
-}
-
-fn station_place(bw: u32, n: usize, j: usize) -> Answer
-    requires { ⌜ (n ≤ 72) × (j ≤ n + 72) ⌝ }
-    ensures { λ r. ⌜ r ≡ stationPlace bw n j ⌝ }
-{
-    if j < n {
-        Answer {
-            number: 11,
-            channel: 1,
-            place: channel::user_bit(bw, j),
-        }
-    } else {
-        Answer {
-            number: 11,
-            channel: 2,
-            place: channel::user_bit(bw, j - n),
-        }
-    }
-}
-
-fn station_twice(bw: u32, a: &[u8], b: &[u8], n: usize, m: usize) -> Out
-    requires { ⌜ (n ≤ 72) × (m ≤ 72) ⌝ }
-    ensures { λ r. ⌜ r ≡ stationTwice bw (now (a .entry)) (now (b .entry)) n m ⌝ }
-{
-    let j = first_repeated(bw, a, b, n, m);
-    let x = station_place(bw, n, j);
-    answer::refuse_if(j < n + m, x.number, x.channel, x.place)
-}
-
 // ---- 9 to 11, of n fields in channel 1 and m in channel 2
 
 fn then_wrong_users(prev: Out, bw: u32, a: &[u8], b: &[u8], n: usize, m: usize) -> Out
@@ -185,18 +100,16 @@ fn then_twice(prev: Out, bw: u32, a: &[u8], b: &[u8], n: usize, m: usize) -> Out
     if let Out::Refuse(_) = prev {
         return prev;
     }
-    station_twice(bw, a, b, n, m)
+    stations::station_twice(bw, a, b, n, m)
 }
 
-fn then_users(prev: Out, bw: u32, a: &[u8], b: &[u8]) -> Out
-    requires { ⌜ Short (now a) (now b) ⌝ }
+fn then_users(prev: Out, bw: u32, a: &[u8], b: &[u8], n: usize, m: usize) -> Out
+    requires { ⌜ Short (now a) (now b) × (n ≤ 72) × (m ≤ 72) × (n ≡ count bw 1 (now a)) × (m ≡ count bw 2 (now b)) ⌝ }
     ensures { λ r. ⌜ r ≡ (prev or userChecks bw (now (a .entry)) (now (b .entry))) ⌝ }
 {
     if let Out::Refuse(_) = prev {
         return prev;
     }
-    let n = channel::count_of(bw, 1, a);
-    let m = channel::count_of(bw, 2, b);
     let r = answer::or_else(
         channel::cut_users(bw, 1, a, n),
         channel::cut_users(bw, 2, b, m),
@@ -214,15 +127,10 @@ pub fn check_frame(bw: u32, a: &[u8], b: &[u8]) -> Out
         return common;
     }
     let row = channel::fill_row(bw, a, b);
-    let n = channel::positions_of(bw);
-    then_users(plan::layout(&row[..n]), bw, a, b)
-}
-
-// How many words an accepted frame has.
-pub fn word_count(bw: u32, a: &[u8], b: &[u8]) -> usize
-    ensures { λ r. ⌜ (r ≤ 154) × (r ≡ wordCount bw (now (a .entry)) (now (b .entry))) ⌝ }
-{
-    10 + (channel::count_of(bw, 1, a) + channel::count_of(bw, 2, b))
+    let p = channel::positions_of(bw);
+    let n = channel::count_of(bw, 1, a);
+    let m = channel::count_of(bw, 2, b);
+    then_users(plan::layout(&row[..p]), bw, a, b, n, m)
 }
 
 // ---- the words
@@ -240,6 +148,17 @@ fn put_run(out: &mut [u32], bw: u32, s: &[u8], j: usize, m: usize, shared: bool)
     }
 }
 
+// The words of the m User fields that the value at position p gives, from field j on. Most places of a larger resource
+// give none.
+fn put_value(out: &mut [u32], bw: u32, s: &[u8], j: usize, m: usize, row: &[u16], p: usize)
+    requires { ⌜ (m ≤ length (now out)) × (j + m ≤ 72) × (p < 4096) ⌝ }
+    ensures { λ _. ⌜ now (out .exit) ≡ filled (runWord bw (now (s .entry)) j (sharedAt (now (row .entry)) p)) m (now (out .entry)) ⌝ }
+{
+    if 0 < m {
+        put_run(out, bw, s, j, m, plan::shared_at(row, p));
+    }
+}
+
 // The words of a channel's User fields.
 fn put_users(out: &mut [u32], bw: u32, c: u32, s: &[u8], row: &[u16])
     requires { ⌜ (1 ≤ c) × (c ≤ 2) × (count bw c (now s) ≤ length (now out)) ⌝ }
@@ -251,7 +170,7 @@ fn put_users(out: &mut [u32], bw: u32, c: u32, s: &[u8], row: &[u16])
     while k < n {
         let m = resource::fields_of(channel::value_of(bw, s, k)) as usize;
         let p = 2 * k + (c as usize - 1);
-        put_run(&mut out[j..], bw, s, j, m, plan::shared_at(row, p));
+        put_value(&mut out[j..], bw, s, j, m, row, p);
         j += m;
         k += 1;
     }
@@ -269,25 +188,15 @@ fn put_head(words: &mut [u32], bw: u32, a: &[u8], row: &[u16])
     words::put_header(words, bw, v, t, bits::field_at(a, second, 10), row);
 }
 
-// All its words.
-fn put_frame(words: &mut [u32], bw: u32, a: &[u8], b: &[u8], row: &[u16])
-    requires { ⌜ wordCount bw (now a) (now b) ≤ length (now words) ⌝ }
+// All its words. n is how many of its User fields are channel 1's.
+fn put_frame(words: &mut [u32], bw: u32, a: &[u8], b: &[u8], row: &[u16], n: usize)
+    requires { ⌜ (wordCount bw (now a) (now b) ≤ length (now words)) × (n ≤ 72) × (n ≡ count bw 1 (now a)) ⌝ }
     ensures { λ _. ⌜ now (words .exit) ≡ wordsIn bw (now (row .entry)) (now (a .entry)) (now (b .entry)) ++ drop (wordCount bw (now (a .entry)) (now (b .entry))) (now (words .entry)) ⌝ }
 {
     put_head(words, bw, a, row);
-    let at = 10 + channel::count_of(bw, 1, a);
+    let at = 10 + n;
     put_users(&mut words[10..], bw, 1, a, row);
     put_users(&mut words[at..], bw, 2, b, row);
-}
-
-// The words of an accepted frame at the front of the lent ones.
-pub fn put_words(words: &mut [u32], bw: u32, a: &[u8], b: &[u8])
-    requires { ⌜ (bw ≤ 4) × (wordCount bw (now a) (now b) ≤ length (now words)) ⌝ }
-    ensures { λ _. ⌜ now (words .exit) ≡ wordsOf bw (now (a .entry)) (now (b .entry)) ++ drop (wordCount bw (now (a .entry)) (now (b .entry))) (now (words .entry)) ⌝ }
-{
-    let row = channel::fill_row(bw, a, b);
-    let n = channel::positions_of(bw);
-    put_frame(words, bw, a, b, &row[..n]);
 }
 
 // ---- the whole
@@ -298,20 +207,38 @@ fn then_room(prev: Out, need: usize, room: usize) -> Out
     answer::or_else(prev, answer::refuse_if(room < need, 12, 0, need))
 }
 
-// Reads a frame: the answer, and on acceptance the words at the front of the lent buffer. A refusal writes nothing.
-pub fn read(bandwidth: u32, cc1: &[u8], cc2: &[u8], words: &mut [u32]) -> Answer
-    ensures { λ r. ⌜ r ≡ answerOf bandwidth (now (cc1 .entry)) (now (cc2 .entry)) (length (now (words .entry))) ⌝ }
-    ensures { λ _. ⌜ now (words .exit) ≡ wordsAfter bandwidth (now (cc1 .entry)) (now (cc2 .entry)) (now (words .entry)) ⌝ }
+// 7 to 12 of a frame that passes 1 to 6 and has this row, and its words where it is accepted.
+fn read_row(bw: u32, a: &[u8], b: &[u8], values: &[u16], words: &mut [u32]) -> Answer
+    requires { ⌜ (commonChecks bw (now a) (now b) ≡ Out.Pass) × (now values ≡ row bw (now a) (now b)) ⌝ }
+    ensures { λ r. ⌜ r ≡ answerOf bw (now (a .entry)) (now (b .entry)) (length (now (words .entry))) ⌝ }
+    ensures { λ _. ⌜ now (words .exit) ≡ wordsAfter bw (now (a .entry)) (now (b .entry)) (now (words .entry)) ⌝ }
 {
-    let need = word_count(bandwidth, cc1, cc2);
-    let out = then_room(check_frame(bandwidth, cc1, cc2), need, words.len());
+    let n = channel::count_of(bw, 1, a);
+    let m = channel::count_of(bw, 2, b);
+    let need = 10 + (n + m);
+    let seen = then_users(plan::layout(values), bw, a, b, n, m);
+    let out = then_room(seen, need, words.len());
     if let Out::Refuse(x) = out {
         return x;
     }
-    put_words(words, bandwidth, cc1, cc2);
+    put_frame(words, bw, a, b, values, n);
     Answer {
         number: 0,
         channel: 0,
         place: need,
     }
+}
+
+// Reads a frame: the answer, and on acceptance the words at the front of the lent buffer. A refusal writes nothing.
+pub fn read(bandwidth: u32, cc1: &[u8], cc2: &[u8], words: &mut [u32]) -> Answer
+    ensures { λ r. ⌜ r ≡ answerOf bandwidth (now (cc1 .entry)) (now (cc2 .entry)) (length (now (words .entry))) ⌝ }
+    ensures { λ _. ⌜ now (words .exit) ≡ wordsAfter bandwidth (now (cc1 .entry)) (now (cc2 .entry)) (now (words .entry)) ⌝ }
+{
+    let common = common_checks(bandwidth, cc1, cc2);
+    if let Out::Refuse(x) = common {
+        return x;
+    }
+    let row = channel::fill_row(bandwidth, cc1, cc2);
+    let p = channel::positions_of(bandwidth);
+    read_row(bandwidth, cc1, cc2, &row[..p], words)
 }

@@ -1,4 +1,4 @@
--- What the contracts of `write`, and of `reader::put_words` that it calls, leave open: nothing. Assumes nothing.
+-- What the contract of `write` leaves open: nothing. Assumes nothing.
 use mathlib.Core.Path.{_≡_, sym, _∙_, ap}
 use lib.ListN.{length}
 use denote.Ref.{now}
@@ -7,7 +7,6 @@ use Rattle.answer.specs.declared.Answer.{Answer}
 use Rattle.answer.specs.Order.{after-kept}
 use Rattle.writer.specs.Candidate.{needed, candidate}
 use Rattle.writer.specs.Result.{writing, front, answerOf, channelAfter}
-use Rattle.reader.proofs.put_words.Reads as put-words
 use Rattle.writer.proofs.write.Reads as write
 
 -- any two answers, and any two states of both lent channels afterwards, that `write` allows for one input
@@ -29,7 +28,3 @@ write-keeps κs a r s p n =
       p .1 .0 ∙ after-kept o (needed bw w) (front (candidate bw w 1) x) x z,
       p .1 .1 ∙ after-kept o (needed bw w) (front (candidate bw w 2) y) y z,
     )
-
--- any two states of the lent words that `put_words` allows
-pub put-words-agrees : (κs : _) (a : _) (r r' : _) (s s' : _) → put-words.Post κs a r s → put-words.Post κs a r' s' → now (s .0) ≡ now (s' .0)
-put-words-agrees κs a r r' s s' p q = p ∙ sym q

@@ -13,6 +13,7 @@ use Rattle.answer.specs.declared.Out.{Out}
 use Rattle.answer.specs.declared.Out.the-variants.{Pass}
 use Rattle.channel.specs.Layout.{present}
 use Rattle.reader.specs.Table.{check1}
+use Rattle.reader.specs.Judged.{Judged, judged}
 use Rattle.writer.specs.Candidate.{needed, candidate}
 use Rattle.writer.specs.Result.{readsTo, notRead, check13, tooShort, check14, writing, answerOf}
 
@@ -28,15 +29,15 @@ unfolding writing
 writing-rows bw w n m = first-chain (check1 bw) (check13 bw w ∷ check14 bw w n m ∷ [])
 
 module _ (bw : ℕ) (w : List ℕ) (n m : ℕ) where
-  only-1 : Only 1 (check1 bw)
+  pub only-1 : Only 1 (check1 bw)
   unfolding check1
   only-1 = only-if (ltb 4 bw) 1 0 0
 
-  only-13 : Only 13 (check13 bw w)
+  pub only-13 : Only 13 (check13 bw w)
   unfolding check13 notRead
   only-13 = only-if (not (readsTo bw (candidate bw w 1) (candidate bw w 2) w)) 13 0 0
 
-  only-14 : Only 14 (check14 bw w n m)
+  pub only-14 : Only 14 (check14 bw w n m)
   unfolding check14 tooShort
   only-14 =
       only-or (only-if (ltb n (needed bw w)) 14 1 (needed bw w)) (only-if (present bw 2 && ltb m (needed bw w)) 14 2 (needed bw w))
@@ -68,3 +69,7 @@ module _ (bw : ℕ) (w : List ℕ) (n m : ℕ) where
   applies-exactly k x a =
       let r = applies-number rows-give numbers-distinct (needed bw w) k x a in
       (sym answer-rows ∙ r .0, r .1)
+
+  -- so the answer is one by these rows
+  pub write-judged : Judged numbers (rows bw w n m) (needed bw w) (answerOf bw w n m)
+  write-judged = rw answer-rows at (judged rows-give numbers-distinct (needed bw w))

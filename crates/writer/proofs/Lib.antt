@@ -1,3 +1,4 @@
+pub mod Back
 pub mod Exactly
 pub mod Agree
 pub mod Inverse

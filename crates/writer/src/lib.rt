@@ -173,13 +173,12 @@ fn same_words(v: &[u32], w: &[u32]) -> bool
 fn reads_to(bw: u32, a: &[u8], b: &[u8], words: &[u32]) -> bool
     ensures { λ r. ⌜ r ≡ readsTo bw (now (a .entry)) (now (b .entry)) (now (words .entry)) ⌝ }
 {
-    if let Out::Refuse(_) = reader::check_frame(bw, a, b) {
+    let mut back = [0u32; 154];
+    let x = reader::read(bw, a, b, &mut back);
+    if x.number != 0 {
         return false;
     }
-    let n = reader::word_count(bw, a, b);
-    let mut back = [0u32; 154];
-    reader::put_words(&mut back, bw, a, b);
-    same_words(&back[..n], words)
+    same_words(&back[..x.place], words)
 }
 
 // ---- the answers

@@ -33,27 +33,34 @@ fill-row-requires c κs = common-pass _ _ _ (sym (c .before .before .common-chec
 positions-of-requires : tie.Need-positions-of-requires
 positions-of-requires c κs = common-pass _ _ _ (sym (c .before .before .before .common-checks .ensures) ∙ c .before .enum-told2 .given .1) .known
 
+count-of-requires : tie.Need-count-of-requires
+count-of-requires c κs = search needs
+
+count-of-requires-2 : tie.Need-count-of-requires-2
+count-of-requires-2 c κs = search needs
+
 array-share-prefix-row : tie.Need-array-share-prefix-row
 array-share-prefix-row c = search needs
 
 slice-aggregate-layout : tie.Need-slice-aggregate-layout
 slice-aggregate-layout c =
-    let s = c .before .before .before .before .before .before .before .before .args in
-    rw (front (s .bw) (s .a .now) (s .b .now) _ _ (c .before .positions-of .ensures .0) (c .before .before .fill-row .ensures)) (c .before .positions-of .ensures .0 ∙ sym (row-length (s .bw) (s .a .now) (s .b .now)))
+    let s = c .before .before .before .before .before .before .before .before .before .before .args in
+    rw (front (s .bw) (s .a .now) (s .b .now) _ _ (c .before .before .before .positions-of .ensures .0) (c .before .before .before .before .fill-row .ensures)) (c .before .before .before .positions-of .ensures .0 ∙ sym (row-length (s .bw) (s .a .now) (s .b .now)))
 
 layout-requires : tie.Need-layout-requires
 layout-requires c κs =
-    let s = c .before .before .before .before .before .before .before .before .args in
-    rw (front (s .bw) (s .a .now) (s .b .now) _ _ (c .before .positions-of .ensures .0) (c .before .before .fill-row .ensures), row-length (s .bw) (s .a .now) (s .b .now)) (rw (c .before .positions-of .ensures .0) at (c .before .positions-of .ensures .1))
+    let s = c .before .before .before .before .before .before .before .before .before .before .args in
+    rw (front (s .bw) (s .a .now) (s .b .now) _ _ (c .before .before .before .positions-of .ensures .0) (c .before .before .before .before .fill-row .ensures), row-length (s .bw) (s .a .now) (s .b .now)) (rw (c .before .before .before .positions-of .ensures .0) at (c .before .before .before .positions-of .ensures .1))
 
 then-users-requires : tie.Need-then-users-requires
-then-users-requires c κs = common-pass _ _ _ (sym (c .before .before .before .before .before .before .common-checks .ensures) ∙ c .before .before .before .before .enum-told2 .given .1) .short
+then-users-requires c κs =
+    (common-pass _ _ _ (sym (c .before .before .before .before .before .before .before .before .common-checks .ensures) ∙ c .before .before .before .before .before .before .enum-told2 .given .1) .short, c .before .before .before .count-of .ensures .1, c .before .before .count-of2 .ensures .1, c .before .before .before .count-of .ensures .0, c .before .before .count-of2 .ensures .0)
 
 returns-2 : tie.Need-returns-2
 returns-2 c =
-    let s = c .before .before .before .before .before .before .before .before .before .before .args in
-    let p = sym (c .before .before .before .before .before .before .before .common-checks .ensures) ∙ c .before .before .before .before .before .enum-told2 .given .1 in
-    let f = front (s .bw) (s .a .now) (s .b .now) _ _ (c .before .before .before .positions-of .ensures .0) (c .before .before .before .before .fill-row .ensures) in
+    let s = c .before .before .before .before .before .before .before .before .before .before .before .before .args in
+    let p = sym (c .before .before .before .before .before .before .before .before .before .common-checks .ensures) ∙ c .before .before .before .before .before .before .before .enum-told2 .given .1 in
+    let f = front (s .bw) (s .a .now) (s .b .now) _ _ (c .before .before .before .before .before .positions-of .ensures .0) (c .before .before .before .before .before .before .fill-row .ensures) in
     let l : c .before .layout .result ≡ layoutOf (row (s .bw) (s .a .now) (s .b .now)) = laid-is _ _ (rw f at (c .before .layout .ensures)) in
     c .then-users .ensures ∙ ap (λ (o : Out). o or userChecks (s .bw) (s .a .now) (s .b .now)) l ∙ sym (readable-rest (s .bw) (s .a .now) (s .b .now) p)
 
@@ -67,6 +74,8 @@ check-frame-spec =
     enum-told-2
     fill-row-requires
     positions-of-requires
+    count-of-requires
+    count-of-requires-2
     array-share-prefix-row
     slice-aggregate-layout
     layout-requires

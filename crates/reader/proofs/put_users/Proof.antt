@@ -1,7 +1,7 @@
 -- `reader::put_users` meets its contract. Assumes nothing.
 use Rattle.reader.proofs.Givers.{count-before, before-none, before-next, before-count, run-words}
 use Rattle.reader.proofs.Grow.{part-tail, grown}
-use Rattle.reader.specs.Words.{runWord}
+use Rattle.reader.specs.Words.{sharedAt, positionOf, runWord}
 use Rattle.channel.specs.Laws.{count-le}
 use Rattle.channel.specs.Layout.{subfieldsIn, count}
 use Rattle.resource.specs.Values.{fieldsOf}
@@ -48,8 +48,8 @@ sub-p c = search needs
 add-p : tie.Need-add-p Inv-loop μ-loop
 add-p c = search needs
 
-mul-put-run : tie.Need-mul-put-run Inv-loop μ-loop
-mul-put-run c =
+mul-put-value : tie.Need-mul-put-value Inv-loop μ-loop
+mul-put-value c =
     let s = c .before .before .before .before .before .before .before .before .args in
     let l = c .before .before .before .loop in
     let k : l .k < subfieldsIn (s .bw) (s .c) = omega (arith, c .before .before .before .before .subfields-of .ensures .0) in
@@ -57,8 +57,8 @@ mul-put-run c =
     let bc = before-count (s .bw) (s .c) (s .s .now) (l .k) k in
     omega (arith, count-le (s .bw) (s .c) (s .s .now))
 
-sub-put-run : tie.Need-sub-put-run Inv-loop μ-loop
-sub-put-run c =
+sub-put-value : tie.Need-sub-put-value Inv-loop μ-loop
+sub-put-value c =
     let s = c .before .before .before .before .before .before .before .before .args in
     let l = c .before .before .before .loop in
     let k : l .k < subfieldsIn (s .bw) (s .c) = omega (arith, c .before .before .before .before .subfields-of .ensures .0) in
@@ -66,8 +66,8 @@ sub-put-run c =
     let bc = before-count (s .bw) (s .c) (s .s .now) (l .k) k in
     omega arith
 
-part-put-run-start : tie.Need-part-put-run-start Inv-loop μ-loop
-part-put-run-start c =
+part-put-value-start : tie.Need-part-put-value-start Inv-loop μ-loop
+part-put-value-start c =
     let s = c .before .before .before .before .before .before .before .before .args in
     let l = c .before .before .before .loop in
     let k : l .k < subfieldsIn (s .bw) (s .c) = omega (arith, c .before .before .before .before .subfields-of .ensures .0) in
@@ -75,30 +75,27 @@ part-put-run-start c =
     let bc = before-count (s .bw) (s .c) (s .s .now) (l .k) k in
     omega arith
 
-part-put-run-end : tie.Need-part-put-run-end Inv-loop μ-loop
-part-put-run-end c = search needs
+part-put-value-end : tie.Need-part-put-value-end Inv-loop μ-loop
+part-put-value-end c = search needs
 
-shared-at-requires : tie.Need-shared-at-requires Inv-loop μ-loop
-shared-at-requires c κs = search needs
-
-put-run-requires : tie.Need-put-run-requires Inv-loop μ-loop
-put-run-requires c κs =
-    let s = c .before .before .before .before .before .before .before .before .before .before .args in
-    let l = c .before .before .before .before .before .loop in
-    let k : l .k < subfieldsIn (s .bw) (s .c) = omega (arith, c .before .before .before .before .before .before .subfields-of .ensures .0) in
+put-value-requires : tie.Need-put-value-requires Inv-loop μ-loop
+put-value-requires c κs =
+    let s = c .before .before .before .before .before .before .before .before .before .args in
+    let l = c .before .before .before .before .loop in
+    let k : l .k < subfieldsIn (s .bw) (s .c) = omega (arith, c .before .before .before .before .before .subfields-of .ensures .0) in
     let nx = before-next (s .bw) (s .c) (s .s .now) (l .k) k in
     let bc = before-count (s .bw) (s .c) (s .s .now) (l .k) k in
-    let m = c .before .before .fields-of .ensures ∙ ap fieldsOf (c .before .before .before .value-of .ensures) in
-    (rw (part-tail (l .out) (l .j) (omega arith)) (omega (arith, length-drop (l .j) (l .out))), omega (arith, count-le (s .bw) (s .c) (s .s .now)))
+    let m = c .before .fields-of .ensures ∙ ap fieldsOf (c .before .before .value-of .ensures) in
+    (rw (part-tail (l .out) (l .j) (omega arith)) (omega (arith, length-drop (l .j) (l .out))), omega (arith, count-le (s .bw) (s .c) (s .s .now)), search needs)
 
 add-j : tie.Need-add-j Inv-loop μ-loop
 add-j c =
-    let s = c .before .before .before .before .before .before .before .before .before .before .before .before .before .args in
-    let l = c .before .before .before .before .before .before .before .before .loop in
-    let k : l .k < subfieldsIn (s .bw) (s .c) = omega (arith, c .before .before .before .before .before .before .before .before .before .subfields-of .ensures .0) in
+    let s = c .before .before .before .before .before .before .before .before .before .before .before .before .args in
+    let l = c .before .before .before .before .before .before .before .loop in
+    let k : l .k < subfieldsIn (s .bw) (s .c) = omega (arith, c .before .before .before .before .before .before .before .before .subfields-of .ensures .0) in
     let nx = before-next (s .bw) (s .c) (s .s .now) (l .k) k in
     let bc = before-count (s .bw) (s .c) (s .s .now) (l .k) k in
-    let m = c .before .before .before .before .before .fields-of .ensures ∙ ap fieldsOf (c .before .before .before .before .before .before .value-of .ensures) in
+    let m = c .before .before .before .before .fields-of .ensures ∙ ap fieldsOf (c .before .before .before .before .before .value-of .ensures) in
     omega (arith, count-le (s .bw) (s .c) (s .s .now))
 
 add-k : tie.Need-add-k Inv-loop μ-loop
@@ -109,17 +106,17 @@ loop-less c = search needs
 
 loop-again : tie.Need-loop-again Inv-loop μ-loop
 loop-again c =
-    let s = c .before .before .before .before .before .before .before .before .before .before .before .before .before .args in
-    let l = c .before .before .before .before .before .before .before .before .loop in
-    let k : l .k < subfieldsIn (s .bw) (s .c) = omega (arith, c .before .before .before .before .before .before .before .before .before .subfields-of .ensures .0) in
+    let s = c .before .before .before .before .before .before .before .before .before .before .before .before .args in
+    let l = c .before .before .before .before .before .before .before .loop in
+    let k : l .k < subfieldsIn (s .bw) (s .c) = omega (arith, c .before .before .before .before .before .before .before .before .subfields-of .ensures .0) in
     let nx = before-next (s .bw) (s .c) (s .s .now) (l .k) k in
     let bc = before-count (s .bw) (s .c) (s .s .now) (l .k) k in
-    let m = c .before .before .before .before .before .fields-of .ensures ∙ ap fieldsOf (c .before .before .before .before .before .before .value-of .ensures) in
+    let m = c .before .before .before .before .fields-of .ensures ∙ ap fieldsOf (c .before .before .before .before .before .value-of .ensures) in
     let f = userWordAt (s .bw) (s .row .now) (s .c) (s .s .now) in
-    let e = grown f (runWord (s .bw) (s .s .now) (l .j) (c .before .before .before .shared-at .result)) (s .out .now) (l .out) (c .before .before .put-run .last .0) (l .j) (c .before .before .before .before .before .fields-of .result) (omega arith) (l .inv .2)
-    (λ i h. rw (c .before .before .before .shared-at .ensures, l .inv .1) (run-words (s .bw) (s .c) (s .s .now) (l .k) k (s .row .now) i (omega arith)))
-    (c .before .before .put-run .ensures) in
-    (omega arith, ap (λ (x : ℕ). x + c .before .before .before .before .before .fields-of .result) (l .inv .1) ∙ ap (λ (x : ℕ). before (s .bw) (s .s .now) (l .k) + x) m ∙ nx, e, ap length e ∙ filled-length f (l .j + c .before .before .before .before .before .fields-of .result) (s .out .now) (omega arith))
+    let e = grown f (runWord (s .bw) (s .s .now) (l .j) (sharedAt (s .row .now) (positionOf (s .c) (l .k)))) (s .out .now) (l .out) (c .before .before .put-value .last .0) (l .j) (c .before .before .before .before .fields-of .result) (omega arith) (l .inv .2)
+    (λ i h. rw (l .inv .1) (run-words (s .bw) (s .c) (s .s .now) (l .k) k (s .row .now) i (omega arith)))
+    (c .before .before .put-value .ensures) in
+    (omega arith, ap (λ (x : ℕ). x + c .before .before .before .before .fields-of .result) (l .inv .1) ∙ ap (λ (x : ℕ). before (s .bw) (s .s .now) (l .k) + x) m ∙ nx, e, ap length e ∙ filled-length f (l .j + c .before .before .before .before .fields-of .result) (s .out .now) (omega arith))
 
 same-length : tie.Need-same-length Inv-loop μ-loop
 same-length c = c .before .loop .inv .3
@@ -145,12 +142,11 @@ put-users-spec =
     mul-p
     sub-p
     add-p
-    mul-put-run
-    sub-put-run
-    part-put-run-start
-    part-put-run-end
-    shared-at-requires
-    put-run-requires
+    mul-put-value
+    sub-put-value
+    part-put-value-start
+    part-put-value-end
+    put-value-requires
     add-j
     add-k
     loop-less

@@ -17,12 +17,6 @@ returns c = rw (c .enum-told .given .1)
 enum-told-2 : tie.Need-enum-told-2
 enum-told-2 c = search needs
 
-count-of-requires : tie.Need-count-of-requires
-count-of-requires c κs = search needs
-
-count-of-requires-2 : tie.Need-count-of-requires-2
-count-of-requires-2 c κs = search needs
-
 cut-users-requires : tie.Need-cut-users-requires
 cut-users-requires c κs = search needs
 
@@ -40,7 +34,7 @@ then-twice-requires c κs = search needs
 
 returns-2 : tie.Need-returns-2
 unfolding userChecks check9
-returns-2 c = pass-next (c .before .before .before .before .before .before .before .enum-told2 .given .1) (c .then-twice .ensures ∙ cc (c .before .then-wrong-users .ensures, c .before .before .or-else .ensures, c .before .before .before .cut-users2 .ensures, c .before .before .before .before .cut-users .ensures))
+returns-2 c = pass-next (c .before .before .before .before .before .enum-told2 .given .1) (c .then-twice .ensures ∙ cc (c .before .then-wrong-users .ensures, c .before .before .or-else .ensures, c .before .before .before .cut-users2 .ensures, c .before .before .before .before .cut-users .ensures))
 
 pub then-users-spec : {M : Type 1} → statement M
 then-users-spec =
@@ -49,8 +43,6 @@ then-users-spec =
     enum-told
     returns
     enum-told-2
-    count-of-requires
-    count-of-requires-2
     cut-users-requires
     cut-users-requires-2
     or-else-requires

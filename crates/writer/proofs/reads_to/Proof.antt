@@ -1,47 +1,42 @@
 -- `writer::reads_to` meets its contract. Assumes nothing.
-use Rattle.writer.specs.Steps.{reads-no, reads-yes, word-count-le, words-front}
-use Rattle.writer.specs.Inverse.{accepted-known}
-use Rattle.reader.specs.Determine.{words-length}
-use lib.ListN.{length}
-use mathlib.Core.Path.{sym, _∙_, ap}
 use borrow.Author.Needs.{needs}
+use mathlib.Core.Path.{refl, sym, _∙_, ap}
+use native.Mathlib.Omega.{arith}
+use lib.ListN.{length, replicate}
+use Rattle.answer.specs.declared.Answer.{Answer}
+use Rattle.reader.specs.Determine.{words-length}
+use Rattle.writer.specs.Steps.{reads-yes, words-front}
+use Rattle.writer.proofs.Back.{back-refused, back-accepted, back-count, back-words, back-room}
 use Rattle.writer.proofs.reads_to.Statement.{statement}
 use Rattle.writer.proofs.reads_to.Tie as tie
 
-check-frame-requires : tie.Need-check-frame-requires
-check-frame-requires c κs = search needs
+slice-aggregate-read : tie.Need-slice-aggregate-read
+slice-aggregate-read c = search needs
 
-enum-told : tie.Need-enum-told
-enum-told c = search needs
+read-requires : tie.Need-read-requires
+read-requires c κs = search needs
 
 returns : tie.Need-returns
 returns c =
-    let a = c .before .before .before .before .before .before .args in
-    reads-no (a .bw) (a .a .now) (a .b .now) (a .words .now) _ _ (c .before .before .check-frame .ensures) (c .enum-told .given .1)
-
-enum-told-2 : tie.Need-enum-told-2
-enum-told-2 c = search needs
-
-word-count-requires : tie.Need-word-count-requires
-word-count-requires c κs = search needs
-
-slice-aggregate-put-words : tie.Need-slice-aggregate-put-words
-slice-aggregate-put-words c = search needs
-
-put-words-requires : tie.Need-put-words-requires
-put-words-requires c κs =
     let a = c .before .before .before .before .before .before .before .before .args in
-    let e = sym (c .before .before .before .before .check-frame .ensures) ∙ c .before .before .enum-told2 .given .1 in
-    (accepted-known (a .bw) (a .a .now) (a .b .now) e, word-count-le (a .bw) (a .a .now) (a .b .now))
+    let r = c .before .before .before .read .ensures in
+    back-refused (a .bw) (a .a .now) (a .b .now) 154 (omega arith) (a .words .now) (λ e. c .if1 .taken (ap (λ (x : Answer). x .number) (r .0) ∙ e))
 
 array-share-prefix-back : tie.Need-array-share-prefix-back
-array-share-prefix-back c = search needs
+array-share-prefix-back c =
+    let a = c .before .before .before .before .before .before .before .before .args in
+    let r = c .before .before .before .read .ensures in
+    let e = sym (ap (λ (x : Answer). x .number) (r .0)) ∙ c .if1 .left in
+    let n = ap (λ (x : Answer). x .place) (r .0) ∙ back-count (a .bw) (a .a .now) (a .b .now) 154 (omega arith) e in
+    rw n (back-room (a .bw) (a .a .now) (a .b .now) 154 (omega arith) e (replicate 154 0) _ refl (r .1))
 
 slice-aggregate-same-words : tie.Need-slice-aggregate-same-words
 slice-aggregate-same-words c =
-    let a = c .before .before .before .before .before .before .before .before .before .before .before .args in
-    let n = c .before .before .before .before .word-count .ensures .1 in
-    let t = words-front (a .bw) (a .a .now) (a .b .now) _ _ _ n (c .before .before .put-words .ensures) in
+    let a = c .before .before .before .before .before .before .before .before .before .args in
+    let r = c .before .before .before .before .read .ensures in
+    let e = sym (ap (λ (x : Answer). x .number) (r .0)) ∙ c .before .if1 .left in
+    let n = ap (λ (x : Answer). x .place) (r .0) ∙ back-count (a .bw) (a .a .now) (a .b .now) 154 (omega arith) e in
+    let t = words-front (a .bw) (a .a .now) (a .b .now) _ _ _ n (r .1 ∙ back-words (a .bw) (a .a .now) (a .b .now) 154 (omega arith) e (replicate 154 0) refl) in
     sym (ap length t ∙ words-length (a .bw) (a .a .now) (a .b .now) ∙ sym n)
 
 same-words-requires : tie.Need-same-words-requires
@@ -49,21 +44,20 @@ same-words-requires c κs = search needs
 
 returns-2 : tie.Need-returns-2
 returns-2 c =
-    let a = c .before .before .before .before .before .before .before .before .before .before .before .before .args in
-    let t = words-front (a .bw) (a .a .now) (a .b .now) _ _ _ (c .before .before .before .before .before .word-count .ensures .1) (c .before .before .before .put-words .ensures) in
-    reads-yes (a .bw) (a .a .now) (a .b .now) (a .words .now) _ _ _ (c .before .before .before .before .before .before .before .before .check-frame .ensures) (c .before .before .before .before .before .before .enum-told2 .given .1) t (c .same-words .ensures)
+    let a = c .before .before .before .before .before .before .before .before .before .before .args in
+    let r = c .before .before .before .before .before .read .ensures in
+    let e = sym (ap (λ (x : Answer). x .number) (r .0)) ∙ c .before .before .if1 .left in
+    let n = ap (λ (x : Answer). x .place) (r .0) ∙ back-count (a .bw) (a .a .now) (a .b .now) 154 (omega arith) e in
+    let t = words-front (a .bw) (a .a .now) (a .b .now) _ _ _ n (r .1 ∙ back-words (a .bw) (a .a .now) (a .b .now) 154 (omega arith) e (replicate 154 0) refl) in
+    reads-yes (a .bw) (a .a .now) (a .b .now) (a .words .now) _ _ _ refl (back-accepted (a .bw) (a .a .now) (a .b .now) 154 (omega arith) e) t (c .same-words .ensures)
 
 pub reads-to-spec : {M : Type 1} → statement M
 reads-to-spec =
     tie.close
     (tie.spec
-    check-frame-requires
-    enum-told
+    slice-aggregate-read
+    read-requires
     returns
-    enum-told-2
-    word-count-requires
-    slice-aggregate-put-words
-    put-words-requires
     array-share-prefix-back
     slice-aggregate-same-words
     same-words-requires

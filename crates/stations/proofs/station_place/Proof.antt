@@ -1,8 +1,8 @@
--- `reader::station_place` meets its contract. Assumes nothing.
+-- `stations::station_place` meets its contract. Assumes nothing.
 use borrow.Author.Tests.{lt-ltb, le-ltb}
 use borrow.Author.Needs.{needs}
-use Rattle.reader.proofs.station_place.Statement.{statement}
-use Rattle.reader.proofs.station_place.Tie as tie
+use Rattle.stations.proofs.station_place.Statement.{statement}
+use Rattle.stations.proofs.station_place.Tie as tie
 
 user-bit-requires : tie.Need-user-bit-requires
 user-bit-requires c κs = search needs

@@ -1,9 +1,9 @@
--- `reader::station_twice` meets its contract. Assumes nothing.
+-- `stations::station_twice` meets its contract. Assumes nothing.
 use mathlib.Core.Path.{_∙_}
-use Rattle.reader.specs.Table.{stationTwice}
+use Rattle.stations.specs.Stations.{stationTwice}
 use borrow.Author.Needs.{needs}
-use Rattle.reader.proofs.station_twice.Statement.{statement}
-use Rattle.reader.proofs.station_twice.Tie as tie
+use Rattle.stations.proofs.station_twice.Statement.{statement}
+use Rattle.stations.proofs.station_twice.Tie as tie
 
 first-repeated-requires : tie.Need-first-repeated-requires
 first-repeated-requires c κs = search needs

@@ -1,10 +1,10 @@
--- `reader::station_at` meets its contract. Assumes nothing.
+-- `stations::station_at` meets its contract. Assumes nothing.
 use Rattle.bits.specs.Fields.{field-lt}
 use borrow.Author.Tests.{lt-ltb, le-ltb}
 use native.Mathlib.Omega.{arith}
 use borrow.Author.Needs.{needs}
-use Rattle.reader.proofs.station_at.Statement.{statement}
-use Rattle.reader.proofs.station_at.Tie as tie
+use Rattle.stations.proofs.station_at.Statement.{statement}
+use Rattle.stations.proofs.station_at.Tie as tie
 
 user-bit-requires : tie.Need-user-bit-requires
 user-bit-requires c κs = search needs

@@ -1,0 +1,76 @@
+-- The C entries' answers are by the same rows of 01's table, and a refusal writes nothing. Assumes nothing.
+use mathlib.Core.Path.{_≡_, refl, sym, _∙_, ap}
+use mathlib.Core.Bool.{true, not}
+use mathlib.Core.List.{List, [], _∷_}
+use mathlib.Core.Logic.{⊎-elim}
+use Prim.Native.Nat.{ℕ, _%_}
+use lib.Dec.{eqb}
+use lib.ListN.{length}
+use denote.Ref.{now}
+use Rattle.answer.specs.Answer.{_or_, answerAt}
+use Rattle.answer.specs.Order.{Only, only-if, only-or, firstOf, first-chain, Gives, none, more, distinct, absent, pass-or-refuse, after-kept}
+use Rattle.answer.specs.declared.Answer.{Answer}
+use Rattle.answer.specs.declared.Out.{Out}
+use Rattle.answer.specs.declared.Out.the-variants.{Pass, Refuse}
+use Rattle.reader.specs.Table.{check1}
+use Rattle.reader.specs.Judged.{Judged, judged}
+use Rattle.writer.specs.Candidate.{needed, candidate}
+use Rattle.writer.specs.Result.{check13, check14, writing, front}
+use Rattle.writer.proofs.Exactly.{numbers, only-1, only-13, only-14}
+use Rattle.listing.specs.Listing.{listAnswer}
+use Rattle.listing.proofs.Facts.{list-kept}
+use Rattle.brachymel.specs.Bytes.{wordsIn, ragged, writingText, writeAnswer, writeChannel}
+use Rattle.brachymel.proofs.brachymel_write.Reads as write
+use Rattle.brachymel.proofs.brachymel_list.Reads as list
+
+-- the writer's rows, of a text: what is no whole words is 13 too
+abbrev pub rows : ℕ → List ℕ → ℕ → ℕ → List Out
+rows bw t n m = check1 bw ∷ (ragged t or check13 bw (wordsIn t)) ∷ check14 bw (wordsIn t) n m ∷ []
+
+only-ragged : (t : List ℕ) → Only 13 (ragged t)
+unfolding ragged
+only-ragged t = only-if (not (eqb (length t % 4) 0)) 13 0 0
+
+numbers-distinct : distinct (0 ∷ numbers) ≡ true
+unfolding distinct absent
+numbers-distinct = refl
+
+rows-give : (bw : ℕ) (t : List ℕ) (n m : ℕ) → Gives numbers (rows bw t n m)
+rows-give bw t n m =
+    more (only-1 bw (wordsIn t) n m)
+    (more (only-or (only-ragged t) (only-13 bw (wordsIn t) n m)) (more (only-14 bw (wordsIn t) n m) none))
+
+writing-rows : (bw : ℕ) (t : List ℕ) (n m : ℕ) → firstOf (rows bw t n m) ≡ writingText bw t n m
+unfolding writingText writing _or_
+writing-rows bw t n m =
+    first-chain (check1 bw) ((ragged t or check13 bw (wordsIn t)) ∷ check14 bw (wordsIn t) n m ∷ [])
+    ∙ twice (check1 bw) (ragged t) (check13 bw (wordsIn t)) (check14 bw (wordsIn t) n m)
+  where
+    -- a first check that is looked at twice
+    twice : (o p q r : Out) → o or (p or q) or r ≡ o or p or (o or q or r)
+    twice Pass Pass q r = refl
+    twice Pass (Refuse x) q r = refl
+    twice (Refuse x) p q r = refl
+
+pub write-judged : (bw : ℕ) (t : List ℕ) (n m : ℕ) → Judged numbers (rows bw t n m) (needed bw (wordsIn t)) (writeAnswer bw t n m)
+unfolding writeAnswer
+write-judged bw t n m = rw (writing-rows bw t n m) at (judged (rows-give bw t n m) numbers-distinct (needed bw (wordsIn t)))
+
+-- "Every refusal writes nothing"
+pub write-keeps : (κs : _) (a : _) (r : _) (s : _) → write.Post κs a r s → (r .number ≡ 0 → ⊥)
+    → (now (s .1 .1 .0) ≡ now (a .1 .1 .0)) × (now (s .1 .1 .1 .0) ≡ now (a .1 .1 .1 .0))
+unfolding writeAnswer writeChannel
+write-keeps κs a r s p n =
+    let bw = a .0 in
+    let t = now (a .1 .0) in
+    let x = now (a .1 .1 .0) in
+    let y = now (a .1 .1 .1 .0) in
+    let o = writingText bw t (length x) (length y) in
+    let z : answerAt o (needed bw (wordsIn t)) .number ≡ 0 → ⊥ = λ e. n (ap (λ (z : Answer). z .number) (p .0) ∙ e) in (
+      p .1 .0 ∙ after-kept o (needed bw (wordsIn t)) (front (candidate bw (wordsIn t) 1) x) x z,
+      p .1 .1 ∙ after-kept o (needed bw (wordsIn t)) (front (candidate bw (wordsIn t) 2) y) y z,
+    )
+
+pub list-keeps : (κs : _) (a : _) (r : _) (s : _) → list.Post κs a r s → (r .number ≡ 0 → ⊥) → now (s .1 .1 .1 .0) ≡ now (a .1 .1 .1 .0)
+list-keeps κs a r s p n =
+    p .1 ∙ list-kept (a .0) (now (a .1 .0)) (now (a .1 .1 .0)) (now (a .1 .1 .1 .0)) (λ e. n (ap (λ (z : Answer). z .number) (p .0) ∙ e))

@@ -1,0 +1,48 @@
+-- "22 is first of all and 23 last": a listing's answer is one by the rows 1 to 11 and 23. Assumes nothing.
+use mathlib.Core.Path.{_≡_, refl, _∙_, ap}
+use mathlib.Core.Bool.{true}
+use mathlib.Core.List.{List, [], _∷_, _++_}
+use Prim.Native.Nat.{ℕ}
+use lib.Dec.{ltb}
+use lib.ListN.{length}
+use denote.Ref.{now}
+use Rattle.answer.specs.Answer.{_or_, answerAt}
+use Rattle.answer.specs.Order.{Only, only-if, firstOf, first-append, or-end, distinct, absent, Gives}
+use Rattle.answer.specs.declared.Answer.{Answer}
+use Rattle.answer.specs.declared.Out.{Out}
+use Rattle.reader.specs.Table.{eleven, readable}
+use Rattle.reader.specs.Judged.{Judged, judged}
+use Rattle.reader.proofs.Exactly.{eleven-then}
+use Rattle.listing.specs.Listing.{listing, check23, listable, listAnswer}
+use Rattle.listing.proofs.Facts.{list-kept}
+use Rattle.listing.proofs.list.Reads as list
+
+abbrev pub numbers : List ℕ
+numbers = 1 ∷ 2 ∷ 3 ∷ 4 ∷ 5 ∷ 6 ∷ 7 ∷ 8 ∷ 9 ∷ 10 ∷ 11 ∷ 23 ∷ []
+
+abbrev pub rows : ℕ → List ℕ → List ℕ → ℕ → List Out
+rows bw a b room = eleven bw a b ++ (check23 bw a b room ∷ [])
+
+only-23 : (bw : ℕ) (a b : List ℕ) (room : ℕ) → Only 23 (check23 bw a b room)
+unfolding check23
+only-23 bw a b room = only-if (ltb room (length (listing bw a b))) 23 0 (length (listing bw a b))
+
+numbers-distinct : distinct (0 ∷ numbers) ≡ true
+unfolding distinct absent
+numbers-distinct = refl
+
+listable-rows : (bw : ℕ) (a b : List ℕ) (room : ℕ) → firstOf (rows bw a b room) ≡ listable bw a b room
+unfolding listable readable
+listable-rows bw a b room =
+    first-append (eleven bw a b) (check23 bw a b room ∷ [])
+    ∙ ap (λ (o : Out). firstOf (eleven bw a b) or o) (unfold firstOf in or-end (check23 bw a b room))
+
+pub list-judged : (bw : ℕ) (a b : List ℕ) (room : ℕ) → Judged numbers (rows bw a b room) (length (listing bw a b)) (listAnswer bw a b room)
+unfolding listAnswer
+list-judged bw a b room =
+    rw (listable-rows bw a b room) at (judged (eleven-then bw a b (only-23 bw a b room)) numbers-distinct (length (listing bw a b)))
+
+-- "Every refusal writes nothing", of what `list` allows
+pub list-keeps : (κs : _) (a : _) (r : _) (s : _) → list.Post κs a r s → (r .number ≡ 0 → ⊥) → now (s .1 .1 .1 .0) ≡ now (a .1 .1 .1 .0)
+list-keeps κs a r s p n =
+    p .1 ∙ list-kept (a .0) (now (a .1 .0)) (now (a .1 .1 .0)) (now (a .1 .1 .1 .0)) (λ e. n (ap (λ (z : Answer). z .number) (p .0) ∙ e))

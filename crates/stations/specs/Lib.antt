@@ -1,0 +1,2 @@
+pub mod Stations
+pub mod Kept

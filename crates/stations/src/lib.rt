@@ -1,0 +1,108 @@
+// The repeat check: no STA-ID from 1 to 2006 stands twice in a frame (01, "What comes back", 11).
+use answer::Answer;
+use answer::Out;
+ghost use mathlib.Core.Path.{_≡_};
+ghost use Prim.Native.Nat.{ℕ, _+_, _≤_, _<_};
+ghost use mathlib.Core.Bool.{_&&_};
+ghost use lib.Dec.{eqb, ltb, leb};
+ghost use lib.ListN.{length, getD};
+ghost use Rattle.answer.specs.Least.{least};
+ghost use Rattle.bits.specs.Bits.{bit, put};
+ghost use Rattle.stations.specs.Stations.{stationOf, repeated, stationPlace, firstRepeated, stationTwice};
+ghost use Rattle.stations.specs.Kept.{Holds};
+
+// The STA-ID of User field j over both channels, n of which are channel 1's.
+fn station_at(bw: u32, a: &[u8], b: &[u8], n: usize, j: usize) -> u16
+    requires { ⌜ (n ≤ 72) × (j < n + 72) ⌝ }
+    ensures { λ r. ⌜ r ≡ stationOf bw (now (a .entry)) (now (b .entry)) n j ⌝ }
+{
+    if j < n {
+        bits::field_at(a, channel::user_bit(bw, j), 11) as u16
+    } else {
+        bits::field_at(b, channel::user_bit(bw, j - n), 11) as u16
+    }
+}
+
+// "room for 144 STA-IDs is set aside at once, empty": those of n fields in channel 1 and m in channel 2.
+fn stations_of(bw: u32, a: &[u8], b: &[u8], n: usize, m: usize) -> [u16; 144]
+    requires { ⌜ (n ≤ 72) × (m ≤ 72) ⌝ }
+    ensures { λ r. ⌜ (length r ≡ 144) × Holds (stationOf bw (now (a .entry)) (now (b .entry)) n) r (n + m) ⌝ }
+{
+    let mut ids = [0u16; 144];
+    let mut j = 0;
+    while j < n + m {
+        ids[j] = station_at(bw, a, b, n, j);
+        j += 1;
+    }
+    ids
+}
+
+// Whether a STA-ID may not stand again and is marked.
+fn stands_again(marks: &[u8], id: u16) -> bool
+    ensures { λ r. ⌜ r ≡ (ltb 0 id && leb id 2006) && eqb (bit (now (marks .entry)) id) 1 ⌝ }
+{
+    (0 < id) & (id <= 2006) & (bits::bit_at(marks, id as usize) == 1)
+}
+
+fn mark(marks: &mut [u8], id: u16)
+    ensures { λ _. ⌜ now (marks .exit) ≡ put (now (marks .entry)) id 1 1 ⌝ }
+{
+    bits::set_bit(marks, id as usize);
+}
+
+// The first of t that may not stand again and does. A bit for each STA-ID marks those that were met.
+fn first_again(ids: &[u16; 144], t: usize) -> usize
+    requires { ⌜ t ≤ 144 ⌝ }
+    ensures { λ r. ⌜ (r ≤ t) × (r ≡ least (repeated (λ i. getD (now (ids .entry)) i 0)) t) ⌝ }
+{
+    let mut marks = [0u8; 256];
+    let mut j = 0;
+    while j < t {
+        let id = ids[j];
+        if stands_again(&marks, id) {
+            return j;
+        }
+        mark(&mut marks, id);
+        j += 1;
+    }
+    j
+}
+
+// The first field whose STA-ID was seen before, of n in channel 1 and m in channel 2.
+fn first_repeated(bw: u32, a: &[u8], b: &[u8], n: usize, m: usize) -> usize
+    requires { ⌜ (n ≤ 72) × (m ≤ 72) ⌝ }
+    ensures { λ r. ⌜ r ≡ firstRepeated bw (now (a .entry)) (now (b .entry)) n m ⌝ }
+    ensures { λ r. ⌜ r ≤ n + m ⌝ }
+{
+    let ids = stations_of(bw, a, b, n, m);
+    first_again(&ids, n + m)
+}
+
+fn station_place(bw: u32, n: usize, j: usize) -> Answer
+    requires { ⌜ (n ≤ 72) × (j ≤ n + 72) ⌝ }
+    ensures { λ r. ⌜ r ≡ stationPlace bw n j ⌝ }
+{
+    if j < n {
+        Answer {
+            number: 11,
+            channel: 1,
+            place: channel::user_bit(bw, j),
+        }
+    } else {
+        Answer {
+            number: 11,
+            channel: 2,
+            place: channel::user_bit(bw, j - n),
+        }
+    }
+}
+
+// Answer 11.
+pub fn station_twice(bw: u32, a: &[u8], b: &[u8], n: usize, m: usize) -> Out
+    requires { ⌜ (n ≤ 72) × (m ≤ 72) ⌝ }
+    ensures { λ r. ⌜ r ≡ stationTwice bw (now (a .entry)) (now (b .entry)) n m ⌝ }
+{
+    let j = first_repeated(bw, a, b, n, m);
+    let x = station_place(bw, n, j);
+    answer::refuse_if(j < n + m, x.number, x.channel, x.place)
+}

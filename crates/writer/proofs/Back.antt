@@ -1,0 +1,58 @@
+-- What a reading with room for every frame's words tells. Assumes nothing.
+use mathlib.Core.Path.{_≡_, refl, sym, _∙_, ap}
+use mathlib.Core.Bool.{false}
+use mathlib.Core.List.{List, _++_}
+use mathlib.Core.Logic.{⊎-elim}
+use Prim.Native.Nat.{ℕ, _≤_}
+use native.Mathlib.Omega.{arith}
+use lib.Dec.{ltb}
+use lib.ListN.{length, drop, length-append}
+use borrow.Author.Tests.{le-ltb}
+use Rattle.answer.specs.Order.{pass-left, or-pass, if-pass, pass-or-refuse, after-passed}
+use Rattle.answer.specs.declared.Answer.{Answer}
+use Rattle.answer.specs.declared.Out.the-variants.{Pass, Refuse}
+use Rattle.reader.specs.Table.{check12, noRoom, readable, reading, wordCount}
+use Rattle.reader.specs.Stages.{reading-stages}
+use Rattle.reader.specs.Words.{wordsOf}
+use Rattle.reader.specs.Determine.{words-length}
+use Rattle.reader.specs.Result.{answerOf, wordsAfter}
+use Rattle.reader.proofs.Exactly.{accepted-exactly}
+use Rattle.writer.specs.Result.{readsTo}
+use Rattle.writer.specs.Steps.{reads-no, word-count-le}
+
+module _ (bw : ℕ) (a b : List ℕ) (room : ℕ) (l : 154 ≤ room) where
+  read-passes : readable bw a b ≡ Pass → reading bw a b room ≡ Pass
+  read-passes p =
+      reading-stages bw a b room
+      ∙ or-pass (readable bw a b) (check12 bw a b room) p
+      (unfold check12 noRoom in if-pass (ltb room (wordCount bw a b)) _ (le-ltb room (wordCount bw a b) (omega (arith, word-count-le bw a b))))
+
+  -- any number but 0: the channels are not accepted
+  pub back-refused : (w : List ℕ) → (answerOf bw a b room .number ≡ 0 → ⊥) → false ≡ readsTo bw a b w
+  unfolding answerOf
+  back-refused w n =
+      ⊎-elim
+      (λ (p : readable bw a b ≡ Pass). absurd (n (rw (read-passes p))))
+      (λ (q : (x : Answer) × (readable bw a b ≡ Refuse x)). reads-no bw a b w (readable bw a b) (q .0) refl (q .1))
+      (pass-or-refuse (readable bw a b))
+
+  module _ (e : answerOf bw a b room .number ≡ 0) where
+    passed : reading bw a b room ≡ Pass
+    passed = accepted-exactly bw a b room e
+
+    -- 0: they are, the place is how many words there are, and these are at the front
+    pub back-accepted : readable bw a b ≡ Pass
+    back-accepted = pass-left (readable bw a b) (check12 bw a b room) (sym (reading-stages bw a b room) ∙ passed)
+
+    pub back-count : answerOf bw a b room .place ≡ wordCount bw a b
+    unfolding answerOf
+    back-count = rw passed
+
+    pub back-words : (w : List ℕ) → length w ≡ room → wordsAfter bw a b w ≡ wordsOf bw a b ++ drop (wordCount bw a b) w
+    unfolding wordsAfter
+    back-words w f = after-passed (reading bw a b (length w)) _ w (rw f passed)
+
+    -- so many words can be taken from them
+    pub back-room : (w t : List ℕ) → length w ≡ room → t ≡ wordsAfter bw a b w → wordCount bw a b ≤ length t
+    back-room w t f g =
+        rw (g ∙ back-words w f, length-append (wordsOf bw a b) (drop (wordCount bw a b) w), words-length bw a b) (omega arith)
