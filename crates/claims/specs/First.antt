@@ -1,0 +1,101 @@
+-- The first demand. Assumes nothing.
+--
+-- "Any bytes, any bandwidth code, any buffer: each call ends with an acceptance or one numbered refusal from the table in document 01, in the
+-- order set there. No caller checks anything first. A refused call writes nothing into the caller's buffers."
+--
+-- What a call may give is what its contract says: `Post`, of the arguments a, the result r and the arguments s at exit; what it asks of its
+-- caller is `Asked`. `reader::read`, `listing::list` and their C entries have the bandwidth code, channel 1, channel 2 and the lent buffer,
+-- `writer::write` and its C entry the bandwidth code, the words and both lent channels. That every call ends is part of what is proved of every
+-- function.
+use mathlib.Core.Path.{_≡_}
+use Prim.Native.Nat.{ℕ, _/_}
+use lib.ListN.{length}
+use denote.Ref.{now}
+use Rattle.reader.specs.Table.{table, wordCount}
+use Rattle.reader.specs.Judged.{Judged}
+use Rattle.reader.proofs.Exactly as reading
+use Rattle.reader.proofs.Agree as reader
+use Rattle.reader.proofs.read.Reads as read
+use Rattle.writer.specs.Candidate.{needed}
+use Rattle.writer.proofs.Exactly as writing
+use Rattle.writer.proofs.Agree as writer
+use Rattle.writer.proofs.write.Reads as write
+use Rattle.listing.specs.Listing.{listing}
+use Rattle.listing.proofs.Judged as listed
+use Rattle.listing.proofs.list.Reads as list
+use Rattle.brachymel.specs.Bytes.{wordsIn}
+use Rattle.brachymel.proofs.Judged as entries
+use Rattle.brachymel.proofs.Agree as library
+use Rattle.brachymel.proofs.brachymel_read.Reads as c-read
+use Rattle.brachymel.proofs.brachymel_write.Reads as c-write
+use Rattle.brachymel.proofs.brachymel_list.Reads as c-list
+
+-- "each call ends with an acceptance or one numbered refusal from the table in document 01, in the order set there": `Judged`, by the rows 1 to
+-- 12 of the reader, 1, 13 and 14 of the writer, 1 to 11 and 23 of the listing
+
+pub read-ends : (κs : _) (a : _) (r : _) (s : _) → read.Post κs a r s
+    → Judged reading.numbers (table (a .0) (now (a .1 .0)) (now (a .1 .1 .0)) (length (now (a .1 .1 .1 .0)))) (wordCount (a .0) (now (a .1 .0)) (now (a .1 .1 .0))) r
+read-ends κs a r s p = rw (p .0) (reading.read-judged (a .0) (now (a .1 .0)) (now (a .1 .1 .0)) (length (now (a .1 .1 .1 .0))))
+
+pub write-ends : (κs : _) (a : _) (r : _) (s : _) → write.Post κs a r s
+    → Judged writing.numbers (writing.rows (a .0) (now (a .1 .0)) (length (now (a .1 .1 .0))) (length (now (a .1 .1 .1 .0)))) (needed (a .0) (now (a .1 .0))) r
+write-ends κs a r s p = rw (p .0) (writing.write-judged (a .0) (now (a .1 .0)) (length (now (a .1 .1 .0))) (length (now (a .1 .1 .1 .0))))
+
+pub list-ends : (κs : _) (a : _) (r : _) (s : _) → list.Post κs a r s
+    → Judged listed.numbers (listed.rows (a .0) (now (a .1 .0)) (now (a .1 .1 .0)) (length (now (a .1 .1 .1 .0)))) (length (listing (a .0) (now (a .1 .0)) (now (a .1 .1 .0)))) r
+list-ends κs a r s p = rw (p .0) (listed.list-judged (a .0) (now (a .1 .0)) (now (a .1 .1 .0)) (length (now (a .1 .1 .1 .0))))
+
+-- from C: room in whole words, and 13 where the words' bytes are not whole words
+pub c-read-ends : (κs : _) (a : _) (r : _) (s : _) → c-read.Post κs a r s
+    → Judged reading.numbers (table (a .0) (now (a .1 .0)) (now (a .1 .1 .0)) (length (now (a .1 .1 .1 .0)) / 4)) (wordCount (a .0) (now (a .1 .0)) (now (a .1 .1 .0))) r
+c-read-ends κs a r s p = rw (p .0) (reading.read-judged (a .0) (now (a .1 .0)) (now (a .1 .1 .0)) (length (now (a .1 .1 .1 .0)) / 4))
+
+pub c-write-ends : (κs : _) (a : _) (r : _) (s : _) → c-write.Post κs a r s
+    → Judged writing.numbers (entries.rows (a .0) (now (a .1 .0)) (length (now (a .1 .1 .0))) (length (now (a .1 .1 .1 .0)))) (needed (a .0) (wordsIn (now (a .1 .0)))) r
+c-write-ends κs a r s p = rw (p .0) (entries.write-judged (a .0) (now (a .1 .0)) (length (now (a .1 .1 .0))) (length (now (a .1 .1 .1 .0))))
+
+pub c-list-ends : (κs : _) (a : _) (r : _) (s : _) → c-list.Post κs a r s
+    → Judged listed.numbers (listed.rows (a .0) (now (a .1 .0)) (now (a .1 .1 .0)) (length (now (a .1 .1 .1 .0)))) (length (listing (a .0) (now (a .1 .0)) (now (a .1 .1 .0)))) r
+c-list-ends κs a r s p = rw (p .0) (listed.list-judged (a .0) (now (a .1 .0)) (now (a .1 .1 .0)) (length (now (a .1 .1 .1 .0))))
+
+-- "No caller checks anything first."
+
+pub read-asks-nothing : (κs : _) (a : _) → read.Asked κs a
+read-asks-nothing κs a = tt
+
+pub write-asks-nothing : (κs : _) (a : _) → write.Asked κs a
+write-asks-nothing κs a = tt
+
+pub list-asks-nothing : (κs : _) (a : _) → list.Asked κs a
+list-asks-nothing κs a = tt
+
+pub c-read-asks-nothing : (κs : _) (a : _) → c-read.Asked κs a
+c-read-asks-nothing κs a = tt
+
+pub c-write-asks-nothing : (κs : _) (a : _) → c-write.Asked κs a
+c-write-asks-nothing κs a = tt
+
+pub c-list-asks-nothing : (κs : _) (a : _) → c-list.Asked κs a
+c-list-asks-nothing κs a = tt
+
+-- "A refused call writes nothing into the caller's buffers."
+
+pub read-keeps : (κs : _) (a : _) (r : _) (s : _) → read.Post κs a r s → (r .number ≡ 0 → ⊥) → now (s .1 .1 .1 .0) ≡ now (a .1 .1 .1 .0)
+read-keeps = reader.read-keeps
+
+pub write-keeps : (κs : _) (a : _) (r : _) (s : _) → write.Post κs a r s → (r .number ≡ 0 → ⊥)
+    → (now (s .1 .1 .0) ≡ now (a .1 .1 .0)) × (now (s .1 .1 .1 .0) ≡ now (a .1 .1 .1 .0))
+write-keeps = writer.write-keeps
+
+pub list-keeps : (κs : _) (a : _) (r : _) (s : _) → list.Post κs a r s → (r .number ≡ 0 → ⊥) → now (s .1 .1 .1 .0) ≡ now (a .1 .1 .1 .0)
+list-keeps = listed.list-keeps
+
+pub c-read-keeps : (κs : _) (a : _) (r : _) (s : _) → c-read.Post κs a r s → (r .number ≡ 0 → ⊥) → now (s .1 .1 .1 .0) ≡ now (a .1 .1 .1 .0)
+c-read-keeps = library.read-keeps
+
+pub c-write-keeps : (κs : _) (a : _) (r : _) (s : _) → c-write.Post κs a r s → (r .number ≡ 0 → ⊥)
+    → (now (s .1 .1 .0) ≡ now (a .1 .1 .0)) × (now (s .1 .1 .1 .0) ≡ now (a .1 .1 .1 .0))
+c-write-keeps = entries.write-keeps
+
+pub c-list-keeps : (κs : _) (a : _) (r : _) (s : _) → c-list.Post κs a r s → (r .number ≡ 0 → ⊥) → now (s .1 .1 .1 .0) ≡ now (a .1 .1 .1 .0)
+c-list-keeps = entries.list-keeps
