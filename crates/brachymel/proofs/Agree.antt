@@ -9,9 +9,7 @@ use Rattle.answer.specs.Filled.{filled}
 use Rattle.reader.specs.Table.{reading, wordCount}
 use Rattle.reader.specs.Words.{wordsOf}
 use Rattle.reader.specs.Result.{answerOf}
-use Rattle.writer.specs.Candidate.{needed, candidate}
-use Rattle.writer.specs.Result.{front}
-use Rattle.brachymel.specs.Bytes.{byteAt, readBytes, wordsIn, writingText, writeAnswer, writeChannel}
+use Rattle.brachymel.specs.Bytes.{byteAt, readBytes}
 use Rattle.brachymel.proofs.brachymel_read.Reads as read
 use Rattle.brachymel.proofs.brachymel_write.Reads as write
 use Rattle.brachymel.proofs.brachymel_list.Reads as list

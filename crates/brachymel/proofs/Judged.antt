@@ -1,14 +1,13 @@
 -- The C entries' answers are by the same rows of 01's table, and a refusal writes nothing. Assumes nothing.
-use mathlib.Core.Path.{_≡_, refl, sym, _∙_, ap}
+use mathlib.Core.Path.{_≡_, refl, _∙_, ap}
 use mathlib.Core.Bool.{true, not}
 use mathlib.Core.List.{List, [], _∷_}
-use mathlib.Core.Logic.{⊎-elim}
 use Prim.Native.Nat.{ℕ, _%_}
 use lib.Dec.{eqb}
 use lib.ListN.{length}
 use denote.Ref.{now}
 use Rattle.answer.specs.Answer.{_or_, answerAt}
-use Rattle.answer.specs.Order.{Only, only-if, only-or, firstOf, first-chain, Gives, none, more, distinct, absent, pass-or-refuse, after-kept}
+use Rattle.answer.specs.Order.{Only, only-if, only-or, firstOf, first-chain, Gives, none, more, distinct, absent, after-kept}
 use Rattle.answer.specs.declared.Answer.{Answer}
 use Rattle.answer.specs.declared.Out.{Out}
 use Rattle.answer.specs.declared.Out.the-variants.{Pass, Refuse}
@@ -17,7 +16,6 @@ use Rattle.reader.specs.Judged.{Judged, judged}
 use Rattle.writer.specs.Candidate.{needed, candidate}
 use Rattle.writer.specs.Result.{check13, check14, writing, front}
 use Rattle.writer.proofs.Exactly.{numbers, only-1, only-13, only-14}
-use Rattle.listing.specs.Listing.{listAnswer}
 use Rattle.listing.proofs.Facts.{list-kept}
 use Rattle.brachymel.specs.Bytes.{wordsIn, ragged, writingText, writeAnswer, writeChannel}
 use Rattle.brachymel.proofs.brachymel_write.Reads as write

@@ -1,15 +1,15 @@
 -- Reading through words of its own: what comes of the lent bytes. Assumes nothing.
-use mathlib.Core.Path.{_≡_, refl, sym, _∙_, ap}
+use mathlib.Core.Path.{_≡_, sym, _∙_, ap}
 use mathlib.Core.List.{List, _++_, append-assoc}
-use Prim.Native.Nat.{ℕ, _+_, _*_, _/_, _%_, _^_, _≤_, _<_, min}
+use Prim.Native.Nat.{ℕ, _*_, _/_, _%_, _^_, _≤_, _<_, min}
 use native.Mathlib.Omega.{arith}
-use lib.ListN.{length, getD, drop, length-append, List·getD-append}
-use Rattle.answer.specs.Answer.{answerAt, after}
+use lib.ListN.{length, drop, length-append, List·getD-append}
+use Rattle.answer.specs.Answer.{answerAt}
 use Rattle.answer.specs.Order.{after-kept, after-passed}
 use Rattle.answer.specs.Filled.{filled, filled-cong}
 use Rattle.answer.specs.declared.Answer.{Answer}
 use Rattle.answer.specs.declared.Out.{Out}
-use Rattle.answer.specs.declared.Out.the-variants.{Pass, Refuse}
+use Rattle.answer.specs.declared.Out.the-variants.{Pass}
 use Rattle.words.specs.Words.{nth}
 use Rattle.reader.specs.Table.{reading, wordCount}
 use Rattle.reader.specs.Words.{wordsOf}
@@ -18,7 +18,7 @@ use Rattle.reader.specs.Stages.{reading-pass}
 use Rattle.reader.specs.Determine.{words-length}
 use Rattle.reader.proofs.Exactly.{accepted-exactly}
 use Rattle.brachymel.specs.Bytes.{byteAt, readAnswer, readBytes}
-use Rattle.brachymel.specs.Rooms.{reading-room, words-most}
+use Rattle.brachymel.specs.Rooms.{reading-room}
 
 module _ (bw : ℕ) (a b w p p′ : List ℕ) (x : Answer) (er : length p ≡ min (length w / 4) 154) (ex : x ≡ answerOf bw a b (length p)) (ep : p′ ≡ wordsAfter bw a b p) where
   same-reading : reading bw a b (length p) ≡ reading bw a b (length w / 4)

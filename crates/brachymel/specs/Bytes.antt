@@ -2,11 +2,11 @@
 --
 -- 01, "What comes back": "The capture software is written in C and calls reader and writer with numbers and bytes, words then being
 -- little-endian. For the reader's room only whole words count".
-use mathlib.Core.Bool.{Bool, true, false, not}
-use mathlib.Core.List.{List, _++_}
+use mathlib.Core.Bool.{not}
+use mathlib.Core.List.{List}
 use Prim.Native.Nat.{ℕ, _+_, _*_, _/_, _%_, _^_}
 use lib.Dec.{eqb}
-use lib.ListN.{length, drop}
+use lib.ListN.{length}
 use Rattle.answer.specs.Answer.{no, refuseIf, _or_, answerAt, after}
 use Rattle.answer.specs.Filled.{build, filled}
 use Rattle.answer.specs.declared.Answer.{Answer}

@@ -1,24 +1,24 @@
 -- What a text of words is refused for before it is looked at. Assumes nothing.
-use mathlib.Core.Path.{_≡_, refl, sym, _∙_, ap}
+use mathlib.Core.Path.{_≡_, refl}
 use mathlib.Core.Bool.{Bool, true, false, not, _&&_}
 use mathlib.Core.List.{List}
-use Prim.Native.Nat.{ℕ, _+_, _*_, _/_, _%_, _≤_, _<_}
+use Prim.Native.Nat.{ℕ, _/_, _%_, _≤_, _<_}
 use native.Mathlib.Omega.{arith}
 use lib.Dec.{ltb, eqb}
 use lib.ListN.{length}
 use borrow.Author.Tests.{ltb-true, ltb-false, ne-eqb}
-use Rattle.answer.specs.Answer.{no, refuseIf, _or_, answerAt, after, passes}
-use Rattle.answer.specs.Order.{pass-or-refuse, pass-left, pass-right, pass-if, or-cases, or-assoc, or-next, or-refuse, refuse-if}
-use Rattle.answer.specs.Filled.{build, length-build}
+use Rattle.answer.specs.Answer.{no, refuseIf, _or_, passes}
+use Rattle.answer.specs.Order.{pass-right, pass-if, pass-not-refuse}
+use Rattle.answer.specs.Filled.{length-build}
 use Rattle.answer.specs.declared.Answer.{Answer}
 use Rattle.answer.specs.declared.Out.{Out}
 use Rattle.answer.specs.declared.Out.the-variants.{Pass, Refuse}
-use Rattle.reader.specs.Table.{check1, readable, wordCount}
+use Rattle.reader.specs.Table.{check1, readable}
 use Rattle.reader.specs.Words.{wordsOf}
 use Rattle.reader.specs.Determine.{words-length}
-use Rattle.writer.specs.Candidate.{needed, candidate}
-use Rattle.writer.specs.Result.{unlike, sameWords, readsTo, notRead, check13, writing, answerOf, front, channelAfter}
-use Rattle.brachymel.specs.Bytes.{wordAt, wordsIn, ragged, writingText, writeAnswer, writeChannel}
+use Rattle.writer.specs.Candidate.{candidate}
+use Rattle.writer.specs.Result.{sameWords, readsTo, notRead, check13, check14, writing}
+use Rattle.brachymel.specs.Bytes.{wordAt, wordsIn, ragged, writingText}
 use Rattle.brachymel.specs.Rooms.{words-most}
 
 unfoldable pub early : ℕ → ℕ → ℕ → Out
@@ -46,12 +46,12 @@ early-refuses bw t n m x e = go (ltb 4 bw) (not (eqb (length t % 4) 0)) (ltb 154
   where
     go : (p q r : Bool) → ltb 154 (length t / 4) ≡ r
         → refuseIf p (no 1 0 0) or (refuseIf q (no 13 0 0) or refuseIf r (no 13 0 0)) ≡ Refuse x
-        → refuseIf p (no 1 0 0) or refuseIf q (no 13 0 0) or (refuseIf p (no 1 0 0) or check13 bw (wordsIn t) or Rattle.writer.specs.Result.check14 bw (wordsIn t) n m) ≡ Refuse x
+        → refuseIf p (no 1 0 0) or refuseIf q (no 13 0 0) or (refuseIf p (no 1 0 0) or check13 bw (wordsIn t) or check14 bw (wordsIn t) n m) ≡ Refuse x
     go true q r l f = f
     go false true r l f = f
     go false false true l f =
         rw (too-many bw (wordsIn t) (omega (arith, length-build (wordAt t) (length t / 4), ltb-true 154 (length t / 4) l))) f
-    go false false false l f = absurd (Rattle.answer.specs.Order.pass-not-refuse refl f)
+    go false false false l f = absurd (pass-not-refuse refl f)
 
 -- and where nothing does, the text's outcome is the writer's
 pub early-passes : (bw : ℕ) (t : List ℕ) (n m : ℕ) → early bw (length t) (length t / 4) ≡ Pass → writingText bw t n m ≡ writing bw (wordsIn t) n m
@@ -60,10 +60,10 @@ early-passes bw t n m e = go (ltb 4 bw) (not (eqb (length t % 4) 0)) (ltb 154 (l
   where
     go : (p q r : Bool)
         → refuseIf p (no 1 0 0) or (refuseIf q (no 13 0 0) or refuseIf r (no 13 0 0)) ≡ Pass
-        → refuseIf p (no 1 0 0) or refuseIf q (no 13 0 0) or (refuseIf p (no 1 0 0) or check13 bw (wordsIn t) or Rattle.writer.specs.Result.check14 bw (wordsIn t) n m)
-        ≡ (refuseIf p (no 1 0 0) or check13 bw (wordsIn t) or Rattle.writer.specs.Result.check14 bw (wordsIn t) n m)
-    go true q r f = absurd (Rattle.answer.specs.Order.pass-not-refuse f refl)
-    go false true r f = absurd (Rattle.answer.specs.Order.pass-not-refuse f refl)
+        → refuseIf p (no 1 0 0) or refuseIf q (no 13 0 0) or (refuseIf p (no 1 0 0) or check13 bw (wordsIn t) or check14 bw (wordsIn t) n m)
+        ≡ (refuseIf p (no 1 0 0) or check13 bw (wordsIn t) or check14 bw (wordsIn t) n m)
+    go true q r f = absurd (pass-not-refuse f refl)
+    go false true r f = absurd (pass-not-refuse f refl)
     go false false r f = refl
 
 pub few-words : (bw bytes n : ℕ) → early bw bytes n ≡ Pass → n ≤ 154

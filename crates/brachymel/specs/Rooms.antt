@@ -1,15 +1,13 @@
 -- Room for 154 words is as good as more. Assumes nothing.
 use mathlib.Core.Path.{_≡_, refl, sym, _∙_, ap}
 use mathlib.Core.Bool.{Bool, true, false}
-use mathlib.Core.List.{List, _++_}
-use Prim.Native.Nat.{ℕ, _+_, _*_, _/_, _%_, _^_, _≤_, _<_, min}
+use mathlib.Core.List.{List}
+use Prim.Native.Nat.{ℕ, _≤_, min}
 use native.Mathlib.Omega.{arith}
 use lib.Dec.{ltb}
 use borrow.Author.Tests.{ltb-true, ltb-false, lt-ltb, le-ltb}
 use Rattle.answer.specs.Answer.{no, refuseIf, _or_}
-use Rattle.answer.specs.declared.Out.{Out}
 use Rattle.channel.specs.Laws.{count-le}
-use Rattle.channel.specs.Layout.{count}
 use Rattle.reader.specs.Table.{readable, reading, wordCount, noRoom, check12}
 use Rattle.reader.specs.Stages.{reading-stages}
 

@@ -2,7 +2,7 @@
 use answer::Answer;
 use answer::Out;
 ghost use mathlib.Core.Path.{_≡_};
-ghost use Prim.Native.Nat.{_+_, _*_, _/_, _%_, _^_, _≤_, _<_, min};
+ghost use Prim.Native.Nat.{_+_, _*_, _/_, _%_, _≤_, _<_, min};
 ghost use lib.ListN.{length};
 ghost use Rattle.answer.specs.Filled.{filled};
 ghost use Rattle.brachymel.specs.Bytes.{byteAt, readAnswer, readBytes, wordAt, wordsIn, writeAnswer, writeChannel};

@@ -9,7 +9,6 @@ use native.Mathlib.Omega.{arith}
 use lib.ListN.{length, replicate, length-replicate}
 use lib.Seq.{ext-getD}
 use borrow.Author.Tests.{lt-ltb, le-ltb}
-use Rattle.answer.specs.Answer.{_or_}
 use Rattle.answer.specs.Order.{pass-left, pass-right, or-pass, if-pass}
 use Rattle.answer.specs.Least.{least-none}
 use Rattle.answer.specs.declared.Out.the-variants.{Pass}

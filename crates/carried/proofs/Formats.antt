@@ -2,14 +2,13 @@
 use mathlib.Core.Path.{_≡_, refl, sym, _∙_, ap, subst}
 use mathlib.Core.Bool.{Bool, true, false}
 use mathlib.Core.List.{List}
-use Prim.Native.Nat.{ℕ, _+_, _-_, _/_, _%_, _≤_, _<_}
+use Prim.Native.Nat.{ℕ, _+_, _/_, _%_, _≤_, _<_}
 use native.Mathlib.Decide.{ℕ-discrete}
 use native.Mathlib.Omega.{arith}
 use denote.Ref.{now}
 use lib.Dec.{leb}
 use lib.ListN.{length, getD, drop, List·getD-append}
 use borrow.Author.Tests.{le-leb, lt-leb, eq-eqb, ne-eqb}
-use Rattle.answer.specs.Answer.{_or_}
 use Rattle.answer.specs.Order.{pass-left, pass-right}
 use Rattle.answer.specs.declared.Answer.{Answer}
 use Rattle.answer.specs.declared.Out.the-variants.{Pass}
@@ -28,7 +27,7 @@ use Rattle.records.specs.Records.{inChannel, divides, pieceFields, recordsFrom,
 use Rattle.records.specs.Owns.{fieldsBefore, ComesFrom, number, Owns, of-piece, of-place, lowest, ownerOf}
 use Rattle.records.proofs.Listing.{Located, located-record}
 use Rattle.records.proofs.Owners.{before-next, before-rise, in-own, some-pieces, no-pieces-left, divided-low, lowest-only, one-owner, owner-owns}
-use Rattle.records.proofs.Shares.{low-share, share-fields, own-fieldsIn, home-piece, home-whole}
+use Rattle.records.proofs.Shares.{low-share, share-fields, own-fieldsIn, home-piece, home-whole, owner-listed}
 use Rattle.channel.specs.Layout.{row, count, userAt}
 use Rattle.words.specs.Words.{nth, userWord}
 use Rattle.reader.specs.Table.{check12, readable, reading, wordCount}
@@ -147,7 +146,7 @@ module _ (bw : ℕ) (a b : List ℕ) (l : bw ≤ 4) (o : ℕ → Owner) (s : Sig
   has-one : (c j : ℕ) → j < fieldsBefore c (at r) (length r) → OneOwner o r c j
   has-one c j h =
       let w = owner-owns o (at r) (length r) s c j h in
-      (ownerOf o (at r) c (length r) j, w, λ i′ v. one-owner o (at r) (length r) i′ (ownerOf o (at r) c (length r) j) c j v w)
+      (ownerOf o (at r) c (length r) j, owner-listed o (at r) (length r) s c j h, w, λ i′ v. one-owner o (at r) (length r) i′ (ownerOf o (at r) c (length r) j) c j v w)
 
   -- w has the frame's words at its front
   pub formatted : (w : List ℕ) → ((k : ℕ) → k < wordCount bw a b → nth w k ≡ nth (wordsOf bw a b) k) → Formatted bw a b w o

@@ -30,9 +30,9 @@ pub record WordOn (x : Record) (f v : ℕ) : Type 0 where
 abbrev pub OwnsIn : (ℕ → Owner) → List ℕ → ℕ → ℕ → ℕ → Type 0
 OwnsIn o r i c j = Owns o (at r) (length r) i c j
 
--- exactly one does
+-- exactly one does, and it is one of the plan's
 abbrev pub OneOwner : (ℕ → Owner) → List ℕ → ℕ → ℕ → Type 0
-OneOwner o r c j = (i : ℕ) × OwnsIn o r i c j × ((i′ : ℕ) → OwnsIn o r i′ c j → i′ ≡ i)
+OneOwner o r c j = (i : ℕ) × (i < length (recordsOf o r)) × OwnsIn o r i c j × ((i′ : ℕ) → OwnsIn o r i′ c j → i′ ≡ i)
 
 -- the User fields of a frame whose channels are a and b, and their words among w, in any plan o that signals the frame's row
 pub record Formatted (bw : ℕ) (a b w : List ℕ) (o : ℕ → Owner) : Type 0 where

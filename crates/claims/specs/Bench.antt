@@ -2,23 +2,23 @@
 -- Assumes nothing.
 use mathlib.Core.Path.{_≡_, refl, sym, _∙_, ap}
 use mathlib.Core.List.{List, [], _∷_, map}
-use Prim.Native.Nat.{ℕ, _+_, _<_}
+use Prim.Native.Nat.{ℕ, _+_}
 use native.Mathlib.Omega.{arith}
 use lib.ListN.{length}
-use Rattle.answer.specs.Answer.{no, refuseIf, _or_}
+use Rattle.answer.specs.Answer.{no, _or_}
 use Rattle.answer.specs.Least.{least}
 use Rattle.answer.specs.Order.{refuse-same, pass-not-refuse}
 use Rattle.answer.specs.declared.Answer.{Answer}
 use Rattle.answer.specs.declared.Out.{Out}
 use Rattle.answer.specs.declared.Out.the-variants.{Pass, Refuse}
-use Rattle.bits.specs.Bits.{bit, field}
+use Rattle.bits.specs.Bits.{bit}
 use Rattle.check4.specs.Check.{check, step, register, sent}
 use Rattle.resource.specs.Names.{nameOf, numberOf}
 use Rattle.resource.specs.Values.{carried, pieces, fieldsOf, ownPieces}
 use Rattle.resource.specs.Index.{indexOf, resourceAt}
 use Rattle.plan.specs.declared.Owner.{Owner}
 use Rattle.plan.specs.Plan.{at, Signals}
-use Rattle.plan.specs.Fields.{gives, share, fieldsIn, Eight}
+use Rattle.plan.specs.Fields.{gives, share, fieldsIn}
 use Rattle.plan.specs.Layout.{Plan, PlanOfEight, Laid, accepted, no-plan, over-eight}
 use Rattle.plan.specs.Guess.{threeOf, orElse, like996, like484, choose, onlyPlan, fitting, planned, withinEight, unplanned, overEight, answer7, answer8, layoutOf}
 use Rattle.plan.proofs.Laid.{layout-laid}

@@ -8,7 +8,7 @@
 -- `writer::write` and its C entry the bandwidth code, the words and both lent channels. That every call ends is part of what is proved of every
 -- function.
 use mathlib.Core.Path.{_≡_}
-use Prim.Native.Nat.{ℕ, _/_}
+use Prim.Native.Nat.{_/_}
 use lib.ListN.{length}
 use denote.Ref.{now}
 use Rattle.reader.specs.Table.{table, wordCount}
@@ -23,6 +23,7 @@ use Rattle.writer.proofs.write.Reads as write
 use Rattle.listing.specs.Listing.{listing}
 use Rattle.listing.proofs.Judged as listed
 use Rattle.listing.proofs.list.Reads as list
+use Rattle.listing.proofs.respond.Reads as respond
 use Rattle.brachymel.specs.Bytes.{wordsIn}
 use Rattle.brachymel.proofs.Judged as entries
 use Rattle.brachymel.proofs.Agree as library
@@ -68,6 +69,10 @@ write-asks-nothing κs a = tt
 
 pub list-asks-nothing : (κs : _) (a : _) → list.Asked κs a
 list-asks-nothing κs a = tt
+
+-- the program's whole text, of any input
+pub respond-asks-nothing : (κs : _) (a : _) → respond.Asked κs a
+respond-asks-nothing κs a = tt
 
 pub c-read-asks-nothing : (κs : _) (a : _) → c-read.Asked κs a
 c-read-asks-nothing κs a = tt

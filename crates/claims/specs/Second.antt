@@ -11,16 +11,20 @@ use mathlib.Core.Path.{_≡_}
 use mathlib.Core.Bool.{true, cond}
 use mathlib.Core.List.{List}
 use Prim.Native.Nat.{ℕ, _≤_}
+use native.Mathlib.Omega.{arith}
 use lib.ListN.{length, take}
 use denote.Ref.{now}
 use Rattle.answer.specs.Answer.{no}
+use Rattle.bits.specs.Writes.{Small}
 use Rattle.channel.specs.Layout.{present, count}
 use Rattle.reader.specs.Result.{answerOf, wordsAfter}
 use Rattle.reader.specs.Determine.{SameFrame}
 use Rattle.reader.proofs.read.Reads as read
-use Rattle.writer.specs.Candidate.{bytesFor}
+use Rattle.writer.specs.Candidate.{bytesFor, countIn, channelIn, candidate}
+use Rattle.writer.specs.Built.{sealed-small}
+use Rattle.writer.specs.Inverse.{candidate-reads}
 use Rattle.writer.proofs.write.Reads as write
-use Rattle.writer.proofs.Inverse.{Accepts, GivenBack, write-after-read, read-after-write, thirteen-none, none-thirteen, equal-words}
+use Rattle.writer.proofs.Inverse.{Accepts, accepts-reads, reads-accepts, GivenBack, write-after-read, read-after-write, thirteen-none, none-thirteen, equal-words}
 use Rattle.carried.specs.Formats.{UserWords}
 use Rattle.carried.proofs.Formats.{user-words}
 
@@ -65,10 +69,20 @@ pub reading-gives-back : (κs : _) (a : _) (r : _) (s : _) (κs' : _) (a' : _) (
     → (r' ≡ no 0 0 (length (now (a .1 .0)))) × (take (length (now (a .1 .0))) (now (s' .1 .1 .1 .0)) ≡ now (a .1 .0))
 reading-gives-back = read-after-write
 
--- "Words that no accepted pair of channels reads to are refused.": with 13, exactly where there is no such pair
+-- "Words that no accepted pair of channels reads to are refused.": with 13, exactly where there is no such pair, of bytes
+candidate-small : (bw : ℕ) (w : List ℕ) (c : ℕ) → Small (candidate bw w c)
+unfolding candidate channelIn
+candidate-small bw w c = sealed-small bw (countIn bw w c) _
+
 pub words-of-none-refused : (κs : _) (a : _) (r : _) (s : _) → write.Post κs a r s → a .0 ≤ 4
-    → ((x y w : List ℕ) → Accepts (a .0) x y w (now (a .1 .0)) → ⊥) → r .number ≡ 13
-words-of-none-refused = none-thirteen
+    → ((x y w : List ℕ) → Small x → Small y → Accepts (a .0) x y w (now (a .1 .0)) → ⊥) → r .number ≡ 13
+words-of-none-refused κs a r s p l h =
+    let bw = a .0 in
+    let w = now (a .1 .0) in
+    none-thirteen κs a r s p l
+    (λ x y v t.
+    h (candidate bw w 1) (candidate bw w 2) w (candidate-small bw w 1) (candidate-small bw w 2)
+    (reads-accepts bw (candidate bw w 1) (candidate bw w 2) w w (candidate-reads bw x y w (accepts-reads bw x y v w t)) (omega arith)))
 
 pub only-words-of-none-refused : (κs : _) (a : _) (r : _) (s : _) → write.Post κs a r s → r .number ≡ 13
     → (x y w : List ℕ) → Accepts (a .0) x y w (now (a .1 .0)) → ⊥

@@ -7,10 +7,10 @@
 --
 -- A plan is `plan`'s `Signals`; its resources are `records`' `recordsOf`; what `plan::layout` answers is what its contract says, `Laid`; what
 -- `reader::read` answers to channels that carry the row is what its contract says, `read.Post`.
-use mathlib.Core.Path.{_≡_, refl, sym, _∙_, ap, subst}
-use mathlib.Core.Logic.{_≢_, _⊎_, inl, inr, ⊎-elim}
+use mathlib.Core.Path.{_≡_, sym, subst}
+use mathlib.Core.Logic.{_≢_, _⊎_, ⊎-elim}
 use mathlib.Core.List.{List}
-use Prim.Native.Nat.{ℕ, _+_, _*_, _^_, _≤_, _<_}
+use Prim.Native.Nat.{ℕ, _^_, _≤_, _<_}
 use native.Mathlib.Omega.{arith}
 use denote.Ref.{now}
 use lib.ListN.{length, getD}
@@ -28,6 +28,8 @@ use Rattle.records.specs.Owns.{Owns, fieldsBefore, ownerOf}
 use Rattle.records.proofs.Listing.{same-records}
 use Rattle.records.proofs.Owners.{one-owner, owner-owns}
 use Rattle.records.proofs.Subcarriers.{no-shared, none-punctured}
+use Rattle.records.proofs.Sizes.{RightRecord, record-right}
+use Rattle.records.proofs.Shares.{owner-listed}
 use Rattle.reader.proofs.read.Reads as read
 use Rattle.carried.specs.Carried.{CarriedRow, Carry, ForLayout}
 use Rattle.carried.proofs.Channels.{some-channels}
@@ -47,6 +49,10 @@ abbrev pub NotPunctured : (ℕ → Owner) → (ℕ → ℕ) → ℕ → Type 0
 NotPunctured o row n =
     (i q u : ℕ) → i < length (recordsFrom o row n) → q < n → row q ≡ 26 → Punctured n q u → Tone o row n i u → ⊥
 
+-- each has 01's subcarriers, as many as its name says, so none is apart for want of them
+abbrev pub RightTones : (ℕ → Owner) → (ℕ → ℕ) → ℕ → Type 0
+RightTones o row n = (i : ℕ) → i < length (recordsFrom o row n) → RightRecord n (getD (recordsFrom o row n) i blank)
+
 pub record Third (row : List ℕ) : Type 0 where
   -- "If any plan .. signals that row with at most eight User fields on each resource, the row is accepted"
   pub is-accepted : (x : Out) → Laid row x → PlanOfEight row 0 (length row) → x ≡ Pass
@@ -61,9 +67,10 @@ pub record Third (row : List ℕ) : Type 0 where
   pub apart : (o : ℕ → Owner) → Signals o (at row) 0 (length row) → Apart o (at row) (length row)
   -- "none has one in a punctured 20 MHz"
   pub not-punctured : (o : ℕ → Owner) → Signals o (at row) 0 (length row) → NotPunctured o (at row) (length row)
-  -- "each User field in either channel has exactly one resource"
+  pub right-tones : (o : ℕ → Owner) → Signals o (at row) 0 (length row) → RightTones o (at row) (length row)
+  -- "each User field in either channel has exactly one resource": one of the plan's
   pub one-resource : (o : ℕ → Owner) → Signals o (at row) 0 (length row) → (c j : ℕ) → j < fieldsBefore c (at row) (length row)
-      → (i : ℕ) × Owns o (at row) (length row) i c j × ((i′ : ℕ) → Owns o (at row) (length row) i′ c j → i′ ≡ i)
+      → (i : ℕ) × (i < length (recordsOf o row)) × Owns o (at row) (length row) i c j × ((i′ : ℕ) → Owns o (at row) (length row) i′ c j → i′ ≡ i)
 
 -- for every bandwidth code b, 0 to 4, and every row of the number of values that it needs
 pub third-demand : (b : ℕ) (row : List ℕ) → b ≤ 4 → length row ≡ 2 ^ b → Third row
@@ -74,8 +81,10 @@ third-demand b row l e = record {
   refused-otherwise = λ x w n. ⊎-elim (λ q. absurd (n (accepted-plan row (subst (Laid row) q w)))) (λ r. r) (refused-layout row x w);
   apart = λ o. subst (λ (n : ℕ). Signals o (at row) 0 n → Apart o (at row) n) (sym e) (λ t. no-shared o (at row) b (omega arith) t);
   not-punctured = λ o. subst (λ (n : ℕ). Signals o (at row) 0 n → NotPunctured o (at row) n) (sym e) (λ t. none-punctured o (at row) b (omega arith) t);
+  right-tones = λ o. subst (λ (n : ℕ). Signals o (at row) 0 n → RightTones o (at row) n) (sym e) (λ t. record-right o (at row) b (omega arith) t);
   one-resource = λ o s c j h. (
     ownerOf o (at row) c (length row) j,
+    owner-listed o (at row) (length row) s c j h,
     owner-owns o (at row) (length row) s c j h,
     λ i′ w. one-owner o (at row) (length row) i′ (ownerOf o (at row) c (length row) j) c j w (owner-owns o (at row) (length row) s c j h),
   );

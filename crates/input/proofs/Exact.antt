@@ -3,21 +3,20 @@ use mathlib.Core.Path.{_≡_, refl, sym, ap, subst, _∙_}
 use mathlib.Core.Bool.{Bool, true, false, not, cond, _&&_}
 use mathlib.Core.List.{List, [], _∷_, _++_, append-assoc, append-nil}
 use Prim.Native.Nat.{ℕ, zero, suc, _+_, _-_, _*_, _/_, _%_, _≤_, _<_}
-use native.Mathlib.Nat.{add-zero, add-suc, eq-or-lt-of-le}
+use native.Mathlib.Nat.{add-zero, eq-or-lt-of-le}
 use native.Mathlib.Omega.{arith}
 use mathlib.Core.Logic.{_⊎_, inl, inr, ⊎-elim}
 use borrow.Author.Tests.{lt-ltb, le-ltb, eq-eqb, ne-eqb, ltb-true, ltb-false, eqb-true, eqb-false}
 use lib.Dec.{T, ltb, eqb}
-use lib.ListN.{length, take, drop, getD, length-append, length-drop, List·getD-append}
-use lib.Seq.{drop-cons, drop-drop, drop-at, drop-append-seam, getD-append-add}
-use Rattle.answer.specs.Filled.{build, build-is, length-build}
+use lib.ListN.{length, drop, getD, length-append}
+use lib.Seq.{drop-cons, drop-at, drop-append-seam, getD-append-add}
+use Rattle.answer.specs.Filled.{build-is, length-build}
 use Rattle.text.specs.Text.{codes}
 use Rattle.input.specs.declared.Scan.{Scan}
 use Rattle.input.specs.declared.Scan.the-variants.{Bad, Pairs}
-use Rattle.input.specs.declared.Parsed.{Parsed}
 use Rattle.input.specs.declared.Parsed.the-variants.{Wrong, Lines}
-use Rattle.input.specs.Form.{Bytes, hexDigit, pairs, line1, line2, line3, textOf, firstLines, Begins, Whole, Wrong-line}
-use Rattle.input.specs.Parse.{hexOf, pick, hexLine, starts, keyed, lineBw, afterOne, afterTwo, threeLines, parsed, pairOf, byteOf, bytesAt, secondAt}
+use Rattle.input.specs.Form.{Bytes, hexDigit, pairs, line1, line2, line3, textOf, Wrong-line}
+use Rattle.input.specs.Parse.{hexOf, pick, hexLine, starts, keyed, lineBw, afterOne, afterTwo, threeLines, parsed, byteOf, bytesAt, secondAt}
 
 -- ---- hex digits: two rules computed at every digit, and at every byte that is one
 below : (ℕ → Bool) → ℕ → Bool

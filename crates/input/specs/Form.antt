@@ -65,4 +65,5 @@ Wrong-line zero s = ⊥
 Wrong-line (suc zero) s = Begins 0 s × (Begins 1 s → ⊥)
 Wrong-line (suc (suc zero)) s = Begins 1 s × (Begins 2 s → ⊥)
 Wrong-line (suc (suc (suc zero))) s = Begins 2 s × (Begins 3 s → ⊥)
-Wrong-line (suc (suc (suc (suc k)))) s = Begins 3 s × (Whole s → ⊥)
+Wrong-line (suc (suc (suc (suc zero)))) s = Begins 3 s × (Whole s → ⊥)
+Wrong-line (suc (suc (suc (suc (suc k))))) s = ⊥

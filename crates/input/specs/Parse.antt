@@ -1,7 +1,7 @@
 -- How the program reads its text, worked out from the left. This is the engine's own computation and nobody has to
 -- believe it: `proofs/Exact.antt` shows that it finds exactly the texts of `Form` and, in any other, the first wrong
 -- line. Assumes nothing.
-use Prim.Native.Nat.{ℕ, zero, suc, _+_, _-_, _*_, _%_, _<_, _≤_}
+use Prim.Native.Nat.{ℕ, suc, _+_, _-_, _*_, _%_, _<_, _≤_}
 use mathlib.Core.Bool.{Bool, true, false, cond}
 use mathlib.Core.List.{List, [], _∷_}
 use lib.Dec.{ltb, eqb}

@@ -1,21 +1,20 @@
 -- The turns of the loops that read the text. Assumes nothing.
 use Prim.Native.Nat.{ℕ, zero, suc, _+_, _-_, _*_, _≤_, _<_, zero-le, suc-le-suc}
-use mathlib.Core.Path.{_≡_, refl, sym, ap, subst, _∙_}
+use mathlib.Core.Path.{_≡_, refl, sym, subst, _∙_}
 use mathlib.Core.Bool.{Bool, true, false, not, cond}
-use mathlib.Core.List.{List, [], _∷_, _++_}
+use mathlib.Core.List.{List, [], _∷_}
 use native.Mathlib.Nat.{add-zero, add-assoc}
 use native.Mathlib.Numerals.{add-one}
 use native.Mathlib.Omega.{arith}
 use lib.Dec.{T, ltb, eqb}
-use borrow.Author.Tests.{lt-ltb, le-ltb, eq-eqb, ne-eqb, ltb-false, ltb-true, eqb-true}
+use borrow.Author.Tests.{lt-ltb, le-ltb, eq-eqb, ne-eqb, ltb-false, eqb-true}
 use lib.ListN.{length, drop, getD, drop-of-length-le, length-drop}
 use lib.Seq.{getD-drop, drop-drop}
 use Rattle.text.specs.Text.{codes}
 use Rattle.input.specs.declared.Scan.{Scan}
 use Rattle.input.specs.declared.Scan.the-variants.{Bad, Pairs}
-use Rattle.input.specs.declared.Parsed.{Parsed}
 use Rattle.input.specs.declared.Parsed.the-variants.{Wrong, Lines}
-use Rattle.input.specs.Parse.{hexOf, pick, hexLine, starts, keyed, lineBw, afterOne, afterTwo, threeLines, parsed, Room}
+use Rattle.input.specs.Parse.{hexOf, pick, hexLine, starts, keyed, lineBw, threeLines, parsed, Room}
 
 pick-same : {A : Type 0} (b : Bool) (s : A) → pick b s s ≡ s
 pick-same true s = refl

@@ -1,9 +1,9 @@
 -- `brachymel::read_through` meets its contract. Assumes nothing.
 use Rattle.brachymel.proofs.Through.{answer-is, kept-bytes, place-is, room-for, holds-words, bytes-are}
 use lib.Seq.{length-take-le}
-use lib.ListN.{length, take, drop}
+use lib.ListN.{take, drop}
 use native.Mathlib.Omega.{arith}
-use mathlib.Core.Path.{_≡_, sym, _∙_}
+use mathlib.Core.Path.{sym, _∙_}
 use borrow.Author.Needs.{needs}
 use Rattle.brachymel.proofs.read_through.Statement.{statement}
 use Rattle.brachymel.proofs.read_through.Tie as tie

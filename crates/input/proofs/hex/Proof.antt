@@ -1,5 +1,5 @@
 -- `input::hex` meets its contract. Assumes nothing.
-use borrow.Author.Tests.{lt-ltb, le-ltb, eq-eqb, ne-eqb}
+use borrow.Author.Tests.{lt-ltb, le-ltb}
 use borrow.Author.Needs.{needs}
 use Rattle.input.proofs.hex.Statement.{statement}
 use Rattle.input.proofs.hex.Tie as tie

@@ -1,6 +1,6 @@
 -- `input::parse` meets its contract. Assumes nothing.
 use borrow.Author.Needs.{needs}
-use mathlib.Core.Path.{_≡_, sym, _∙_}
+use mathlib.Core.Path.{sym, _∙_}
 use Rattle.input.specs.Turns.{parsed-long, parsed-short}
 use Rattle.input.proofs.parse.Statement.{statement}
 use Rattle.input.proofs.parse.Tie as tie

@@ -1,7 +1,7 @@
 -- `input::three_lines` meets its contract. Assumes nothing.
 use native.Mathlib.Omega.{arith}
-use mathlib.Core.Path.{_≡_, sym, _∙_}
-use lib.ListN.{getD, length}
+use mathlib.Core.Path.{sym, _∙_}
+use lib.ListN.{length}
 use Prim.Native.Nat.{_+_, _*_}
 use Rattle.input.specs.Turns.{bw-digit, bw-long, room, wrong-1, wrong-2, wrong-3, wrong-4, right}
 use borrow.Author.Needs.{needs}
