@@ -4,9 +4,9 @@ ghost use Prim.Native.Nat.{_+_, _^_, _≤_, _<_, min};
 ghost use Rattle.check4.specs.Check.{step, check, right};
 ghost use Rattle.check4.specs.Parts.{steps};
 
-// One bit into the register.
+// One bit into the register: the lowest of b.
 fn step_in(r: u32, b: u32) -> u32
-    requires { ⌜ (r < 256) × (b < 2) ⌝ }
+    requires { ⌜ (r < 256) × (b < 2 ^ 22) ⌝ }
     ensures { λ x. ⌜ x ≡ step r b ⌝ }
 {
     (r * 2 % 256) ^ (7 * ((r / 128 + b) % 2))
@@ -14,14 +14,14 @@ fn step_in(r: u32, b: u32) -> u32
 
 // The m lowest bits of w into the register, the lowest first.
 fn bits_in(r: u32, w: u32, m: usize) -> u32
-    requires { ⌜ (r < 256) × (m ≤ 22) ⌝ }
+    requires { ⌜ (r < 256) × (w < 2 ^ 22) ⌝ }
     ensures { λ x. ⌜ x ≡ steps r w m ⌝ }
 {
     let mut x = r;
     let mut v = w;
     let mut k: usize = 0;
     while k < m {
-        x = step_in(x, v % 2);
+        x = step_in(x, v);
         v = v / 2;
         k += 1;
     }

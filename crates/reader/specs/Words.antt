@@ -27,7 +27,8 @@ giver bw c s j = least (λ k. ltb j (before bw s (k + 1))) (subfieldsIn bw c)
 abbrev pub positionOf : ℕ → ℕ → ℕ
 positionOf c k = 2 * k + (c - 1)
 
--- whether the fields of a position share their resource, "over both channels together", in the row's only plan
+-- whether the fields of a position share their resource, "over both channels together", in the row's only plan; for an
+-- accepted frame it is so of the resource that owns the field in any plan (`carried/proofs/Formats.antt`: `user-words`)
 abbrev pub sharedAt : List ℕ → ℕ → Bool
 sharedAt r p = shared (onlyPlan (nth r)) (nth r) p
 

@@ -3,7 +3,8 @@ use borrow.Author.Needs.{needs}
 use Prim.Native.Nat.{ℕ, _+_, _-_, _*_, _/_, _%_, _^_, _≤_, _<_, min}
 use mathlib.Core.Path.{_≡_, sym, _∙_, refl, ap}
 use native.Mathlib.Omega.{arith}
-use Rattle.bits.specs.Bits.{field}
+use lib.Pow.{pow-mono}
+use Rattle.bits.specs.Fields.{field-lt}
 use Rattle.check4.specs.Check.{register, sent, check}
 use Rattle.check4.specs.Checks.{register-lt}
 use Rattle.check4.specs.Parts.{steps, register-part}
@@ -33,7 +34,12 @@ field-at-requires : tie.Need-field-at-requires Inv-loop μ-loop
 field-at-requires c κs = search needs
 
 bits-in-requires : tie.Need-bits-in-requires Inv-loop μ-loop
-bits-in-requires c κs = search needs
+bits-in-requires c κs =
+    let a = c .before .before .before .before .before .args in
+    let m = c .before .part-of .result in
+    let l = field-lt (a .s .now) (a .at + c .before .before .before .loop .k) m in
+    let h : 2 ^ m ≤ 2 ^ 22 = pow-mono {i = m} {j = 22} (c .before .part-of .ensures .1) in
+    (search needs, rw (c .field-at .ensures) (omega arith))
 
 add-k : tie.Need-add-k Inv-loop μ-loop
 add-k c = search needs
