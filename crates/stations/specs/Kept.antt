@@ -12,7 +12,7 @@ use lib.Dec.{eqb, ltb, leb}
 use lib.ListN.{length, getD, set, replicate}
 use lib.Seq.{getD-set-same, getD-set-other}
 use borrow.Author.Tests.{lt-ltb, le-ltb, eq-eqb, ne-eqb, ltb-true, leb-true}
-use Rattle.answer.specs.Least.{least, least-start, least-cong}
+use Rattle.answer.specs.Least.{least, least-none, least-cong}
 use Rattle.bits.specs.Bits.{bit, put}
 use Rattle.bits.specs.Writes.{put-in, put-before, put-after}
 use Rattle.stations.specs.Stations.{seenBefore, repeated}
@@ -42,6 +42,18 @@ repeated-by id seen n j l f =
 -- so the first repeat of the array is theirs
 pub repeat-held : (id : ℕ → ℕ) (seen : List ℕ) (n : ℕ) → Holds id seen n → least (repeated (λ i. getD seen i 0)) n ≡ least (repeated id) n
 repeat-held id seen n f = least-cong (repeated (λ i. getD seen i 0)) (repeated id) n (λ k l. repeated-by id seen n k l f)
+
+-- the first of all was not seen before
+lone : (id : ℕ → ℕ) → repeated id 0 ≡ false
+unfolding least
+lone id = go (ltb 0 (id 0) && leb (id 0) 2006)
+  where
+    go : (t : Bool) → t && false ≡ false
+    go true = refl
+    go false = refl
+
+pub repeat-none : (id : ℕ → ℕ) (n : ℕ) → n < 2 → least (repeated id) n ≡ n
+repeat-none id n l = least-none (repeated id) n (λ k m. let e : k ≡ 0 = omega arith in rw e (lone id))
 
 -- ---- a bit for each STA-ID, set where it is one of them
 

@@ -74,6 +74,9 @@ fn first_repeated(bw: u32, a: &[u8], b: &[u8], n: usize, m: usize) -> usize
     ensures { λ r. ⌜ r ≡ firstRepeated bw (now (a .entry)) (now (b .entry)) n m ⌝ }
     ensures { λ r. ⌜ r ≤ n + m ⌝ }
 {
+    if n + m < 2 {
+        return n + m; // one station repeats none
+    }
     let ids = stations_of(bw, a, b, n, m);
     first_again(&ids, n + m)
 }
