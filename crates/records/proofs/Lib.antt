@@ -1,6 +1,7 @@
 pub mod Listing
 pub mod Filling
 pub mod Owners
+pub mod Entering
 pub mod Subcarriers
 pub mod Sums
 pub mod Shares

@@ -7,11 +7,12 @@ ghost use mathlib.Core.Path.{_≡_};
 ghost use mathlib.Core.Bool.{cond};
 ghost use Prim.Native.Nat.{_+_, _*_, _/_, _%_, _≤_, _<_};
 ghost use lib.ListN.{length, replicate};
+ghost use Rattle.answer.specs.Filled.{build, filled};
 ghost use Rattle.plan.specs.Plan.{at};
 ghost use Rattle.plan.specs.Guess.{onlyPlan};
 ghost use Rattle.resource.specs.Starts.{pieceAt};
 ghost use Rattle.records.specs.Records.{inChannel, divides, pieceFields, pieceRecord, lead, larger, largerRecord, leftOut, recordAt, listed, listAt, recordsFrom, recordsOf, blank, planOf};
-ghost use Rattle.records.specs.Owns.{lowest, ownerAt, ownerOf};
+ghost use Rattle.records.specs.Owns.{fieldsBefore, lowest, ownerAt, ownerOf};
 
 // A resource of the plan: its segment, its lowest position, and how many User fields of each channel are its own.
 pub struct Record {
@@ -122,12 +123,11 @@ fn larger_record(o: Owner, row: &[u16], p: usize) -> Record
     }
 }
 
-// The k-th of the resources whose lowest position is p.
-fn record_at(row: &[u16], p: usize, k: u16) -> Record
-    requires { ⌜ p < 4096 ⌝ }
-    ensures { λ r. ⌜ r ≡ recordAt (onlyPlan (at (now (row .entry))) p) (at (now (row .entry))) p k ⌝ }
+// The k-th of the resources whose lowest position is p, which is given to o.
+fn record_at(o: Owner, row: &[u16], p: usize, k: u16) -> Record
+    requires { ⌜ (p < 4096) × (leftOut o < 4) ⌝ }
+    ensures { λ r. ⌜ r ≡ recordAt o (at (now (row .entry))) p k ⌝ }
 {
-    let o = plan::owner_at(row, p);
     match o {
         Owner::Itself => piece_record(value_at(row, p), p, k),
         Owner::Pair => larger_record(o, row, p),
@@ -178,14 +178,18 @@ pub fn plan_of(row: &[u16]) -> Plan
     let mut count: usize = 0;
     let mut p: usize = 0;
     let mut k: u16 = 0;
+    let mut o = plan::owner_at(row, 0);
+    let mut here = listed_of(o, 0, value_at(row, 0));
     while p < n {
-        if k < listed_at(row, p) {
-            records[count] = record_at(row, p, k);
+        if k < here {
+            records[count] = record_at(o, row, p, k);
             count += 1;
             k += 1;
         } else {
             p += 1;
             k = 0;
+            o = plan::owner_at(row, p);
+            here = listed_of(o, p, value_at(row, p));
         }
     }
     Plan { count, records }
@@ -246,4 +250,81 @@ pub fn owner_of(row: &[u16], channel: usize, j: usize) -> usize
         p += 1;
     }
     144
+}
+
+// ---- the owners of all fields at once
+
+// For each position of the row, how many resources have a lower one for their lowest.
+fn numbers_before(row: &[u16]) -> [u16; 16]
+    requires { ⌜ length (now row) ≤ 16 ⌝ }
+    ensures { λ r. ⌜ r ≡ filled (λ p. length (recordsFrom (onlyPlan (at (now (row .entry)))) (at (now (row .entry))) p)) (length (now (row .entry))) (replicate 16 0) ⌝ }
+{
+    let n = row.len();
+    let mut before = [0u16; 16];
+    let mut sum: u16 = 0;
+    let mut p: usize = 0;
+    while p < n {
+        before[p] = sum;
+        sum += listed_at(row, p);
+        p += 1;
+    }
+    before
+}
+
+// The number of the resource that owns the first field of position p.
+fn first_owner(before: &[u16; 16], row: &[u16], p: usize) -> u16
+    requires { ⌜ (length (now row) ≤ 16) × (p < length (now row)) × (now before ≡ filled (λ q. length (recordsFrom (onlyPlan (at (now row))) (at (now row)) q)) (length (now row)) (replicate 16 0)) ⌝ }
+    ensures { λ r. ⌜ r ≡ ownerAt (onlyPlan (at (now (row .entry)))) (at (now (row .entry))) p 0 ⌝ }
+{
+    if is_divided(value_at(row, p)) {
+        return before[p];
+    }
+    before[lowest_of(plan::owner_at(row, p), p)]
+}
+
+// Enters the owners of the fields that position p gives a channel, from field j on; returns the field after them.
+fn enter_owners(
+    owners: &mut [u16; 72],
+    before: &[u16; 16],
+    row: &[u16],
+    channel: usize,
+    p: usize,
+    j: usize,
+) -> usize
+    requires { ⌜ (length (now row) ≤ 16) × (p < length (now row)) × (now before ≡ filled (λ q. length (recordsFrom (onlyPlan (at (now row))) (at (now row)) q)) (length (now row)) (replicate 16 0)) ⌝ }
+    requires { ⌜ (j ≡ fieldsBefore channel (at (now row)) p) × (now owners ≡ filled (ownerOf (onlyPlan (at (now row))) (at (now row)) channel (length (now row))) j (replicate 72 144)) ⌝ }
+    ensures { λ r. ⌜ r ≡ fieldsBefore channel (at (now (row .entry))) (p + 1) ⌝ }
+    ensures { λ r. ⌜ now (owners .exit) ≡ filled (ownerOf (onlyPlan (at (now (row .entry)))) (at (now (row .entry))) channel (length (now (row .entry)))) r (replicate 72 144) ⌝ }
+{
+    let v = value_at(row, p);
+    let f = in_channel(channel, p, resource::fields_of(v)) as usize;
+    if f == 0 {
+        return j;
+    }
+    let step = one_if(is_divided(v)); // each field of a divided position is another piece's
+    let mut number = first_owner(before, row, p);
+    let mut k: usize = 0;
+    while k < f {
+        owners[j + k] = number;
+        number += step;
+        k += 1;
+    }
+    j + f
+}
+
+// The number of the resource that owns each field of a channel (0 or 1); 144 where there is no such field.
+pub fn owners_of(row: &[u16], channel: usize) -> [u16; 72]
+    requires { ⌜ length (now row) ≤ 16 ⌝ }
+    ensures { λ r. ⌜ r ≡ build (ownerOf (onlyPlan (at (now (row .entry)))) (at (now (row .entry))) channel (length (now (row .entry)))) 72 ⌝ }
+{
+    let n = row.len();
+    let before = numbers_before(row);
+    let mut owners = [144u16; 72];
+    let mut j: usize = 0;
+    let mut p: usize = 0;
+    while p < n {
+        j = enter_owners(&mut owners, &before, row, channel, p, j);
+        p += 1;
+    }
+    owners
 }

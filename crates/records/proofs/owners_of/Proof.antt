@@ -1,0 +1,62 @@
+-- `records::owners_of` meets its contract. Assumes nothing.
+use Rattle.records.proofs.Entering.{few-fields, entered}
+use Rattle.records.specs.Owns.{fieldsBefore, ownerOf}
+use Rattle.answer.specs.Filled.{filled, filled-start}
+use Rattle.plan.specs.Guess.{onlyPlan}
+use Rattle.plan.specs.Plan.{at}
+use lib.ListN.{length, replicate}
+use mathlib.Core.Path.{_≡_, refl, _∙_}
+use Prim.Native.Nat.{ℕ, _-_, _≤_}
+use native.Mathlib.Omega.{arith}
+use borrow.Author.Needs.{needs}
+use Rattle.records.proofs.owners_of.Statement.{statement}
+use Rattle.records.proofs.owners_of.Tie as tie
+
+abbrev Inv-loop : tie.InvT-loop
+Inv-loop row channel n before owners₀ j₀ p₀ owners j p =
+    (p ≤ n) × (j ≡ fieldsBefore channel (at row) p) × (owners ≡ filled (ownerOf (onlyPlan (at row)) (at row) channel (length row)) j (replicate 72 144))
+
+abbrev μ-loop : tie.MeasureT-loop
+μ-loop row channel n before owners₀ j₀ p₀ owners j p = n - p
+
+numbers-before-requires : tie.Need-numbers-before-requires Inv-loop μ-loop
+numbers-before-requires c κs = search needs
+
+loop-holds : tie.Need-loop-holds Inv-loop μ-loop
+loop-holds c = (omega arith, refl, filled-start _ _)
+
+enter-owners-requires : tie.Need-enter-owners-requires Inv-loop μ-loop
+enter-owners-requires c κs =
+    let l = c .before .before .before .loop in
+    ((c .before .before .before .before .before .before .pre, omega arith, c .before .before .before .before .numbers-before .ensures), (l .inv .1, l .inv .2))
+
+add-p : tie.Need-add-p Inv-loop μ-loop
+add-p c = omega arith
+
+loop-less : tie.Need-loop-less Inv-loop μ-loop
+loop-less c = omega arith
+
+loop-again : tie.Need-loop-again Inv-loop μ-loop
+loop-again c = (omega arith, c .enter-owners .ensures .0, c .enter-owners .ensures .1)
+
+returns : tie.Need-returns Inv-loop μ-loop
+returns c =
+    let s = c .before .before .before .before .args in
+    let r = s .row .now in
+    let e : c .before .loop .p ≡ length r = omega arith in
+    let j : c .before .loop .j ≡ fieldsBefore (s .channel) (at r) (length r) = rw (← e) (c .before .loop .inv .1) in
+    entered (onlyPlan (at r)) (at r) (s .channel) (length r) (c .before .loop .owners) (few-fields (s .channel) (at r) (length r) (c .before .before .before .before .pre)) (rw (← j) (c .before .loop .inv .2))
+
+pub owners-of-spec : {M : Type 1} → statement M
+owners-of-spec =
+    tie.close
+    (tie.spec
+    Inv-loop
+    μ-loop
+    numbers-before-requires
+    loop-holds
+    enter-owners-requires
+    add-p
+    loop-less
+    loop-again
+    returns)
