@@ -11,7 +11,7 @@ use borrow.Author.Tests.{lt-ltb, le-ltb, ltb-true}
 use lib.Dec.{ltb}
 use lib.IntN.{ℤ, pos, negsuc, _-ℤ_}
 use lib.ListN.{length, take, drop, getD, set, length-append}
-use lib.Seq.{sets, length-sets, sets-eq, take-suc, take-all, length-take-le}
+use lib.Seq.{set-out, sets, length-sets, sets-eq, take-suc, take-all, length-take-le}
 use Rattle.text.specs.Text.{codes, decs, dec, signed, upto, Wrote}
 
 -- ---- writing
@@ -45,6 +45,14 @@ front {d} {e} {t} h w = spliced (rw zero-add h) w ∙ ap (λ (k : ℕ). t ++ dro
 pub count : {d e t : List ℕ} {r : ℕ} → Wrote d 0 t e r → r ≡ length t
 count {t = t} w = w .next ∙ zero-add (length t)
 
+-- past the buffer's end nothing is written
+past-sets : (d : List ℕ) (at : ℕ) (t : List ℕ) → length d ≤ at → sets d at t ≡ d
+past-sets d at [] l = refl
+past-sets d at (x ∷ t) l = rw (set-out d at x l) (past-sets d (suc at) t (omega arith))
+
+pub past : (d : List ℕ) (at : ℕ) (t : List ℕ) → length d ≤ at → Wrote d at t d (at + length t)
+past d at t l = record { bytes = sym (past-sets d at t l); next = refl }
+
 -- into no room nothing is written
 dry-sets : (at : ℕ) (t : List ℕ) → _≡_ {A = List ℕ} (sets [] at t) []
 dry-sets at [] = refl
@@ -72,6 +80,10 @@ pub digit-more : {d e f : List ℕ} {at o r : ℕ} (k n : ℕ) → (k ≡ 0 → 
 digit-more zero n h l p q = absurd (h refl)
 digit-more (suc k) n h l p q = rw (le-ltb n 10 l) (after (rw sub-one at p) q)
 
+-- a digit that is the whole of its number
+pub digit-alone : {d f : List ℕ} {at r : ℕ} (k n : ℕ) → n < 10 → Wrote d at ((48 + n) ∷ []) f r → Wrote d at (decs (suc k) n) f r
+digit-alone k n l q = let e : n % 10 ≡ n = omega arith in rw (lt-ltb n 10 l, e) q
+
 one-more : (b : Bool) (x : List ℕ) (y k : ℕ) → length x ≤ k → length (cond b [] x ++ (y ∷ [])) ≤ suc k
 one-more true x y k h = omega arith
 one-more false x y k h = rw length-append (omega arith)
@@ -92,6 +104,17 @@ decs-fit (suc f) zero n l = rw (lt-ltb n 10 (omega arith)) (omega arith)
 decs-fit (suc f) (suc k) n l =
     one-more (ltb n 10) (decs f (n / 10)) _ (suc k)
     (decs-fit f k (n / 10) (div-lt-iff-lt-mul {k = 10} (omega arith) .1 (rw (pow-suc 10 (suc k)) at l)))
+
+-- so that more may be asked for
+decs-same : (k n : ℕ) → n < 10 ^ suc k → decs (suc k) n ≡ decs (suc (suc k)) n
+decs-same zero n l = rw (lt-ltb n 10 (omega arith))
+decs-same (suc k) n l = ap (λ (t : List ℕ). cond (ltb n 10) [] t ++ ((48 + n % 10) ∷ [])) (decs-same k (n / 10) (div-lt-iff-lt-mul {k = 10} (omega arith) .1 (rw (pow-suc 10 (suc k)) at l)))
+
+-- a digit more
+pub dec-more : {d e f : List ℕ} {at o r : ℕ} (n : ℕ) → 10 ≤ n → n < 10 ^ 20 → Wrote d at (dec (n / 10)) e o → Wrote e o ((48 + n % 10) ∷ []) f r → Wrote d at (dec n) f r
+unfolding dec
+dec-more n l h p q =
+    digit-more 20 n (λ (e : 20 ≡ 0). omega arith) l (rw (sym (decs-same 18 (n / 10) (div-lt-iff-lt-mul {k = 10} (omega arith) .1 h))) at p) q
 
 pub dec-fit : (k n : ℕ) → n < 10 ^ suc k → length (dec n) ≤ suc k
 unfolding dec
@@ -139,6 +162,12 @@ pub upto-cong : (f g : ℕ → List ℕ) (n : ℕ) → ((i : ℕ) → i < n → 
 unfolding upto
 upto-cong f g zero h = refl
 upto-cong f g (suc n) h = rw (upto-cong f g n (λ i l. h i (omega arith)), h n (omega arith))
+
+-- the first m items, then n more
+pub upto-append : (f : ℕ → List ℕ) (m n : ℕ) → upto f (m + n) ≡ upto f m ++ upto (λ i. f (m + i)) n
+unfolding upto
+upto-append f m zero = rw (add-zero m, append-nil)
+upto-append f m (suc n) = rw (add-suc m n, upto-append f m n, append-assoc)
 
 -- ---- a decimal says its number: what digits say after a
 abbrev pub says : ℕ → List ℕ → ℕ

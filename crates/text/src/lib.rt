@@ -2,7 +2,7 @@
 // either way: one writer counts and writes.
 ghost use mathlib.Core.Path.{_≡_};
 ghost use mathlib.Core.List.{[], _∷_, _++_};
-ghost use Prim.Native.Nat.{_+_, _≤_, _<_};
+ghost use Prim.Native.Nat.{_+_, _%_, _≤_, _<_};
 ghost use lib.ListN.{length};
 ghost use lib.IntN.{pos, _-ℤ_};
 ghost use Rattle.text.specs.Text.{Wrote, decs, dec, signed};
@@ -19,8 +19,8 @@ pub fn put(out: &mut [u8], at: usize, b: u8) -> usize
     }
 }
 
-// A fixed text, byte for byte.
-pub fn put_all(out: &mut [u8], at: usize, s: &[u8]) -> usize
+// A fixed text in a buffer that may end inside it.
+fn put_each(out: &mut [u8], at: usize, s: &[u8]) -> usize
     requires { ⌜ at + length (now s) ≤ 65536 ⌝ }
     ensures { λ r. ⌜ Wrote (now (out .entry)) at (now (s .entry)) (now (out .exit)) r ⌝ }
 {
@@ -33,27 +33,88 @@ pub fn put_all(out: &mut [u8], at: usize, s: &[u8]) -> usize
     o
 }
 
-fn put_decs(out: &mut [u8], at: usize, k: usize, n: u64) -> usize
-    requires { ⌜ at + k ≤ 65536 ⌝ }
-    ensures { λ r. ⌜ Wrote (now (out .entry)) at (decs k n) (now (out .exit)) r ⌝ }
+// A fixed text in a buffer that reaches its end.
+fn put_whole(out: &mut [u8], at: usize, s: &[u8]) -> usize
+    requires { ⌜ (at + length (now s) ≤ 65536) × (at + length (now s) ≤ length (now out)) ⌝ }
+    ensures { λ r. ⌜ Wrote (now (out .entry)) at (now (s .entry)) (now (out .exit)) r ⌝ }
 {
-    if k == 0 {
-        return at;
+    let mut j = 0;
+    while j < s.len() {
+        out[at + j] = s[j];
+        j += 1;
     }
-    if n < 10 {
-        return put(out, at, 48 + (n % 10) as u8);
-    }
-    let o = put_decs(out, at, k - 1, n / 10);
-    put(out, o, 48 + (n % 10) as u8)
+    at + j
 }
 
-// A number in decimal.
+// A fixed text, byte for byte. Most are written whole or only counted.
+pub fn put_all(out: &mut [u8], at: usize, s: &[u8]) -> usize
+    requires { ⌜ at + length (now s) ≤ 65536 ⌝ }
+    ensures { λ r. ⌜ Wrote (now (out .entry)) at (now (s .entry)) (now (out .exit)) r ⌝ }
+{
+    if at + s.len() <= out.len() {
+        return put_whole(out, at, s);
+    }
+    if out.len() <= at {
+        return at + s.len();
+    }
+    put_each(out, at, s)
+}
+
+// The last digit of a number.
+fn put_digit(out: &mut [u8], at: usize, n: u64) -> usize
+    requires { ⌜ at + 1 ≤ 65536 ⌝ }
+    ensures { λ r. ⌜ Wrote (now (out .entry)) at ((48 + n % 10) ∷ []) (now (out .exit)) r ⌝ }
+{
+    put(out, at, 48 + (n % 10) as u8)
+}
+
+// At most two digits, of the 18 that may stand before the last two of a number.
+fn put_two(out: &mut [u8], at: usize, n: u64) -> usize
+    requires { ⌜ (at + 18 ≤ 65536) × (n < 100) ⌝ }
+    ensures { λ r. ⌜ Wrote (now (out .entry)) at (decs 18 n) (now (out .exit)) r ⌝ }
+{
+    if n < 10 {
+        return put_digit(out, at, n);
+    }
+    let o = put(out, at, 48 + (n / 10) as u8);
+    put_digit(out, o, n)
+}
+
+// At most three, of the 19 before the last one.
+fn put_three(out: &mut [u8], at: usize, n: u64) -> usize
+    requires { ⌜ (at + 19 ≤ 65536) × (n < 1000) ⌝ }
+    ensures { λ r. ⌜ Wrote (now (out .entry)) at (decs 19 n) (now (out .exit)) r ⌝ }
+{
+    if n < 10 {
+        return put_digit(out, at, n);
+    }
+    let o = put_two(out, at, n / 10);
+    put_digit(out, o, n)
+}
+
+// At most four.
+fn put_four(out: &mut [u8], at: usize, n: u64) -> usize
+    requires { ⌜ (at + 20 ≤ 65536) × (n < 10000) ⌝ }
+    ensures { λ r. ⌜ Wrote (now (out .entry)) at (decs 20 n) (now (out .exit)) r ⌝ }
+{
+    if n < 10 {
+        return put_digit(out, at, n);
+    }
+    let o = put_three(out, at, n / 10);
+    put_digit(out, o, n)
+}
+
+// A number in decimal. Most have at most four digits.
 pub fn put_dec(out: &mut [u8], at: usize, n: u64) -> usize
     requires { ⌜ at + 20 ≤ 65536 ⌝ }
     ensures { λ r. ⌜ Wrote (now (out .entry)) at (dec n) (now (out .exit)) r ⌝ }
     ensures bounded { λ r. ⌜ r ≤ at + 20 ⌝ }
 {
-    put_decs(out, at, 20, n)
+    if n < 10000 {
+        return put_four(out, at, n);
+    }
+    let o = put_dec(out, at, n / 10);
+    put_digit(out, o, n)
 }
 
 // The integer u - zero in decimal.

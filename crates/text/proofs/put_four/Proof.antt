@@ -1,0 +1,41 @@
+-- `text::put_four` meets its contract. Assumes nothing.
+use borrow.Author.Needs.{needs}
+use mathlib.Core.Path.{_≡_}
+use native.Mathlib.Omega.{arith}
+use Prim.Native.Nat.{_/_}
+use Rattle.text.specs.Laws.{digit-one, digit-more, decs-short}
+use Rattle.text.proofs.put_four.Statement.{statement}
+use Rattle.text.proofs.put_four.Tie as tie
+
+put-digit-requires : tie.Need-put-digit-requires
+put-digit-requires c κs = search needs
+
+same-length : tie.Need-same-length
+same-length c = search needs
+
+returns : tie.Need-returns
+returns c = digit-one 20 (c .before .before .before .before .before .before .args .n) (λ (e : 20 ≡ 0). omega arith) (c .before .before .before .before .if1 .taken) (c .before .before .put-digit .ensures)
+
+put-three-requires : tie.Need-put-three-requires
+put-three-requires c κs = search needs
+
+put-digit-requires-2 : tie.Need-put-digit-requires-2
+put-digit-requires-2 c κs = omega (arith, decs-short 19 (c .before .before .before .before .before .before .before .args .n / 10), c .before .before .before .put-three .ensures .next)
+
+same-length-2 : tie.Need-same-length-2
+same-length-2 c = search needs
+
+returns-2 : tie.Need-returns-2
+returns-2 c = digit-more 20 (c .before .before .before .before .before .before .before .before .before .before .args .n) (λ (e : 20 ≡ 0). omega arith) (c .before .before .before .before .before .before .before .before .if1 .left) (c .before .before .before .before .before .before .put-three .ensures) (c .before .before .put-digit2 .ensures)
+
+pub put-four-spec : {M : Type 1} → statement M
+put-four-spec =
+    tie.close
+    (tie.spec
+    put-digit-requires
+    same-length
+    returns
+    put-three-requires
+    put-digit-requires-2
+    same-length-2
+    returns-2)
