@@ -12,10 +12,13 @@ use records::Plan;
 use records::Record;
 ghost use mathlib.Core.Path.{_≡_};
 ghost use Prim.Native.Nat.{_+_, _*_, _≤_, _<_};
-ghost use lib.ListN.{length};
-ghost use Rattle.text.specs.Text.{Wrote};
+ghost use lib.ListN.{length, getD};
+ghost use Rattle.text.specs.Text.{Wrote, upto};
+ghost use Rattle.bits.specs.Bits.{field};
+ghost use Rattle.channel.specs.Layout.{userAt};
 ghost use Rattle.input.specs.Parse.{bytesAt, secondAt};
-ghost use Rattle.listing.specs.Listing.{recordLine, planLines, staLineAt, staLines, listingOf, listing, listAnswer, listAfter, frameText, programText};
+ghost use Rattle.listing.specs.Lines.{staLine};
+ghost use Rattle.listing.specs.Listing.{recordLine, planLines, staLines, listingOf, listing, listAnswer, listAfter, frameText, programText};
 
 // ---- the listing of an accepted frame
 
@@ -46,28 +49,27 @@ fn put_records(out: &mut [u8], at: usize, n: u16, plan: Plan) -> usize
     o
 }
 
-// The line of User field i over both channels, m of which are channel 1's.
-fn put_station(
-    out: &mut [u8],
-    at: usize,
-    bw: u32,
-    a: &[u8],
-    b: &[u8],
-    row: &[u16],
-    m: usize,
-    i: usize,
-) -> usize
-    requires { ⌜ (at ≤ 59000) × (m ≤ 72) × (i < m + 72) × (length (now row) ≤ 16) ⌝ }
-    ensures { λ r. ⌜ Wrote (now (out .entry)) at (staLineAt bw (now (row .entry)) (now (a .entry)) (now (b .entry)) m i) (now (out .exit)) r ⌝ }
-    ensures bounded { λ r. ⌜ r ≤ at + 55 ⌝ }
+fn number_at(owners: &[u16; 72], i: usize) -> u16
+    requires { ⌜ i < 72 ⌝ }
+    ensures { λ r. ⌜ r ≡ getD (now (owners .entry)) i 0 ⌝ }
 {
-    if i < m {
-        let id = bits::field_at(a, channel::user_bit(bw, i), 11);
-        put_sta(out, at, id, records::owner_of(row, 0, i) + 1)
-    } else {
-        let id = bits::field_at(b, channel::user_bit(bw, i - m), 11);
-        put_sta(out, at, id, records::owner_of(row, 1, i - m) + 1)
+    owners[i]
+}
+
+// A line for each of the n User fields of a channel, with the numbers of their owners, from 0.
+fn put_channel(out: &mut [u8], at: usize, bw: u32, s: &[u8], owners: &[u16; 72], n: usize) -> usize
+    requires { ⌜ (at ≤ 44000) × (n ≤ 72) ⌝ }
+    ensures { λ r. ⌜ Wrote (now (out .entry)) at (upto (λ i. staLine (field (now (s .entry)) (userAt bw i) 11) (getD (now (owners .entry)) i 0 + 1)) n) (now (out .exit)) r ⌝ }
+    ensures bounded { λ r. ⌜ r ≤ at + 3960 ⌝ }
+{
+    let mut o = at;
+    let mut i: usize = 0;
+    while i < n {
+        let id = bits::field_at(s, channel::user_bit(bw, i), 11);
+        o = put_sta(out, o, id, number_at(owners, i) as usize + 1);
+        i += 1;
     }
+    o
 }
 
 // A line for each User field, of m in channel 1 and k in channel 2.
@@ -84,13 +86,10 @@ fn put_stations(
     requires { ⌜ (at ≤ 40000) × (m ≤ 72) × (k ≤ 72) × (length (now row) ≤ 16) ⌝ }
     ensures { λ r. ⌜ Wrote (now (out .entry)) at (staLines bw (now (row .entry)) (now (a .entry)) (now (b .entry)) m (m + k)) (now (out .exit)) r ⌝ }
 {
-    let mut o = at;
-    let mut i: usize = 0;
-    while i < m + k {
-        o = put_station(out, o, bw, a, b, row, m, i);
-        i += 1;
-    }
-    o
+    let first = records::owners_of(row, 0);
+    let second = records::owners_of(row, 1);
+    let o = put_channel(out, at, bw, a, &first, m);
+    put_channel(out, o, bw, b, &second, k)
 }
 
 // The listing of a frame whose row is given, with m fields in channel 1 and k in channel 2.

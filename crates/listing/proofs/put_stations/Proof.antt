@@ -1,57 +1,43 @@
 -- `listing::put_stations` meets its contract. Assumes nothing.
 use borrow.Author.Needs.{needs}
 use native.Mathlib.Omega.{arith}
+use mathlib.Core.List.{List}
 use mathlib.Core.Path.{_≡_}
-use Prim.Native.Nat.{_+_, _-_, _*_, _≤_}
 use Rattle.text.specs.Text.{Wrote, upto}
-use Rattle.text.specs.Laws.{no-item, item, kept}
-use Rattle.listing.specs.Listing.{staLineAt, staLines}
+use Rattle.text.specs.Laws.{after}
+use Rattle.listing.proofs.Channels.{ownedLine, ownersIn, both-channels}
 use Rattle.listing.proofs.put_stations.Statement.{statement}
 use Rattle.listing.proofs.put_stations.Tie as tie
 
-abbrev Inv-loop : tie.InvT-loop
-Inv-loop out₀ at bw a b row m k o₀ i₀ out o i =
-    (i ≤ m + k) × Wrote out₀ at (upto (staLineAt bw row a b m) i) out o × (o ≤ at + 55 * i)
+owners-of-requires : tie.Need-owners-of-requires
+owners-of-requires c κs = search needs
 
-abbrev μ-loop : tie.MeasureT-loop
-μ-loop out₀ at bw a b row m k o₀ i₀ out o i = m + k - i
+owners-of-requires-2 : tie.Need-owners-of-requires-2
+owners-of-requires-2 c κs = search needs
 
-loop-holds : tie.Need-loop-holds Inv-loop μ-loop
-loop-holds c = (search needs, no-item _ _ _, omega arith)
+put-channel-requires : tie.Need-put-channel-requires
+put-channel-requires c κs = search needs
 
-add-loop : tie.Need-add-loop Inv-loop μ-loop
-add-loop c = search needs
+put-channel-requires-2 : tie.Need-put-channel-requires-2
+put-channel-requires-2 c κs = search needs
 
-put-station-requires : tie.Need-put-station-requires Inv-loop μ-loop
-put-station-requires c κs = search needs
+same-length : tie.Need-same-length
+same-length c = search needs
 
-add-i : tie.Need-add-i Inv-loop μ-loop
-add-i c = search needs
-
-loop-less : tie.Need-loop-less Inv-loop μ-loop
-loop-less c = search needs
-
-loop-again : tie.Need-loop-again Inv-loop μ-loop
-loop-again c = (omega arith, item _ _ (c .before .before .before .before .before .loop .inv .1) (c .before .before .put-station .ensures .0), omega arith)
-
-same-length : tie.Need-same-length Inv-loop μ-loop
-same-length c = kept (c .before .loop .inv .1)
-
-returns : tie.Need-returns Inv-loop μ-loop
-unfolding staLines
-returns c = let e : c .before .loop .i ≡ c .before .before .before .before .before .before .args .m + c .before .before .before .before .before .before .args .k = omega arith in rw e at (c .before .loop .inv .1)
+returns : tie.Need-returns
+returns c =
+    let s = c .before .before .before .before .before .before .before .before .before .before .before .before .before .before .before .before .args in
+    let f = c .before .before .before .before .before .before .before .put-channel .ensures .0 in
+    let g = c .before .before .put-channel2 .ensures .0 in
+    rw (← both-channels (s .bw) (s .row .now) (s .a .now) (s .b .now) (s .m) (s .k) (omega arith) (omega arith)) (after {t = upto (ownedLine (s .bw) (s .a .now) (ownersIn (s .row .now) 0)) (s .m)} {u = upto (ownedLine (s .bw) (s .b .now) (ownersIn (s .row .now) 1)) (s .k)} (rw (c .before .before .before .before .before .before .before .before .before .before .before .owners-of .ensures) at f) (rw (c .before .before .before .before .before .before .before .before .before .before .owners-of2 .ensures) at g))
 
 pub put-stations-spec : {M : Type 1} → statement M
 put-stations-spec =
     tie.close
     (tie.spec
-    Inv-loop
-    μ-loop
-    loop-holds
-    add-loop
-    put-station-requires
-    add-i
-    loop-less
-    loop-again
+    owners-of-requires
+    owners-of-requires-2
+    put-channel-requires
+    put-channel-requires-2
     same-length
     returns)

@@ -1,0 +1,45 @@
+-- The `sta=` lines of both channels, one after the other, from the numbers of their owners. Assumes nothing.
+use mathlib.Core.Path.{_≡_, sym, ap, _∙_}
+use mathlib.Core.List.{List, _++_}
+use Prim.Native.Nat.{ℕ, _+_, _-_, _≤_, _<_}
+use native.Mathlib.Omega.{arith}
+use borrow.Author.Tests.{lt-ltb, le-ltb}
+use lib.ListN.{length, getD}
+use Rattle.answer.specs.Filled.{build, getD-build}
+use Rattle.text.specs.Text.{upto}
+use Rattle.text.specs.Laws.{upto-append, upto-cong}
+use Rattle.bits.specs.Bits.{field}
+use Rattle.channel.specs.Layout.{userAt}
+use Rattle.plan.specs.Plan.{at}
+use Rattle.plan.specs.Guess.{onlyPlan}
+use Rattle.records.specs.Owns.{ownerOf}
+use Rattle.listing.specs.Lines.{staLine}
+use Rattle.listing.specs.Listing.{ownerIn, staLineAt, staLines}
+
+-- the line of field i of a channel whose bytes are s, its owner the i-th number
+abbrev pub ownedLine : ℕ → List ℕ → List ℕ → ℕ → List ℕ
+ownedLine bw s owners i = staLine (field s (userAt bw i) 11) (getD owners i 0 + 1)
+
+-- the numbers of the owners of channel c's fields, from 0
+abbrev pub ownersIn : List ℕ → ℕ → List ℕ
+ownersIn r c = build (ownerOf (onlyPlan (at r)) (at r) c (length r)) 72
+
+module _ (bw : ℕ) (r a b : List ℕ) (m : ℕ) where
+  in-first : (i : ℕ) → i < 72 → i < m → staLineAt bw r a b m i ≡ ownedLine bw a (ownersIn r 0) i
+  unfolding staLineAt ownerIn
+  in-first i l h = rw (lt-ltb i m h, getD-build (ownerOf (onlyPlan (at r)) (at r) 0 (length r)) 72 i 0 l)
+
+  in-second : (i : ℕ) → i < 72 → staLineAt bw r a b m (m + i) ≡ ownedLine bw b (ownersIn r 1) i
+  unfolding staLineAt ownerIn
+  in-second i l =
+      let e : m + i - m ≡ i = omega arith in
+      rw (le-ltb (m + i) m (omega arith), e, getD-build (ownerOf (onlyPlan (at r)) (at r) 1 (length r)) 72 i 0 l)
+
+  pub both-channels : (k : ℕ) → m ≤ 72 → k ≤ 72 → upto (ownedLine bw a (ownersIn r 0)) m ++ upto (ownedLine bw b (ownersIn r 1)) k ≡ staLines bw r a b m (m + k)
+  unfolding staLines
+  both-channels k x y =
+      sym (
+      upto-append (staLineAt bw r a b m) m k
+      ∙ ap (λ (l : List ℕ). l ++ upto (λ i. staLineAt bw r a b m (m + i)) k) (upto-cong (staLineAt bw r a b m) (ownedLine bw a (ownersIn r 0)) m (λ i h. in-first i (omega arith) h))
+      ∙ ap (λ (l : List ℕ). upto (ownedLine bw a (ownersIn r 0)) m ++ l) (upto-cong (λ i. staLineAt bw r a b m (m + i)) (ownedLine bw b (ownersIn r 1)) k (λ i h. in-second i (omega arith)))
+      )
