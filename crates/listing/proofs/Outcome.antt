@@ -35,16 +35,20 @@ module _ (bw : ℕ) (a b d : List ℕ) where
       let l : length d < length (listing bw a b) = omega arith in
       (rw (p, lt-ltb (length d) (length (listing bw a b)) l) (ap (no 23 0) k), rw (z, p, lt-ltb (length d) (length (listing bw a b)) l))
 
-  pub listed : {e f : List ℕ} {n r : ℕ} → readable bw a b ≡ Pass → Wrote [] 0 (listing bw a b) e n → n ≤ length (e ++ d) → Wrote (e ++ d) 0 (listing bw a b) f r
+  pub at-once : {f : List ℕ} {r : ℕ} → readable bw a b ≡ Pass → Wrote d 0 (listing bw a b) f r → r ≤ length d
       → (no 0 0 r ≡ listAnswer bw a b (length d)) × (f ≡ listAfter bw a b d)
   unfolding listAnswer listAfter listable check23 _or_
+  at-once {f} {r} p v h =
+      let l : length (listing bw a b) ≤ length d = omega (arith, count v) in
+      (rw (p, le-ltb (length d) (length (listing bw a b)) l) (ap (no 0 0) (count v)), rw (p, le-ltb (length d) (length (listing bw a b)) l) (front l v))
+
+  pub listed : {e f : List ℕ} {n r : ℕ} → readable bw a b ≡ Pass → Wrote [] 0 (listing bw a b) e n → n ≤ length (e ++ d) → Wrote (e ++ d) 0 (listing bw a b) f r
+      → (no 0 0 r ≡ listAnswer bw a b (length d)) × (f ≡ listAfter bw a b d)
   listed {e} {f} {n} {r} p w h v =
       let z : e ≡ [] = dry w in
-      let k : n ≡ length (listing bw a b) = count w in
       let h′ : n ≤ length d = rw z at h in
-      let l : length (listing bw a b) ≤ length d = omega arith in
       let v′ : Wrote d 0 (listing bw a b) f r = rw z at v in
-      (rw (p, le-ltb (length d) (length (listing bw a b)) l) (ap (no 0 0) (count v′)), rw (p, le-ltb (length d) (length (listing bw a b)) l) (front l v′))
+      at-once p v′ (omega (arith, count w, count v′))
 
 -- the bytes at the front of a channel's buffer
 pub front-of : {r : List ℕ} (f : ℕ → ℕ) (n : ℕ) (w : List ℕ) → r ≡ filled f n w → take n r ≡ build f n

@@ -18,7 +18,8 @@ ghost use Rattle.bits.specs.Bits.{field};
 ghost use Rattle.channel.specs.Layout.{userAt};
 ghost use Rattle.input.specs.Parse.{bytesAt, secondAt};
 ghost use Rattle.listing.specs.Lines.{staLine};
-ghost use Rattle.listing.specs.Listing.{recordLine, planLines, staLines, listingOf, listing, listAnswer, listAfter, frameText, programText};
+ghost use Rattle.listing.specs.Room.{roomFor};
+ghost use Rattle.listing.specs.Listing.{recordLine, resources, planLines, staLines, listingOf, listing, listAnswer, listAfter, frameText, programText};
 
 // ---- the listing of an accepted frame
 
@@ -36,7 +37,7 @@ fn put_record(out: &mut [u8], at: usize, n: u16, x: Record) -> usize
 fn put_records(out: &mut [u8], at: usize, n: u16, plan: Plan) -> usize
     requires { ⌜ (at ≤ 1000) × (plan .count ≤ 144) × (length (plan .records) ≡ 144) ⌝ }
     ensures { λ r. ⌜ Wrote (now (out .entry)) at (planLines n plan) (now (out .exit)) r ⌝ }
-    ensures bounded { λ r. ⌜ r ≤ at + 34560 ⌝ }
+    ensures bounded { λ r. ⌜ r ≤ at + 240 * plan .count ⌝ }
 {
     let count = plan.count;
     let records = plan.records;
@@ -60,7 +61,7 @@ fn number_at(owners: &[u16; 72], i: usize) -> u16
 fn put_channel(out: &mut [u8], at: usize, bw: u32, s: &[u8], owners: &[u16; 72], n: usize) -> usize
     requires { ⌜ (at ≤ 44000) × (n ≤ 72) ⌝ }
     ensures { λ r. ⌜ Wrote (now (out .entry)) at (upto (λ i. staLine (field (now (s .entry)) (userAt bw i) 11) (getD (now (owners .entry)) i 0 + 1)) n) (now (out .exit)) r ⌝ }
-    ensures bounded { λ r. ⌜ r ≤ at + 3960 ⌝ }
+    ensures bounded { λ r. ⌜ r ≤ at + 55 * n ⌝ }
 {
     let mut o = at;
     let mut i: usize = 0;
@@ -85,6 +86,7 @@ fn put_stations(
 ) -> usize
     requires { ⌜ (at ≤ 40000) × (m ≤ 72) × (k ≤ 72) × (length (now row) ≤ 16) ⌝ }
     ensures { λ r. ⌜ Wrote (now (out .entry)) at (staLines bw (now (row .entry)) (now (a .entry)) (now (b .entry)) m (m + k)) (now (out .exit)) r ⌝ }
+    ensures bounded { λ r. ⌜ r ≤ at + 55 * (m + k) ⌝ }
 {
     let first = records::owners_of(row, 0);
     let second = records::owners_of(row, 1);
@@ -96,6 +98,7 @@ fn put_stations(
 fn put_row(out: &mut [u8], bw: u32, a: &[u8], b: &[u8], row: &[u16], m: usize, k: usize) -> usize
     requires { ⌜ (m ≤ 72) × (k ≤ 72) × (length (now row) ≤ 16) ⌝ }
     ensures { λ r. ⌜ Wrote (now (out .entry)) 0 (listingOf bw (now (row .entry)) (now (a .entry)) (now (b .entry)) m k) (now (out .exit)) r ⌝ }
+    ensures bounded { λ r. ⌜ r ≤ 200 + 240 * length (resources (now (row .entry))) + 55 * (m + k) ⌝ }
 {
     let plan = records::plan_of(row);
     let n = row.len() as u16;
@@ -108,12 +111,22 @@ fn put_row(out: &mut [u8], bw: u32, a: &[u8], b: &[u8], row: &[u16], m: usize, k
 fn put_listing(out: &mut [u8], bw: u32, a: &[u8], b: &[u8]) -> usize
     requires { ⌜ bw ≤ 4 ⌝ }
     ensures { λ r. ⌜ Wrote (now (out .entry)) 0 (listing bw (now (a .entry)) (now (b .entry))) (now (out .exit)) r ⌝ }
+    ensures bounded { λ r. ⌜ r ≤ roomFor bw (now (a .entry)) (now (b .entry)) ⌝ }
 {
     let row = channel::fill_row(bw, a, b);
     let n = channel::positions_of(bw);
     let m = channel::count_of(bw, 1, a);
     let k = channel::count_of(bw, 2, b);
     put_row(out, bw, a, b, &row[..n], m, k)
+}
+
+// Room that suffices for a frame's listing, from its positions and fields alone.
+fn room_for(bw: u32, a: &[u8], b: &[u8]) -> usize
+    requires { ⌜ bw ≤ 4 ⌝ }
+    ensures { λ r. ⌜ r ≡ roomFor bw (now (a .entry)) (now (b .entry)) ⌝ }
+{
+    let fields = channel::count_of(bw, 1, a) + channel::count_of(bw, 2, b);
+    200 + 240 * channel::positions_of(bw) + 295 * fields
 }
 
 // Lists a frame: 1 to 11 as the reader, then 23. A refusal writes nothing.
@@ -124,6 +137,14 @@ pub fn list(bandwidth: u32, cc1: &[u8], cc2: &[u8], out: &mut [u8]) -> Answer
     let checked = reader::check_frame(bandwidth, cc1, cc2);
     if let Out::Refuse(x) = checked {
         return x;
+    }
+    if room_for(bandwidth, cc1, cc2) <= out.len() {
+        let place = put_listing(out, bandwidth, cc1, cc2);
+        return Answer {
+            number: 0,
+            channel: 0,
+            place,
+        };
     }
     let need = put_listing(&mut out[..0], bandwidth, cc1, cc2);
     if out.len() < need {

@@ -39,7 +39,7 @@ returns-2 : tie.Need-returns-2
 unfolding frameText
 returns-2 c =
     let e = sym (c .before .before .before .before .before .before .check-frame .ensures) ∙ c .before .before .before .before .enum-told .given .1 in
-    rw e (c .before .before .put-listing .ensures)
+    rw e (c .before .before .put-listing .ensures .0)
 
 pub put-outcome-spec : {M : Type 1} → statement M
 put-outcome-spec =

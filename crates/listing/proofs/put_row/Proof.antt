@@ -28,7 +28,11 @@ put-records-requires c κs =
     (omega arith, rw e (omega (arith, plan-count (resources r))), rw e (plan-room (resources r) l))
 
 put-stations-requires : tie.Need-put-stations-requires
-put-stations-requires c κs = search needs
+put-stations-requires c κs =
+    let r = c .before .before .before .before .before .before .before .before .before .before .before .before .before .before .args .row .now in
+    let e : c .before .before .before .before .before .before .before .before .before .plan-of .result .count ≡ length (resources r) = ap (λ (p : Plan). p .count) (c .before .before .before .before .before .before .before .before .before .plan-of .ensures) ∙ plan-count (resources r) in
+    let l = resources-few r (omega arith) in
+    (omega arith, omega arith, omega arith, omega arith)
 
 same-length : tie.Need-same-length
 same-length c = search needs
@@ -40,7 +44,7 @@ returns c =
     let e = c .before .before .before .before .before .before .before .before .before .before .before .before .plan-of .ensures in
     let q : c .before .before .before .before .before .before .before .before .before .before .before .before .plan-of .result .count ≡ length (resources r) = ap (λ (p : Plan). p .count) e ∙ plan-count (resources r) in
     let l : planLines (length r) (c .before .before .before .before .before .before .before .before .before .before .before .before .plan-of .result) ≡ ruLines (length r) (resources r) = ap (planLines (length r)) e ∙ plan-lines (length r) (resources r) in
-    after (after (rw q at (c .before .before .before .before .before .before .before .before .before .before .put-head .ensures .0)) (rw l at (c .before .before .before .before .before .before .put-records .ensures .0))) (c .before .before .put-stations .ensures)
+    (after (after (rw q at (c .before .before .before .before .before .before .before .before .before .before .put-head .ensures .0)) (rw l at (c .before .before .before .before .before .before .put-records .ensures .0))) (c .before .before .put-stations .ensures .0), omega arith)
 
 pub put-row-spec : {M : Type 1} → statement M
 put-row-spec =
