@@ -259,6 +259,34 @@ static void largest(chance *c)
     }
 }
 
+/* A good frame of each bandwidth with each of its bits turned over, one by one; and its words. */
+static void every_bit(chance *c, unsigned bandwidth)
+{
+    static frame f;
+    static words_case w;
+    unsigned row[16];
+    answer a;
+    do {
+        draw_good_row(c, positions_of(bandwidth), row);
+        build_frame(c, bandwidth, row, &f);
+        a = reference_read_bytes(bandwidth, f.cc[0], f.length[0], f.cc[1], f.length[1], w.bytes, sizeof w.bytes);
+    } while (a.number != 0);
+    w.bandwidth = bandwidth;
+    w.length = 4 * (size_t)a.place;
+    w.room[0] = w.room[1] = BRACHYMEL_CHANNEL_SIZE;
+    for (unsigned ch = 0; ch < 2; ch++)
+        for (size_t i = 0; i < 8 * f.length[ch]; i++) {
+            f.cc[ch][i / 8] ^= (uint8_t)(1u << i % 8);
+            call_read(c, &f, BRACHYMEL_WORDS_SIZE);
+            f.cc[ch][i / 8] ^= (uint8_t)(1u << i % 8);
+        }
+    for (size_t i = 0; i < 8 * w.length; i++) {
+        w.bytes[i / 8] ^= (uint8_t)(1u << i % 8);
+        call_write(c, &w);
+        w.bytes[i / 8] ^= (uint8_t)(1u << i % 8);
+    }
+}
+
 /* ---- the run */
 
 static void fell(int signal)
@@ -316,8 +344,10 @@ int main(int argc, char **argv)
     prepare(&other);
     c = chance_from(seed, 'C');
     largest(&c);
-    for (unsigned bandwidth = 0; bandwidth <= 4; bandwidth++)
+    for (unsigned bandwidth = 0; bandwidth <= 4; bandwidth++) {
         every_length(&c, bandwidth);
+        every_bit(&c, bandwidth);
+    }
     while (calls < count)
         any_call(&c);
     missing = not_met();
