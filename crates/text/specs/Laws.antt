@@ -97,6 +97,31 @@ pub dec-short : (n : ℕ) → length (dec n) ≤ 20
 unfolding dec
 dec-short n = decs-short 20 n
 
+-- one digit more than a tenth has
+decs-next : (k n : ℕ) → 10 ≤ n → length (decs (suc k) n) ≡ length (decs k (n / 10)) + 1
+decs-next k n l = rw (le-ltb n 10 l) (length-append (decs k (n / 10)) ((48 + n % 10) ∷ []))
+
+decs-one : (k n : ℕ) → n < 10 → length (decs (suc k) n) ≡ 1
+decs-one k n l = rw (lt-ltb n 10 l)
+
+pub one-digit : (n : ℕ) → n < 10 → 1 ≡ length (decs 20 n)
+one-digit n l = sym (decs-one 19 n l)
+
+pub two-digits : (n : ℕ) → 10 ≤ n → n < 100 → 2 ≡ length (decs 20 n)
+two-digits n l h = sym (decs-next 19 n l ∙ ap (λ (x : ℕ). x + 1) (decs-one 18 (n / 10) (omega arith)))
+
+pub three-digits : (n : ℕ) → 100 ≤ n → n < 1000 → 3 ≡ length (decs 20 n)
+three-digits n l h = sym (decs-next 19 n (omega arith) ∙ ap (λ (x : ℕ). x + 1) (decs-next 18 (n / 10) (omega arith) ∙ ap (λ (x : ℕ). x + 1) (decs-one 17 (n / 10 / 10) (omega arith))))
+
+pub four-digits : (n : ℕ) → 1000 ≤ n → n < 10000 → 4 ≡ length (decs 20 n)
+four-digits n l h =
+    sym (
+    decs-next 19 n (omega arith)
+    ∙ ap (λ (x : ℕ). x + 1) (decs-next 18 (n / 10) (omega arith)
+    ∙ ap (λ (x : ℕ). x + 1) (decs-next 17 (n / 10 / 10) (omega arith)
+    ∙ ap (λ (x : ℕ). x + 1) (decs-one 16 (n / 10 / 10 / 10) (omega arith))))
+    )
+
 -- a number below 10 ^ (k + 1) has at most k + 1 digits
 decs-fit : (f k n : ℕ) → n < 10 ^ suc k → length (decs f n) ≤ suc k
 decs-fit zero k n l = zero-le

@@ -92,11 +92,28 @@ fn put_three(out: &mut [u8], at: usize, n: u64) -> usize
     put_digit(out, o, n)
 }
 
+// How many digits a number has, of at most four.
+fn digits_of(n: u64) -> usize
+    requires { ⌜ n < 10000 ⌝ }
+    ensures { λ r. ⌜ (r ≤ 4) × (r ≡ length (decs 20 n)) ⌝ }
+{
+    if n < 10 {
+        return 1;
+    }
+    if n < 100 {
+        return 2;
+    }
+    if n < 1000 { 3 } else { 4 }
+}
+
 // At most four.
 fn put_four(out: &mut [u8], at: usize, n: u64) -> usize
     requires { ⌜ (at + 20 ≤ 65536) × (n < 10000) ⌝ }
     ensures { λ r. ⌜ Wrote (now (out .entry)) at (decs 20 n) (now (out .exit)) r ⌝ }
 {
+    if out.len() <= at {
+        return at + digits_of(n);
+    }
     if n < 10 {
         return put_digit(out, at, n);
     }
