@@ -13,8 +13,9 @@ use lib.Seq.{getD-drop, drop-drop}
 use Rattle.text.specs.Text.{codes}
 use Rattle.input.specs.declared.Scan.{Scan}
 use Rattle.input.specs.declared.Scan.the-variants.{Bad, Pairs}
+use Rattle.input.specs.declared.Parsed.{Parsed}
 use Rattle.input.specs.declared.Parsed.the-variants.{Wrong, Lines}
-use Rattle.input.specs.Parse.{hexOf, pick, hexLine, starts, keyed, lineBw, threeLines, parsed, Room}
+use Rattle.input.specs.Parse.{hexOf, pick, hexLine, starts, keyed, lineBw, afterTwo, afterOne, threeLines, parsed, Room}
 
 pick-same : {A : Type 0} (b : Bool) (s : A) → pick b s s ≡ s
 pick-same true s = refl
@@ -128,25 +129,31 @@ pub parsed-short : (s : List ℕ) → length s ≤ 8192 → parsed s ≡ threeLi
 unfolding parsed
 parsed-short s h = rw (le-ltb 8192 (length s) h)
 
+-- the third line, and nothing after
+module _ (s : List ℕ) (n : ℕ) {q : Scan} (k : q ≡ keyed (codes "cc2=") (drop (10 + 2 * n) s)) where
+  pub wrong-3 : q ≡ Bad → Wrong 3 ≡ afterTwo s n (keyed (codes "cc2=") (drop (10 + 2 * n) s))
+  wrong-3 l = rw (sym k ∙ l)
+
+  pub wrong-4 : {m : ℕ} → q ≡ Pairs m → (length s ≡ 15 + 2 * n + 2 * m → ⊥) → Wrong 4 ≡ afterTwo s n (keyed (codes "cc2=") (drop (10 + 2 * n) s))
+  wrong-4 {m} l ne = rw (sym k ∙ l, ne-eqb (length s) (15 + 2 * n + 2 * m) ne)
+
+  pub right : {m d : ℕ} → q ≡ Pairs m → length s ≡ 15 + 2 * n + 2 * m → d ≡ getD s 3 0 - 48 → Lines d n m ≡ afterTwo s n (keyed (codes "cc2=") (drop (10 + 2 * n) s))
+  right {m} l eq p = rw (sym k ∙ l, eq-eqb (length s) (15 + 2 * n + 2 * m) eq, p)
+
+-- the second line
+module _ (s : List ℕ) {r : Scan} (f : r ≡ keyed (codes "cc1=") (drop 5 s)) where
+  pub wrong-2 : r ≡ Bad → Wrong 2 ≡ afterOne s (keyed (codes "cc1=") (drop 5 s))
+  wrong-2 g = rw (sym f ∙ g)
+
+  pub next-2 : {n : ℕ} {t : Parsed} → r ≡ Pairs n → t ≡ afterTwo s n (keyed (codes "cc2=") (drop (10 + 2 * n) s)) → t ≡ afterOne s (keyed (codes "cc1=") (drop 5 s))
+  next-2 g p = p ∙ rw (sym f ∙ g)
+
+-- the first
 module _ (s : List ℕ) {b : Bool} (e : b ≡ lineBw s) where
   pub wrong-1 : b ≡ false → Wrong 1 ≡ threeLines s
   unfolding threeLines
   wrong-1 h = rw (sym e ∙ h)
 
-  module _ (h : b ≡ true) {r : Scan} (f : r ≡ keyed (codes "cc1=") (drop 5 s)) where
-    pub wrong-2 : r ≡ Bad → Wrong 2 ≡ threeLines s
-    unfolding threeLines
-    wrong-2 g = rw (sym e ∙ h, sym f ∙ g)
-
-    module _ {n : ℕ} (g : r ≡ Pairs n) {q : Scan} (k : q ≡ keyed (codes "cc2=") (drop (10 + 2 * n) s)) where
-      pub wrong-3 : q ≡ Bad → Wrong 3 ≡ threeLines s
-      unfolding threeLines
-      wrong-3 l = rw (sym e ∙ h, sym f ∙ g, sym k ∙ l)
-
-      pub wrong-4 : {m : ℕ} → q ≡ Pairs m → (length s ≡ 15 + 2 * n + 2 * m → ⊥) → Wrong 4 ≡ threeLines s
-      unfolding threeLines
-      wrong-4 {m} l ne = rw (sym e ∙ h, sym f ∙ g, sym k ∙ l, ne-eqb (length s) (15 + 2 * n + 2 * m) ne)
-
-      pub right : {m d : ℕ} → q ≡ Pairs m → length s ≡ 15 + 2 * n + 2 * m → d ≡ getD s 3 0 → Lines (d - 48) n m ≡ threeLines s
-      unfolding threeLines
-      right {m} {d} l eq p = rw (sym e ∙ h, sym f ∙ g, sym k ∙ l, eq-eqb (length s) (15 + 2 * n + 2 * m) eq, p)
+  pub next-1 : {t : Parsed} → b ≡ true → t ≡ afterOne s (keyed (codes "cc1=") (drop 5 s)) → t ≡ threeLines s
+  unfolding threeLines
+  next-1 h p = p ∙ rw (sym e ∙ h)

@@ -1,9 +1,10 @@
 // The program's text, read (01, "Listing"): three lines, or the first that is wrong.
 ghost use mathlib.Core.Path.{_≡_};
-ghost use Prim.Native.Nat.{_+_, _*_, _≤_, _<_};
-ghost use lib.ListN.{length, drop};
+ghost use Prim.Native.Nat.{_+_, _-_, _*_, _≤_, _<_};
+ghost use lib.ListN.{length, drop, getD};
+ghost use Rattle.text.specs.Text.{codes};
 ghost use Rattle.answer.specs.Filled.{filled};
-ghost use Rattle.input.specs.Parse.{hexOf, hexLine, starts, keyed, Room, lineBw, threeLines, parsed, pairOf, byteOf};
+ghost use Rattle.input.specs.Parse.{hexOf, hexLine, starts, keyed, Room, lineBw, afterTwo, afterOne, threeLines, parsed, pairOf, byteOf};
 
 enum Scan {
     Bad,
@@ -108,33 +109,45 @@ fn line_bw(s: &[u8]) -> bool
     false
 }
 
+// The third line, after n pairs in the second, and nothing after.
+fn after_two(s: &[u8], bw: u32, n: usize) -> Parsed
+    requires { ⌜ (length (now s) ≤ 8192) × (10 + 2 * n ≤ length (now s)) × (bw ≡ getD (now s) 3 0 - 48) ⌝ }
+    ensures { λ r. ⌜ r ≡ afterTwo (now (s .entry)) n (keyed (codes "cc2=") (drop (10 + 2 * n) (now (s .entry)))) ⌝ }
+{
+    match line(s, 10 + 2 * n, b"cc2=") {
+        Scan::Bad => Parsed::Wrong(3),
+        Scan::Pairs(m) => {
+            if s.len() == 15 + 2 * n + 2 * m {
+                Parsed::Lines {
+                    bw,
+                    first: n,
+                    second: m,
+                }
+            } else {
+                Parsed::Wrong(4)
+            }
+        }
+    }
+}
+
+// The second line, and those after it.
+fn after_one(s: &[u8], bw: u32) -> Parsed
+    requires { ⌜ (length (now s) ≤ 8192) × (5 ≤ length (now s)) × (bw ≡ getD (now s) 3 0 - 48) ⌝ }
+    ensures { λ r. ⌜ r ≡ afterOne (now (s .entry)) (keyed (codes "cc1=") (drop 5 (now (s .entry)))) ⌝ }
+{
+    match line(s, 5, b"cc1=") {
+        Scan::Bad => Parsed::Wrong(2),
+        Scan::Pairs(n) => after_two(s, bw, n),
+    }
+}
+
 // The three lines, and nothing after.
 fn three_lines(s: &[u8]) -> Parsed
     requires { ⌜ length (now s) ≤ 8192 ⌝ }
     ensures { λ r. ⌜ r ≡ threeLines (now (s .entry)) ⌝ }
 {
     if line_bw(s) {
-        let bw = (bits::byte_at(s, 3) - 48) as u32;
-        match line(s, 5, b"cc1=") {
-            Scan::Bad => Parsed::Wrong(2),
-            Scan::Pairs(n) => {
-                let at = 10 + 2 * n;
-                match line(s, at, b"cc2=") {
-                    Scan::Bad => Parsed::Wrong(3),
-                    Scan::Pairs(m) => {
-                        if s.len() == 15 + 2 * n + 2 * m {
-                            Parsed::Lines {
-                                bw: bw,
-                                first: n,
-                                second: m,
-                            }
-                        } else {
-                            Parsed::Wrong(4)
-                        }
-                    }
-                }
-            }
-        }
+        after_one(s, (bits::byte_at(s, 3) - 48) as u32)
     } else {
         Parsed::Wrong(1)
     }
