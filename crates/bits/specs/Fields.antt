@@ -2,12 +2,10 @@
 -- the bytes write. Assumes nothing.
 use Prim.Native.Nat.{ℕ, zero, suc, _+_, _-_, _*_, _/_, _%_, _^_, _≤_, _<_}
 use mathlib.Core.Path.{_≡_, refl, sym, _∙_, ap, subst}
-use mathlib.Core.List.{List, [], _∷_, _++_}
+use mathlib.Core.List.{List, [], _∷_}
 use native.Mathlib.Nat.{zero-div, zero-mod, mod-lt, add-comm, mod-one, div-one, one-mul}
-use native.Mathlib.Numerals.{add-one}
 use native.Mathlib.Omega.{arith}
-use lib.ListN.{getD, length, take, List·getD-eq-default, List·getD-append}
-use lib.Seq.{getD-take}
+use lib.ListN.{getD, length, List·getD-eq-default}
 use lib.Pow as P
 use Rattle.bits.specs.Bits.{bit, field, lacks}
 
@@ -105,11 +103,6 @@ pub field-same : (s t : List ℕ) (i j n : ℕ) → field s i n ≡ field t j n 
 field-same s t i j n e k h =
     sym (field-bit s i n k h) ∙ ap (λ (x : ℕ). x / 2 ^ k % 2) e ∙ field-bit t j n k h
 
--- one bit more
-pub field-next : (s : List ℕ) (at n : ℕ) → field s at n + bit s (at + n) * 2 ^ n ≡ field s at (n + 1)
-unfolding field
-field-next s at n = rw add-one refl
-
 -- ---- bytes
 
 -- eight bits from a multiple of eight are the byte
@@ -150,19 +143,6 @@ unfolding bit
 bit-end s i h =
     let e : getD s (i / 8) 0 ≡ 0 = List·getD-eq-default s 0 (omega arith) in
     rw (e, zero-div)
-
--- lists that agree at the bytes of a range agree at its field
-pub field-agree : (s t : List ℕ) (at n : ℕ) → ((j : ℕ) → at < 8 * (j + 1) → 8 * j < at + n → getD s j 0 ≡ getD t j 0) → field s at n ≡ field t at n
-unfolding bit
-field-agree s t at n h =
-    field-ext s t at at n (λ k l. ap (λ (x : ℕ). x / 2 ^ ((at + k) % 8) % 2) (h ((at + k) / 8) (omega arith) (omega arith)))
-
--- what stands after a list's own bytes is not looked at
-pub field-append : (s t : List ℕ) (at n : ℕ) → at + n ≤ 8 * length s → field (s ++ t) at n ≡ field s at n
-field-append s t at n h = field-agree (s ++ t) s at n (λ j a b. List·getD-append s t 0 j (omega arith))
-
-pub field-take : (s : List ℕ) (at n k : ℕ) → at + n ≤ 8 * k → field (take k s) at n ≡ field s at n
-field-take s at n k h = field-agree (take k s) s at n (λ j a b. getD-take k s j 0 (omega arith))
 
 -- ---- what lies past the end
 

@@ -2,20 +2,19 @@
 use Prim.Native.Nat.{ℕ, zero, suc, _+_, _-_, _*_, _/_, _%_, _^_, _≤_, _<_}
 use mathlib.Core.Path.{_≡_, refl, sym, _∙_, ap, subst}
 use mathlib.Core.Logic.{⊎-elim}
-use mathlib.Core.Bool.{Bool, true, false, cond, _&&_}
+use mathlib.Core.Bool.{Bool, true, false, cond}
 use mathlib.Core.List.{List}
 use native.Mathlib.Nat.{mod-lt, eq-or-lt-of-le, mod-eq-of-lt}
-use native.Mathlib.Decide.{decLt, decLe, ℕ-discrete}
+use native.Mathlib.Decide.{decLt, ℕ-discrete}
 use native.Mathlib.Omega.{arith}
 use lib.Arith.{digits-lt}
-use lib.Dec.{leb, ltb}
 use lib.ListN.{getD, length, set, length-set, List·getD-eq-default}
 use lib.Seq.{getD-set-same, getD-set-other, ext-getD}
 use lib.Pow as P
 use borrow.Author.Tests.{le-leb, lt-leb, lt-ltb, le-ltb}
-use Rattle.answer.specs.Filled.{build, length-build, getD-build}
+use Rattle.answer.specs.Filled.{length-build, getD-build}
 use Rattle.bits.specs.Bits.{bit, field, gather, bytes, within, put}
-use Rattle.bits.specs.Fields.{inner, bit-lt, bit-end, field-of, field-ext, field-byte, field-part}
+use Rattle.bits.specs.Fields.{inner, bit-lt, bit-end, field-of, field-ext, field-byte}
 
 -- ---- a number by its bits
 
@@ -75,12 +74,6 @@ same-bits s t hs ht l h =
     let e : field s (8 * k) 8 ≡ field t (8 * k) 8 = field-ext s t (8 * k) (8 * k) 8 (λ j n. h (8 * k + j) (omega arith)) in
     omega (arith, field-byte s k, field-byte t k, hs .small k, ht .small k))
 
--- a list of bytes is the list of its bits
-pub bytes-bits : (s : List ℕ) → Small s → bytes (bit s) (length s) ≡ s
-bytes-bits s h =
-    same-bits (bytes (bit s) (length s)) s (bytes-small (bit s) (length s)) h (length-bytes (bit s) (length s))
-    (λ i l. bit-bytes (bit s) (length s) i (rw (length-bytes (bit s) (length s)) at l) ∙ mod-eq-of-lt (bit-lt s i))
-
 -- ---- a field that was put
 
 pub within-in : (at n i : ℕ) → at ≤ i → i < at + n → within at n i ≡ true
@@ -133,22 +126,9 @@ put-before s at n v i h = put-kept s at n v i (within-before at n i h)
 pub put-after : (s : List ℕ) (at n v i : ℕ) → at + n ≤ i → bit (put s at n v) i ≡ bit s i
 put-after s at n v i h = put-kept s at n v i (within-after at n i h)
 
--- a field that was put is read back, and so is each part of it
+-- a field that was put is read back
 pub field-put : (s : List ℕ) (at n v : ℕ) → at + n ≤ 8 * length s → field (put s at n v) at n ≡ v % 2 ^ n
 field-put s at n v h = field-of (put s at n v) at n v (λ k l. put-in s at n v k l (omega arith))
-
-pub field-put-part : (s : List ℕ) (at n v c d : ℕ) → at + n ≤ 8 * length s → c + d ≤ n → field (put s at n v) (at + c) d ≡ v / 2 ^ c % 2 ^ d
-field-put-part s at n v c d h l =
-    sym (field-part (put s at n v) at n c d l)
-    ∙ ap (λ (x : ℕ). x / 2 ^ c % 2 ^ d) (field-put s at n v h)
-    ∙ inner v c d n l
-
--- and the fields before and after it are as they were
-pub field-put-before : (s : List ℕ) (at n v a m : ℕ) → a + m ≤ at → field (put s at n v) a m ≡ field s a m
-field-put-before s at n v a m h = field-ext (put s at n v) s a a m (λ k l. put-before s at n v (a + k) (omega arith))
-
-pub field-put-after : (s : List ℕ) (at n v a m : ℕ) → at + n ≤ a → field (put s at n v) a m ≡ field s a m
-field-put-after s at n v a m h = field-ext (put s at n v) s a a m (λ k l. put-after s at n v (a + k) (omega arith))
 
 -- two lists that agree outside the range, and have v's bits in it, are one: how a `put` is recognised
 pub is-put : (s t : List ℕ) (at n v : ℕ) → Small t → length t ≡ length s

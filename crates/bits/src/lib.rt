@@ -1,8 +1,8 @@
 // Bits and fields of a byte slice, lowest bit first: read, compared, written. Past the end every bit reads as 0, and a
 // bit written there is dropped, so no function here asks that a range lies in its slice.
 ghost use mathlib.Core.Path.{_≡_};
-ghost use Prim.Native.Nat.{ℕ, _+_, _-_, _*_, _%_, _^_, _≤_, _<_, min};
-ghost use lib.ListN.{getD, length};
+ghost use Prim.Native.Nat.{_+_, _-_, _*_, _%_, _^_, _≤_, _<_, min};
+ghost use lib.ListN.{getD};
 ghost use Rattle.answer.specs.Least.{least};
 ghost use Rattle.bits.specs.Bits.{bit, field, lacks, differs, put};
 ghost use Rattle.bits.specs.Writes.{merge};

@@ -1,18 +1,16 @@
 -- Facts of the layout, each once over the bandwidth. Assumes nothing.
-use Prim.Native.Nat.{ℕ, zero, suc, _+_, _-_, _*_, _/_, _%_, _^_, _≤_, _<_}
+use Prim.Native.Nat.{ℕ, zero, suc, _+_, _-_, _*_, _/_, _%_, _≤_, _<_}
 use mathlib.Core.Path.{_≡_, refl, sym, _∙_, ap}
-use mathlib.Core.Logic.{⊎-elim}
 use mathlib.Core.Bool.{Bool, true, false, cond, _||_}
 use mathlib.Core.List.{List, [], _∷_}
 use native.Mathlib.Decide.{decLt}
 use native.Mathlib.Numerals.{add-one}
 use native.Mathlib.Omega.{arith}
-use lib.Dec.{T, eqb, ltb, eqb→eq}
-use lib.ListN.{length, getD, take, replicate, length-replicate, getD-replicate, List·getD-eq-default}
+use lib.Dec.{eqb, ltb, eqb→eq}
+use lib.ListN.{length, getD, take, replicate}
 use lib.Pow.{pow-mono}
-use borrow.Author.Tests.{lt-ltb, le-ltb, ltb-true, ltb-false, eq-eqb, ne-eqb}
-use Rattle.answer.specs.Filled.{build, filled, length-build, getD-build, filled-length, getD-filled, getD-kept, take-filled}
-use Rattle.bits.specs.Bits.{field}
+use borrow.Author.Tests.{lt-ltb, le-ltb, eq-eqb, ne-eqb}
+use Rattle.answer.specs.Filled.{build, length-build, getD-build, take-filled}
 use Rattle.bits.specs.Fields.{field-lt, field-split}
 use Rattle.resource.specs.Values.{fieldsOf}
 use Rattle.resource.proofs.Fields.{fields-most}
@@ -255,31 +253,10 @@ row-lt bw a b p = go (eqb (p % 2) 0)
     go false = value-lt bw b (p / 2)
 
 -- the sixteen: the row in front, 0 past it
-pub row16-length : (bw : ℕ) (a b : List ℕ) → bw ≤ 4 → length (rowIn16 bw a b) ≡ 16
-unfolding rowIn16
-row16-length bw a b l =
-    filled-length (rowAt bw a b) (positions bw) (replicate 16 0) (omega (arith, positions-le bw l, length-replicate {A = ℕ} 16 0))
-    ∙ length-replicate {A = ℕ} 16 0
 
 pub row16-front : (bw : ℕ) (a b : List ℕ) → take (positions bw) (rowIn16 bw a b) ≡ row bw a b
 unfolding rowIn16 row
 row16-front bw a b = take-filled (rowAt bw a b) (positions bw) (replicate 16 0)
-
-zeros : (n p : ℕ) → getD (replicate {A = ℕ} n 0) p 0 ≡ 0
-zeros zero p = refl
-zeros (suc n) zero = refl
-zeros (suc n) (suc p) = zeros n p
-
-pub row16-at : (bw : ℕ) (a b : List ℕ) (p : ℕ) → getD (rowIn16 bw a b) p 0 ≡ getD (row bw a b) p 0
-unfolding rowIn16
-row16-at bw a b p = go (decLt p (positions bw))
-  where
-    go : Dec (p < positions bw) → getD (filled (rowAt bw a b) (positions bw) (replicate 16 0)) p 0 ≡ getD (row bw a b) p 0
-    go (yes h) = getD-filled (rowAt bw a b) (positions bw) (replicate 16 0) p 0 h ∙ sym (row-at bw a b p h)
-    go (no h) =
-        getD-kept (rowAt bw a b) (positions bw) (replicate 16 0) p 0 (omega arith)
-        ∙ zeros 16 p
-        ∙ sym (List·getD-eq-default (row bw a b) 0 (omega (arith, row-length bw a b)))
 
 -- "the count is the sum over the row's values": what both channels' values give is what the row's give
 

@@ -2,9 +2,9 @@
 --
 -- Bits count from 0 in each channel. Every definition is total; past code 4, and past a list's end, it says nothing of 01.
 use Prim.Native.Nat.{ℕ, zero, suc, _+_, _-_, _*_, _/_, _%_, _^_}
-use mathlib.Core.Bool.{Bool, true, false, cond, not, _&&_, _||_}
-use mathlib.Core.List.{List, [], _∷_}
-use lib.ListN.{length, replicate}
+use mathlib.Core.Bool.{Bool, cond, _||_}
+use mathlib.Core.List.{List}
+use lib.ListN.{replicate}
 use lib.Dec.{eqb, ltb}
 use Rattle.answer.specs.Filled.{build, filled}
 use Rattle.bits.specs.Bits.{field}

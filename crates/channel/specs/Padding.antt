@@ -1,17 +1,16 @@
 -- What each check, value and count looks at (01: "What follows is padding, not looked at."): channels that agree up to
 -- an end have the same outcome, whatever follows. Assumes nothing.
-use Prim.Native.Nat.{ℕ, _+_, _*_, _/_, _%_, _≤_, _<_}
-use mathlib.Core.Path.{_≡_, refl, sym, _∙_, ap}
-use mathlib.Core.Bool.{Bool, true, false, cond, not, _&&_, _||_}
+use Prim.Native.Nat.{ℕ, _+_, _/_, _%_, _≤_, _<_}
+use mathlib.Core.Path.{_≡_, refl, _∙_, ap}
+use mathlib.Core.Bool.{Bool, true, false, cond, not, _&&_}
 use mathlib.Core.List.{List}
 use native.Mathlib.Omega.{arith}
 use native.Mathlib.Decide.{ℕ-discrete}
 use lib.Dec.{ltb, eqb}
-use lib.ListN.{length}
 use borrow.Author.Tests.{eq-eqb, ne-eqb}
 use Rattle.answer.specs.Answer as A
 use Rattle.answer.specs.Answer.{refuseIf, _or_}
-use Rattle.answer.specs.Filled.{build, build-cong}
+use Rattle.answer.specs.Filled.{build-cong}
 use Rattle.answer.specs.Least.{least, least-cong}
 use Rattle.bits.specs.Bits.{bit, field, differs}
 use Rattle.bits.specs.Fields.{field-ext}

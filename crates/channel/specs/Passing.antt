@@ -1,6 +1,6 @@
 -- What each check says where it passes, and what suffices for it to pass. Assumes nothing.
 use Prim.Native.Nat.{ℕ, _+_, _*_, _≤_, _<_}
-use mathlib.Core.Path.{_≡_, refl, sym, _∙_, ap}
+use mathlib.Core.Path.{_≡_, refl, sym, _∙_}
 use mathlib.Core.Bool.{Bool, true, false, not, _&&_, _||_}
 use mathlib.Core.List.{List}
 use native.Mathlib.Decide.{decLt}
@@ -9,13 +9,12 @@ use lib.Dec.{ltb}
 use lib.ListN.{length}
 use borrow.Author.Tests.{lt-ltb, le-ltb, ltb-true, ltb-false, not-false}
 use Rattle.answer.specs.Answer as A
-use Rattle.answer.specs.Answer.{refuseIf, _or_}
+use Rattle.answer.specs.Answer.{refuseIf}
 use Rattle.answer.specs.Order.{Only, only-if, only-or, pass-left, pass-right, or-pass, pass-if, if-pass}
 use Rattle.answer.specs.Least.{least, least-none, least-all, least-le}
 use Rattle.answer.specs.declared.Out.the-variants.{Pass}
-use Rattle.bits.specs.Bits.{field, differs}
+use Rattle.bits.specs.Bits.{differs}
 use Rattle.bits.specs.Differs.{differ-nowhere, nowhere-same, differs-from-0}
-use Rattle.check4.specs.Check.{right}
 use Rattle.check4.specs.Checks.{Right, right-says, says-right}
 use Rattle.resource.specs.Values.{carried}
 use Rattle.channel.specs.Layout.{present, overflow, ltfSymbols, firstBits, secondAt, secondBits, hasSecond, common, subfieldsIn, valueAt, value, count, blockAt, blocks, covered, endOf}

@@ -1,11 +1,11 @@
 // Where everything lies in a channel, by bandwidth code, and the answers 2 to 6, 9 and 10.
 use answer::Out;
 ghost use mathlib.Core.Path.{_≡_};
-ghost use Prim.Native.Nat.{ℕ, _+_, _*_, _≤_, _<_};
+ghost use Prim.Native.Nat.{_+_, _*_, _≤_, _<_};
 ghost use lib.ListN.{length};
 ghost use Rattle.answer.specs.Least.{least};
 ghost use Rattle.bits.specs.Bits.{differs};
-ghost use Rattle.channel.specs.Layout.{positions, present, firsts, seconds, firstBits, secondBits, hasSecond, common, subfieldsIn, valueAt, value, rowAt, rowIn16, count, userAt, blockAt, blocks, covered, endOf};
+ghost use Rattle.channel.specs.Layout.{positions, present, firsts, seconds, firstBits, secondBits, hasSecond, common, subfieldsIn, valueAt, value, rowAt, rowIn16, count, userAt, blockAt, covered, endOf};
 ghost use Rattle.channel.specs.Checks.{lent, tooLong, cutCommon, wrongFirst, wrongSecond, wrongCommon, overflowDiffers, foreign, firstForeign, notCarried, cutUsers, wrongBlock, firstWrong, wrongUsers};
 
 // Whether the bandwidth has the channel.

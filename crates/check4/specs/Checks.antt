@@ -1,15 +1,14 @@
 -- The laws of the check, over every place and width, and its vectors. Assumes nothing.
-use Prim.Native.Nat.{ℕ, zero, suc, _+_, _-_, _*_, _/_, _%_, _^_, _<_}
-use mathlib.Core.Path.{_≡_, refl, sym, _∙_, ap}
+use Prim.Native.Nat.{ℕ, zero, suc, _+_, _-_, _*_, _/_, _%_, _<_}
+use mathlib.Core.Path.{_≡_, refl, sym, ap}
 use mathlib.Core.Bool.{Bool, true, false, _&&_}
 use mathlib.Core.List.{List, [], _∷_}
-use native.Mathlib.Numerals.{add-one}
 use native.Mathlib.Omega.{arith}
 use lib.Bits.{xor-lt}
 use lib.Dec.{eqb}
-use borrow.Author.Tests.{eq-eqb, eqb-true, eqb-false}
+use borrow.Author.Tests.{eq-eqb, eqb-true}
 use Rattle.bits.specs.Bits.{bit, field}
-use Rattle.bits.specs.Fields.{field-split, field-lt, field-ext, field-same}
+use Rattle.bits.specs.Fields.{field-split, field-lt, field-ext}
 use Rattle.check4.specs.Check.{step, register, sent, check, right}
 
 -- ---- vectors
@@ -46,11 +45,6 @@ pub check-lt : (s : List ℕ) (at n : ℕ) → check s at n < 16
 unfolding check sent
 check-lt s at n = omega arith
 
--- one bit more
-pub register-next : (s : List ℕ) (at n : ℕ) → step (register s at n) (bit s (at + n)) ≡ register s at (n + 1)
-unfolding register
-register-next s at n = rw add-one refl
-
 -- ---- what the check looks at
 
 register-ext : (s t : List ℕ) (i j n : ℕ) → ((k : ℕ) → k < n → bit s (i + k) ≡ bit t (j + k)) → register s i n ≡ register t j n
@@ -65,18 +59,6 @@ register-ext s t i j (suc n) h =
 pub check-ext : (s t : List ℕ) (i j n : ℕ) → ((k : ℕ) → k < n → bit s (i + k) ≡ bit t (j + k)) → check s i n ≡ check t j n
 unfolding check
 check-ext s t i j n h = ap (λ (r : ℕ). sent (255 - r)) (register-ext s t i j n h)
-
--- the check depends only on the range's value, and so do the checks of ranges made of two parts
-pub check-same : (s t : List ℕ) (i j n : ℕ) → field s i n ≡ field t j n → check s i n ≡ check t j n
-check-same s t i j n e = check-ext s t i j n (field-same s t i j n e)
-
-pub check-parts : (s t : List ℕ) (i j a b : ℕ) → field s i a ≡ field t j a → field s (i + a) b ≡ field t (j + a) b → check s i (a + b) ≡ check t j (a + b)
-check-parts s t i j a b e f =
-    check-same s t i j (a + b)
-    (field-split s i a b
-    ∙ ap (λ (x : ℕ). x + field s (i + a) b * 2 ^ a) e
-    ∙ ap (λ (x : ℕ). field t j a + x * 2 ^ a) f
-    ∙ sym (field-split t j a b))
 
 -- ---- what the block test decides
 

@@ -2,7 +2,7 @@
 use mathlib.Core.Path.{_≡_, refl, sym, _∙_}
 use mathlib.Core.Logic.{_⊎_, inl, inr}
 use mathlib.Core.List.{List}
-use Prim.Native.Nat.{ℕ, _≤_, _<_}
+use Prim.Native.Nat.{ℕ, _<_}
 use native.Mathlib.Omega.{arith}
 use lib.ListN.{length}
 use Rattle.answer.specs.Answer.{no}
@@ -13,7 +13,7 @@ use Rattle.plan.specs.Plan.{at, Signals}
 use Rattle.plan.specs.Layout.{segments, Plan, PlanOfEight, SegmentPlan, Laid, accepted, no-plan, over-eight}
 use Rattle.plan.specs.Guess.{onlyPlan, layoutOf}
 use Rattle.plan.proofs.Only.{signalled}
-use Rattle.plan.proofs.Laid.{row-ends, part-plan, whole-signals, layout-laid, laid-is}
+use Rattle.plan.proofs.Laid.{row-ends, part-plan, whole-signals, laid-is}
 
 module _ (row : List ℕ) where
   -- a row is accepted exactly when a plan signals it with at most eight User fields on each resource

@@ -1,16 +1,15 @@
 -- Which values fit an owner, in the terms of the code's tests. Assumes nothing.
-use mathlib.Core.Path.{_≡_, refl, sym, subst}
+use mathlib.Core.Path.{_≡_}
 use mathlib.Core.Logic.{_≢_, _⊎_, inl, inr, ⊎-elim}
 use mathlib.Core.Bool.{Bool, true, false, not}
-use Prim.Native.Nat.{ℕ, _+_, _-_, _/_, _%_, _≤_, _<_}
+use Prim.Native.Nat.{ℕ, _+_, _/_, _%_, _≤_, _<_}
 use native.Mathlib.Omega.{arith}
 use lib.Dec.{eqb}
-use Rattle.plan.specs.declared.Owner.{Owner}
 use Rattle.plan.specs.declared.Owner.the-variants.{Itself, Pair, Whole, Three}
 use Rattle.plan.specs.Plan.{Fits, own, blank, smaller}
 use Rattle.plan.specs.Decides.{Decides}
 use Rattle.plan.specs.Guess.{Like996, Like484}
-use Rattle.plan.proofs.Tests.{Tested, eqb-decides, carry, is-yes, is-no, eqb-is, not-is}
+use Rattle.plan.proofs.Tests.{Tested, eqb-decides, carry, eqb-is, not-is}
 
 abbrev pub Alone : ℕ → ℕ → Type 0
 Alone p v = (v ≤ 28) ⊎ ((v / 8 ≡ 8) ⊎ (((v ≡ 48) × (p % 4 ≢ 3)) ⊎ ((v ≡ 50) × (p % 4 ≢ 2))))
@@ -69,6 +68,3 @@ module _ {k p v : ℕ} where
       back : Fits (Three k) p v → v ≡ 29
       back (own t e) = absurd (m e)
       back (blank t e) = ⊎-elim (λ h. absurd (s (h .0))) (λ h. h .1) e
-
-pub minus-is : (e k : ℕ) → 12 ≤ e → Decides (eqb (e - 12) k) (e ≡ 12 + k)
-minus-is e k h = carry (λ q. omega arith) (λ q. omega arith) (eqb-is (e - 12) k)

@@ -1,23 +1,23 @@
 -- The layout's answer is 01's, and 01 has one answer for a row. Assumes nothing.
-use mathlib.Core.Path.{_≡_, refl, sym, _∙_, ap, subst}
-use mathlib.Core.Logic.{_⊎_, inl, inr, ⊎-elim}
-use mathlib.Core.Bool.{Bool, true, false, not}
+use mathlib.Core.Path.{_≡_, refl, sym, _∙_, ap}
+use mathlib.Core.Logic.{_⊎_, inl, inr}
+use mathlib.Core.Bool.{Bool, true, false}
 use mathlib.Core.List.{List}
-use Prim.Native.Nat.{ℕ, _+_, _-_, _*_, _/_, _%_, _≤_, _<_, min}
+use Prim.Native.Nat.{ℕ, _+_, _-_, _*_, _/_, _%_, _≤_, _<_}
 use native.Mathlib.Omega.{arith}
 use lib.ListN.{length, List·getD-eq-default}
-use lib.Dec.{ltb, leb}
+use lib.Dec.{ltb}
 use borrow.Author.Tests.{ltb-true, ltb-false, leb-true, le-leb, not-true, not-false}
 use Rattle.answer.specs.Answer.{no, refuseIf, _or_}
-use Rattle.answer.specs.Least.{least-holds, least-before, least-le}
+use Rattle.answer.specs.Least.{least-holds, least-before}
 use Rattle.answer.specs.declared.Out.{Out}
-use Rattle.answer.specs.declared.Out.the-variants.{Pass, Refuse}
+use Rattle.answer.specs.declared.Out.the-variants.{Refuse}
 use Rattle.plan.specs.declared.Owner.{Owner}
 use Rattle.plan.specs.Decides.{Decides}
 use Rattle.plan.specs.Plan.{at, Fits, Signals}
-use Rattle.plan.specs.Fields.{total, Eight}
+use Rattle.plan.specs.Fields.{total}
 use Rattle.plan.specs.Layout.{segments, segmentEnd, Plan, PlanOfEight, SegmentPlan, SegmentOfEight, Laid, accepted, no-plan, over-eight}
-use Rattle.plan.specs.Guess.{onlyPlan, fitting, every, fitsAt, planned, eightAt, withinEight, noPlan, isOver, unplanned, overEight, answer7, answer8, layoutOf}
+use Rattle.plan.specs.Guess.{onlyPlan, fitting, fitsAt, planned, eightAt, withinEight, noPlan, isOver, unplanned, overEight, answer7, answer8, layoutOf}
 use Rattle.plan.proofs.Tests.{Tested, decided, decides, ltb-decides, every-all, every-of}
 use Rattle.plan.proofs.Fitting.{fits-tested}
 use Rattle.plan.proofs.Only.{Ends, signalled, all-fit, only-signals}

@@ -2,16 +2,14 @@
 -- Assumes nothing.
 use mathlib.Core.Path.{_≡_, refl, sym, _∙_, ap, subst}
 use mathlib.Core.Logic.{_≢_, _⊎_, inl, inr, ⊎-elim}
-use mathlib.Core.List.{List}
-use lib.ListN.{length, List·getD-eq-default}
-use mathlib.Core.Bool.{Bool, true, false, cond, _||_}
-use Prim.Native.Nat.{ℕ, zero, suc, _+_, _-_, _*_, _/_, _%_, _≤_, _<_, min}
+use mathlib.Core.Bool.{Bool, true, false, cond}
+use Prim.Native.Nat.{ℕ, zero, suc, _+_, _-_, _*_, _/_, _%_, _≤_, _<_}
 use native.Mathlib.Omega.{arith}
 use lib.Dec.{ltb, eqb}
 use borrow.Author.Tests.{ltb-true, ltb-false, eqb-true, eqb-false, lt-ltb, le-ltb, eq-eqb, ne-eqb}
 use Rattle.plan.specs.declared.Owner.{Owner}
 use Rattle.plan.specs.declared.Owner.the-variants.{Itself, Pair, Whole, Three}
-use Rattle.plan.specs.Plan.{at, span, Takes, Place, family, Blank, Pieces, Smaller, Fits, own, blank, smaller, MustName, Signals}
+use Rattle.plan.specs.Plan.{at, Place, family, Fits, own, blank, smaller, MustName, Signals}
 use Rattle.plan.proofs.Tests.{Tested, decided, refuted, eqb-decides, ltb-decides, or-tested}
 use Rattle.plan.specs.Guess.{threeOf, orElse, firstThree, Like996, Like484, like996, like484, choose, onlyPlan}
 

@@ -1,11 +1,11 @@
 -- A plan of a row is one of each of its segments. Assumes nothing.
-use mathlib.Core.Path.{_≡_, refl, sym, _∙_}
-use mathlib.Core.Logic.{_⊎_, inl, inr, ⊎-elim}
-use Prim.Native.Nat.{ℕ, zero, suc, _+_, _*_, _/_, _%_, _≤_, _<_, min}
+use mathlib.Core.Path.{_≡_}
+use mathlib.Core.Logic.{_⊎_, ⊎-elim}
+use Prim.Native.Nat.{ℕ, _/_, _%_, _≤_}
 use native.Mathlib.Omega.{arith}
 use Rattle.plan.specs.declared.Owner.{Owner}
 use Rattle.plan.specs.declared.Owner.the-variants.{Itself, Pair, Whole, Three}
-use Rattle.plan.specs.Plan.{Place, Signals, Fits}
+use Rattle.plan.specs.Plan.{Place, Signals}
 
 -- no resource leaves its segment
 place-segment : (x : Owner) (p q : ℕ) → Place x p q → q / 4 ≡ p / 4

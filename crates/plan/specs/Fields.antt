@@ -1,5 +1,5 @@
 -- The User fields of a resource, and "at most eight User fields on each resource". Assumes nothing.
-use mathlib.Core.Bool.{Bool, true, false, cond, not, _&&_}
+use mathlib.Core.Bool.{Bool, true, cond, not, _&&_}
 use Prim.Native.Nat.{ℕ, zero, suc, _+_, _*_, _/_, _%_, _≤_, _<_}
 use lib.Dec.{eqb, ltb, leb}
 use Rattle.plan.specs.declared.Owner.{Owner}

@@ -1,7 +1,7 @@
 -- The answers 7 and 8 of 01's table, "What comes back". Assumes nothing.
 use mathlib.Core.List.{List}
 use lib.ListN.{length}
-use Prim.Native.Nat.{ℕ, _+_, _*_, _/_, _≤_, _<_, min}
+use Prim.Native.Nat.{ℕ, _+_, _*_, _/_, _<_, min}
 use Rattle.answer.specs.Answer.{no}
 use Rattle.answer.specs.declared.Out.{Out}
 use Rattle.answer.specs.declared.Out.the-variants.{Pass, Refuse}

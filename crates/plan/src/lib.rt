@@ -1,11 +1,11 @@
 // The plan of a row of RU Allocation values (01, "What a plan is"), and the answers 7 and 8.
 use answer::Out;
 ghost use mathlib.Core.Path.{_≡_};
-ghost use Prim.Native.Nat.{_+_, _-_, _*_, _/_, _%_, _≤_, _<_, min};
+ghost use Prim.Native.Nat.{_+_, _-_, _*_, _/_, _%_, _≤_, _<_};
 ghost use lib.ListN.{length};
 ghost use Rattle.plan.specs.Decides.{Decides};
 ghost use Rattle.plan.specs.Plan.{at, Fits, span};
-ghost use Rattle.plan.specs.Fields.{gives, share, channelShare, shares, fieldsIn, total, shared};
+ghost use Rattle.plan.specs.Fields.{gives, share, channelShare, fieldsIn, total, shared};
 ghost use Rattle.plan.specs.Layout.{segments, segmentEnd, Laid};
 ghost use Rattle.plan.specs.Guess.{threeOf, orElse, firstThree, choose, onlyPlan, Like996, Like484, planned, withinEight, unplanned, overEight};
 

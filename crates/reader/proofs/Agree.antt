@@ -1,6 +1,5 @@
 -- What the contracts of the reader's public functions leave open: nothing. Assumes nothing.
 use mathlib.Core.Path.{_≡_, sym, _∙_, ap}
-use Prim.Native.Nat.{ℕ}
 use lib.ListN.{length, drop}
 use mathlib.Core.List.{_++_}
 use denote.Ref.{now}

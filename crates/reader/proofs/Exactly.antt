@@ -9,7 +9,7 @@ use Rattle.answer.specs.Answer.{no}
 use Rattle.answer.specs.Order.{Applies, Only, only-if, only-or, Gives, none, more, distinct, absent, zero-pass, number-applies, applies-number, refuse-if}
 use Rattle.answer.specs.declared.Answer.{Answer}
 use Rattle.answer.specs.declared.Out.{Out}
-use Rattle.answer.specs.declared.Out.the-variants.{Pass, Refuse}
+use Rattle.answer.specs.declared.Out.the-variants.{Pass}
 use Rattle.plan.specs.Guess.{unplanned, overEight, answer7, answer8}
 use Rattle.plan.specs.Layout.{segments}
 use Rattle.channel.specs.Layout.{row, count, userAt}

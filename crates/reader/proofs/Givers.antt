@@ -1,17 +1,16 @@
 -- Which value of a channel gives a User field. Assumes nothing.
-use mathlib.Core.Path.{_≡_, refl, sym, _∙_, ap}
-use mathlib.Core.Bool.{Bool, true, false}
+use mathlib.Core.Path.{_≡_, refl}
 use mathlib.Core.List.{List}
 use mathlib.Core.Logic.{⊎-elim}
-use Prim.Native.Nat.{ℕ, zero, suc, _+_, _-_, _*_, _≤_, _<_}
+use Prim.Native.Nat.{ℕ, zero, suc, _+_, _≤_, _<_}
 use native.Mathlib.Omega.{arith}
 use native.Mathlib.Nat.{eq-or-lt-of-le}
 use lib.Dec.{ltb}
 use borrow.Author.Tests.{lt-ltb, le-ltb}
-use Rattle.answer.specs.Least.{least, least-is}
+use Rattle.answer.specs.Least.{least-is}
 use Rattle.resource.specs.Values.{fieldsOf}
 use Rattle.channel.specs.Layout.{subfieldsIn, value, total, count}
-use Rattle.channel.specs.Laws.{total-next, count-le}
+use Rattle.channel.specs.Laws.{total-next}
 use Rattle.reader.specs.Words.{before, giver, sharedAt, positionOf, runWord, userWordAt}
 
 total-rises : (f : ℕ → ℕ) (m n : ℕ) → m ≤ n → total f m ≤ total f n

@@ -1,12 +1,12 @@
 -- A lent buffer whose tail is filled by a call. Assumes nothing.
-use mathlib.Core.Path.{_≡_, refl, sym, _∙_, ap}
-use mathlib.Core.List.{List, [], _∷_, _++_, append-assoc, append-nil}
+use mathlib.Core.Path.{_≡_, sym, _∙_, ap}
+use mathlib.Core.List.{List, _++_, append-assoc, append-nil}
 use Prim.Native.Nat.{ℕ, _+_, _-_, _≤_, _<_}
 use native.Mathlib.Omega.{arith}
 use lib.ListN.{length, take, drop, length-drop, length-append}
 use lib.Seq.{take-all, drop-length, drop-drop, take-at, drop-at}
-use borrow.Rule.Slice.PartMut.{putMid, postOf, post-is, same-len-mid}
-use Rattle.answer.specs.Filled.{build, filled, build-cong, build-append, take-filled, drop-filled, length-build, filled-length}
+use borrow.Rule.Slice.PartMut.{putMid, post-is, same-len-mid}
+use Rattle.answer.specs.Filled.{build, filled, build-cong, build-append, length-build, filled-length}
 
 module _ (xs : List ℕ) (j : ℕ) (l : j ≤ length xs) where
   -- the part from j on, and the list with another in its place

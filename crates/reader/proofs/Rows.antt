@@ -1,7 +1,7 @@
 -- The front of the sixteen values is the row. Assumes nothing.
-use mathlib.Core.Path.{_≡_, _∙_, ap}
+use mathlib.Core.Path.{_≡_}
 use mathlib.Core.List.{List}
-use Prim.Native.Nat.{ℕ, _≤_}
+use Prim.Native.Nat.{ℕ}
 use lib.ListN.{take}
 use Rattle.channel.specs.Layout.{positions, row, rowIn16}
 use Rattle.channel.specs.Laws.{row16-front}

@@ -1,22 +1,22 @@
 -- What the words of a frame say of it: its bandwidth, row, overflow and User fields are had back from them. Assumes nothing.
 use mathlib.Core.Path.{_≡_, refl, sym, _∙_, ap, subst}
-use mathlib.Core.Bool.{Bool, true, false, cond}
-use mathlib.Core.List.{List, [], _∷_, _++_}
-use Prim.Native.Nat.{ℕ, zero, suc, _+_, _-_, _*_, _/_, _%_, _^_, _≤_, _<_}
+use mathlib.Core.Bool.{Bool, cond}
+use mathlib.Core.List.{List, _++_}
+use Prim.Native.Nat.{ℕ, _+_, _*_, _/_, _%_, _^_, _≤_, _<_}
 use native.Mathlib.Decide.{decLt}
 use native.Mathlib.Omega.{arith}
 use lib.Dec.{ltb}
-use lib.ListN.{length, getD, length-append, List·getD-append}
+use lib.ListN.{length, length-append, List·getD-append}
 use lib.Pow.{pow-lt}
-use lib.Seq.{getD-append-add, ext-getD}
+use lib.Seq.{getD-append-add}
 use borrow.Author.Tests.{lt-ltb, le-ltb, eq-eqb, ne-eqb}
-use Rattle.answer.specs.Filled.{build, build-cong, length-build, getD-build}
+use Rattle.answer.specs.Filled.{build-cong, length-build, getD-build}
 use Rattle.bits.specs.Bits.{field}
 use Rattle.bits.specs.Fields.{field-lt}
 use Rattle.resource.specs.Values.{fieldsOf}
-use Rattle.channel.specs.Layout.{positions, present, firsts, seconds, subfields, subfieldsIn, overflow, firstBits, secondAt, secondBits, value, rowAt, row, total, count, userAt}
+use Rattle.channel.specs.Layout.{positions, present, firsts, seconds, subfields, subfieldsIn, overflow, firstBits, secondAt, secondBits, value, rowAt, row, count, userAt}
 use Rattle.channel.specs.Laws.{positions-le, half, subfields-wide, row-length, row-at, row-lt, total-cong}
-use Rattle.words.specs.Words.{nth, header}
+use Rattle.words.specs.Words.{nth}
 use Rattle.words.specs.Back.{overflowOf, valueOf, knownOf, userField}
 use Rattle.words.specs.Laws.{overflow-of-word, value-of-header, known-of-header, user-field-word}
 use Rattle.reader.specs.Table.{wordCount}

@@ -1,6 +1,6 @@
 -- "each call ends with an acceptance or one numbered refusal from the table in document 01, in the order set there": an
 -- answer by some rows of 01's table. Assumes nothing.
-use mathlib.Core.Path.{_≡_, refl, sym, _∙_, ap}
+use mathlib.Core.Path.{_≡_}
 use mathlib.Core.Bool.{true}
 use mathlib.Core.List.{List, _∷_}
 use mathlib.Core.Logic.{⊎-elim}

@@ -1,32 +1,30 @@
 -- "What follows is padding, not looked at." (01, "Bandwidth and channels"): channels that reach the same ends and agree
 -- below them get the same answer and the same words. Assumes nothing.
 use mathlib.Core.Path.{_≡_, refl, sym, _∙_, ap}
-use mathlib.Core.Bool.{Bool, true, false, cond, _&&_}
-use mathlib.Core.List.{List, [], _∷_, _++_}
+use mathlib.Core.Bool.{Bool, true, false, cond}
+use mathlib.Core.List.{List, _++_}
 use Prim.Native.Nat.{ℕ, zero, suc, _+_, _-_, _*_, _≤_, _<_}
 use native.Mathlib.Decide.{decLt}
 use native.Mathlib.Omega.{arith}
-use lib.Dec.{ltb, leb, eqb}
-use lib.ListN.{length, take, drop, getD}
+use lib.Dec.{ltb, eqb}
+use lib.ListN.{length, take, getD}
 use borrow.Author.Tests.{lt-ltb, le-ltb, ltb-false}
-use Rattle.answer.specs.Answer.{refuseIf, _or_, answerAt, after}
-use Rattle.answer.specs.Order.{firstOf, first-pass, pass-left, pass-right, pass-if, or-pass}
+use Rattle.answer.specs.Answer.{refuseIf}
+use Rattle.answer.specs.Order.{firstOf, first-pass, pass-if, or-pass}
 use Rattle.answer.specs.Least.{least, least-cong}
 use Rattle.answer.specs.Filled.{build, build-cong}
-use Rattle.answer.specs.declared.Answer.{Answer}
-use Rattle.answer.specs.declared.Out.{Out}
 use Rattle.answer.specs.declared.Out.the-variants.{Pass}
 use Rattle.bits.specs.Bits.{field}
 use Rattle.resource.specs.Values.{fieldsOf}
-use Rattle.channel.specs.Layout.{present, overflow, firsts, seconds, firstBits, secondAt, secondBits, hasSecond, common, subfieldsIn, value, row, total, count, userAt, endOf}
-use Rattle.channel.specs.Checks.{tooLong, cutCommon, wrongCommon, overflowDiffers, notCarried, cutUsers, wrongUsers}
+use Rattle.channel.specs.Layout.{present, overflow, seconds, firstBits, secondAt, secondBits, hasSecond, common, subfieldsIn, value, row, count, userAt, endOf}
+use Rattle.channel.specs.Checks.{tooLong, cutCommon, cutUsers}
 use Rattle.channel.specs.Laws.{present-1, first-inside, second-inside, common-ge, end-after, total-cong, user-end}
 use Rattle.channel.specs.Passing.{pass-tooLong, pass-cutCommon, pass-cutUsers}
-use Rattle.channel.specs.Padding.{Same, same-less, field-in, Alike, AlikeToEnd, alike-of, present-count, value-same, count-same, row-same, wrongCommon-same, notCarried-same, overflowDiffers-same, wrongUsers-same, user-same}
-use Rattle.words.specs.Words.{nth, header, secondWord, userWord}
+use Rattle.channel.specs.Padding.{Same, field-in, Alike, AlikeToEnd, alike-of, present-count, value-same, count-same, row-same, wrongCommon-same, notCarried-same, overflowDiffers-same, wrongUsers-same, user-same}
+use Rattle.words.specs.Words.{secondWord}
 use Rattle.stations.specs.Stations.{stationOf, stationPlace, repeated, firstRepeated, stationTwice}
 use Rattle.reader.specs.Table.{check1, check2, check3, check4, check5, check6, check7, check8, check9, check10, check11, noRoom, check12, eleven, readable, reading, wordCount}
-use Rattle.reader.specs.Words.{before, giver, positionOf, sharedAt, userWordAt, userWords, headerOf, wordsIn, wordsOf}
+use Rattle.reader.specs.Words.{before, giver, userWordAt, userWords, headerOf, wordsIn, wordsOf}
 use Rattle.reader.specs.Stages.{reading-stages}
 use Rattle.reader.specs.Result.{answerOf, wordsAfter}
 

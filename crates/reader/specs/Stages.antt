@@ -1,21 +1,20 @@
 -- The table's checks in the groups in which the code runs them, and what passing a group says. Assumes nothing.
 use mathlib.Core.Path.{_≡_, refl, sym, _∙_, ap}
-use mathlib.Core.Bool.{Bool, true, false, not, _&&_, _||_}
-use mathlib.Core.List.{List, [], _∷_, _++_}
+use mathlib.Core.Bool.{Bool, true, false, _||_}
+use mathlib.Core.List.{List, [], _∷_}
 use Prim.Native.Nat.{ℕ, _+_, _≤_}
-use native.Mathlib.Omega.{arith}
 use lib.Dec.{ltb}
 use lib.ListN.{length}
 use borrow.Author.Tests.{ltb-false}
-use Rattle.answer.specs.Answer.{no, refuseIf, _or_}
-use Rattle.answer.specs.Order.{firstOf, first-chain, first-append, pass-left, pass-right, pass-if, or-assoc, or-end, pass-or}
+use Rattle.answer.specs.Answer.{_or_}
+use Rattle.answer.specs.Order.{firstOf, first-chain, first-append, pass-left, pass-right, pass-if, or-assoc, or-end}
 use Rattle.answer.specs.declared.Answer.{Answer}
 use Rattle.answer.specs.declared.Out.{Out}
 use Rattle.answer.specs.declared.Out.the-variants.{Pass, Refuse}
-use Rattle.plan.specs.Guess.{answer7, answer8, layoutOf}
+use Rattle.plan.specs.Guess.{layoutOf}
 use Rattle.channel.specs.Layout.{row, count}
 use Rattle.channel.specs.Checks.{tooLong}
-use Rattle.reader.specs.Table.{check1, check2, check3, check4, check5, check6, check7, check8, check9, check10, check11, check12, eleven, table, readable, reading, wordCount, noRoom}
+use Rattle.reader.specs.Table.{check1, check2, check3, check4, check5, check6, check7, check8, check9, check10, check11, check12, eleven, readable, reading, wordCount, noRoom}
 
 -- 1 to 6
 unfoldable pub commonChecks : ℕ → List ℕ → List ℕ → Out

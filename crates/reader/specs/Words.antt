@@ -1,10 +1,10 @@
 -- The words of an accepted reading. Assumes nothing.
 --
 -- 01, "What comes back": "Words, lent as 32-bit numbers: known, nine data words, one per User field, channel 1 first."
-use mathlib.Core.Bool.{Bool, true, false, cond}
-use mathlib.Core.List.{List, [], _∷_, _++_}
+use mathlib.Core.Bool.{Bool}
+use mathlib.Core.List.{List, _++_}
 use Prim.Native.Nat.{ℕ, _+_, _-_, _*_}
-use lib.Dec.{ltb, eqb}
+use lib.Dec.{ltb}
 use lib.ListN.{length}
 use Rattle.answer.specs.Least.{least}
 use Rattle.answer.specs.Filled.{build}

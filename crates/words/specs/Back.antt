@@ -1,9 +1,8 @@
 -- From words back to the parts of a frame. Assumes nothing.
 use mathlib.Core.Bool.{Bool, true, false, cond}
 use mathlib.Core.List.{List, [], _∷_}
-use Prim.Native.Nat.{ℕ, zero, suc, _+_, _-_, _*_, _/_, _%_, _^_}
-use lib.Dec.{ltb, eqb}
-use lib.ListN.{getD}
+use Prim.Native.Nat.{ℕ, _+_, _-_, _*_, _/_, _%_, _^_}
+use lib.Dec.{eqb}
 use Rattle.words.specs.Pack.{pack, unpack}
 use Rattle.words.specs.Words.{nth, overflowWidths, data0Widths, aloneWidths, aloneWordWidths, sharedWidths, sharedWordWidths}
 

@@ -1,15 +1,14 @@
 -- The parts of a frame are had back from its words. Assumes nothing.
-use mathlib.Core.Path.{_≡_, refl, sym, _∙_, ap}
+use mathlib.Core.Path.{_≡_, refl, _∙_, ap}
 use mathlib.Core.Bool.{Bool, true, false, cond}
 use mathlib.Core.List.{List, [], _∷_, _++_}
 use Prim.Native.Nat.{ℕ, zero, suc, _+_, _-_, _*_, _/_, _%_, _^_, _≤_, _<_}
 use native.Mathlib.Omega.{arith}
 use lib.Dec.{ltb, eqb}
-use lib.ListN.{getD, length}
 use borrow.Author.Tests.{lt-ltb, ne-eqb}
 use native.Mathlib.Nat.{mod-lt, mod-eq-of-lt, add-zero, div-one}
-use Rattle.words.specs.Pack.{pack, unpack, Fit, width, unpack-pack, pack-unpack, unpack-fit, pack-lt}
-use Rattle.words.specs.Words.{nth, known, header, secondWord, overflowWidths, data0Widths, sizeOf, giOf, data0Of, overflowWord, slot, firstWord, tripleWord, aloneWidths, aloneWordWidths, aloneOf, sharedWidths, sharedWordWidths, sharedOf, userWord}
+use Rattle.words.specs.Pack.{pack, unpack, Fit, unpack-pack, pack-unpack, unpack-fit, pack-lt}
+use Rattle.words.specs.Words.{nth, header, overflowWidths, data0Widths, sizeOf, giOf, data0Of, overflowWord, slot, firstWord, tripleWord, aloneWidths, aloneWordWidths, aloneOf, sharedWidths, sharedWordWidths, sharedOf, userWord}
 use Rattle.words.specs.Back.{giLtf, overflowIn, overflowOf, valueOf, knownOf, aloneIn, sharedIn, fieldIn, userField}
 
 -- ---- User words

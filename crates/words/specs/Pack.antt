@@ -1,7 +1,7 @@
 -- Fields of a number, lowest first, by their widths: one law for every layout. Assumes nothing.
-use mathlib.Core.Path.{_≡_, refl, sym, _∙_, ap}
+use mathlib.Core.Path.{_≡_, refl, _∙_, ap}
 use mathlib.Core.List.{List, [], _∷_}
-use Prim.Native.Nat.{ℕ, zero, suc, _+_, _*_, _/_, _%_, _^_, _≤_, _<_}
+use Prim.Native.Nat.{ℕ, suc, _+_, _*_, _/_, _%_, _^_, _≤_, _<_}
 use native.Mathlib.Omega.{arith}
 use lib.Pow.{pow-pos, pow-add}
 use native.Mathlib.Nat.{add-comm, mul-comm, add-mul-div-left, mul-add-mod-self-left, mod-eq-of-lt, mod-lt, div-eq-of-lt, div-lt-iff-lt-mul, mod-add-div}

@@ -2,8 +2,8 @@
 ghost use mathlib.Core.Path.{_≡_};
 ghost use mathlib.Core.Bool.{true, false};
 ghost use mathlib.Core.List.{_++_};
-ghost use Prim.Native.Nat.{_+_, _*_, _^_, _≤_, _<_};
-ghost use lib.ListN.{length, getD, drop};
+ghost use Prim.Native.Nat.{_+_, _*_, _≤_, _<_};
+ghost use lib.ListN.{length, drop};
 ghost use Rattle.words.specs.Words.{nth, known, sizeOf, giOf, overflowWord, slot, firstWord, tripleWord, secondWord, header, userWord};
 ghost use Rattle.words.specs.Back.{giLtf, overflowOf, valueOf, fieldIn, userField};
 

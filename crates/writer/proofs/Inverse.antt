@@ -13,7 +13,7 @@ use lib.Seq.{take-at, drop-at}
 use borrow.Author.Tests.{le-ltb}
 use denote.Ref.{now}
 use Rattle.answer.specs.Answer as A
-use Rattle.answer.specs.Answer.{refuseIf, answerAt, after}
+use Rattle.answer.specs.Answer.{refuseIf, answerAt}
 use Rattle.answer.specs.Order.{Applies, pass-left, pass-right, or-pass, pass-if, if-pass, pass-not-refuse}
 use Rattle.answer.specs.declared.Answer.{Answer}
 use Rattle.answer.specs.declared.Out.{Out}

@@ -10,7 +10,6 @@ use lib.Dec.{ltb}
 use borrow.Author.Tests.{ltb-true, ltb-false}
 use Rattle.bits.specs.Bits.{bit, field}
 use Rattle.bits.specs.Fields.{field-same}
-use Rattle.check4.specs.Check.{check}
 use Rattle.check4.specs.Checks.{Right, check-ext}
 use Rattle.channel.specs.Layout.{firsts, seconds, firstBits, secondAt, secondBits, hasSecond, common, subfields, valueAt, value, userAt, blockAt, blocks, covered, endOf}
 use Rattle.channel.specs.Laws.{value-first, value-second, user-even, user-odd}

@@ -3,8 +3,7 @@
 use answer::Answer;
 use answer::Out;
 ghost use mathlib.Core.Path.{_≡_};
-ghost use mathlib.Core.List.{List};
-ghost use Prim.Native.Nat.{ℕ, _+_, _<_, _≤_};
+ghost use Prim.Native.Nat.{_+_, _<_, _≤_};
 ghost use lib.ListN.{length, replicate};
 ghost use Rattle.answer.specs.Answer.{_or_};
 ghost use Rattle.answer.specs.Least.{least};

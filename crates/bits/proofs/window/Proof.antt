@@ -1,5 +1,5 @@
 -- `bits::window` meets its contract. Assumes nothing.
-use Prim.Native.Nat.{ℕ, _+_}
+use Prim.Native.Nat.{_+_}
 use mathlib.Core.Path.{_∙_, refl}
 use native.Mathlib.Omega.{arith}
 use Rattle.bits.specs.Fields.{field-word}

@@ -1,6 +1,6 @@
 -- `channel::covered_bits` meets its contract. Assumes nothing.
-use Prim.Native.Nat.{ℕ, _+_, _-_, _*_, _/_, _%_, _≤_, _<_}
-use borrow.Author.Tests.{lt-ltb, le-ltb, eq-eqb, ne-eqb}
+use Prim.Native.Nat.{_+_, _*_}
+use borrow.Author.Tests.{lt-ltb, le-ltb}
 use Rattle.channel.specs.Layout.{covered}
 use borrow.Author.Needs.{needs}
 use Rattle.channel.proofs.covered_bits.Statement.{statement}

@@ -1,8 +1,7 @@
 -- `channel::first_wrong` meets its contract. Assumes nothing.
-use Prim.Native.Nat.{ℕ, _+_, _-_, _*_, _/_, _%_, _≤_, _<_}
-use mathlib.Core.Path.{_≡_, refl, sym, _∙_, ap}
+use Prim.Native.Nat.{_+_, _-_, _/_, _≤_}
+use mathlib.Core.Path.{_≡_, sym, _∙_}
 use native.Mathlib.Omega.{arith}
-use mathlib.Core.Bool.{true, false}
 use Rattle.answer.specs.Least.{least, least-start, least-step, least-stop, least-end}
 use Rattle.channel.specs.Layout.{blocks}
 use Rattle.channel.specs.Checks.{wrongBlock, firstWrong}

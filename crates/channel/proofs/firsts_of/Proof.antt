@@ -1,5 +1,5 @@
 -- `channel::firsts_of` meets its contract. Assumes nothing.
-use borrow.Author.Tests.{lt-ltb, le-ltb, eq-eqb, ne-eqb}
+use borrow.Author.Tests.{lt-ltb, le-ltb}
 use Rattle.channel.specs.Layout.{firsts}
 use borrow.Author.Needs.{needs}
 use Rattle.channel.proofs.firsts_of.Statement.{statement}

@@ -1,5 +1,5 @@
 -- `channel::is_wrong_first` meets its contract. Assumes nothing.
-use mathlib.Core.Path.{_≡_, refl, sym, _∙_, ap}
+use mathlib.Core.Path.{_≡_, sym, _∙_}
 use mathlib.Core.Bool.{true, false}
 use Rattle.channel.specs.Layout.{present}
 use Rattle.channel.specs.Checks.{wrongFirst}

@@ -1,5 +1,5 @@
 -- `channel::is_wrong_second` meets its contract. Assumes nothing.
-use mathlib.Core.Path.{_≡_, refl, sym, _∙_, ap}
+use mathlib.Core.Path.{_≡_, sym, _∙_, ap}
 use mathlib.Core.Bool.{true, false, _&&_}
 use Rattle.channel.specs.Layout.{present, hasSecond}
 use Rattle.channel.specs.Layout.{secondAt}

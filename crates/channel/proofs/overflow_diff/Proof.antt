@@ -1,5 +1,5 @@
 -- `channel::overflow_diff` meets its contract. Assumes nothing.
-use mathlib.Core.Path.{_≡_, refl, sym, _∙_, ap}
+use mathlib.Core.Path.{_≡_, sym, _∙_}
 use Rattle.bits.specs.Bits.{field}
 use Rattle.bits.specs.Differs.{differ-nowhere, differs-from-0}
 use borrow.Author.Needs.{needs}

@@ -1,8 +1,7 @@
 -- `channel::positions_of` meets its contract. Assumes nothing.
 use lib.Pow.{pow-mono}
 use Prim.Native.Nat.{_^_}
-use Prim.Native.Nat.{ℕ, _+_, _-_, _*_, _/_, _%_, _≤_, _<_}
-use mathlib.Core.Path.{_≡_, refl, sym, _∙_, ap}
+use Prim.Native.Nat.{_≤_}
 use native.Mathlib.Omega.{arith}
 use Rattle.channel.specs.Layout.{positions}
 use borrow.Author.Needs.{needs}

@@ -1,6 +1,6 @@
 -- `channel::row_value` meets its contract. Assumes nothing.
-use Prim.Native.Nat.{ℕ, _+_, _-_, _*_, _/_, _%_, _≤_, _<_}
-use borrow.Author.Tests.{lt-ltb, le-ltb, eq-eqb, ne-eqb}
+use Prim.Native.Nat.{_%_}
+use borrow.Author.Tests.{eq-eqb, ne-eqb}
 use Rattle.channel.specs.Layout.{rowAt}
 use borrow.Author.Needs.{needs}
 use Rattle.channel.proofs.row_value.Statement.{statement}

@@ -1,5 +1,5 @@
 -- `channel::seconds_of` meets its contract. Assumes nothing.
-use borrow.Author.Tests.{lt-ltb, le-ltb, eq-eqb, ne-eqb}
+use borrow.Author.Tests.{eq-eqb, ne-eqb}
 use Rattle.channel.specs.Layout.{seconds}
 use borrow.Author.Needs.{needs}
 use Rattle.channel.proofs.seconds_of.Statement.{statement}

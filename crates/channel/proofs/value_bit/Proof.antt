@@ -1,6 +1,6 @@
 -- `channel::value_bit` meets its contract. Assumes nothing.
 use native.Mathlib.Omega.{arith}
-use borrow.Author.Tests.{lt-ltb, le-ltb, eq-eqb, ne-eqb}
+use borrow.Author.Tests.{lt-ltb, le-ltb}
 use Rattle.channel.specs.Layout.{firsts}
 use Rattle.channel.specs.Layout.{valueAt, secondAt}
 use borrow.Author.Needs.{needs}

@@ -1,11 +1,10 @@
 -- `check4::bits_in` meets its contract. Assumes nothing.
 use borrow.Author.Needs.{needs}
-use Prim.Native.Nat.{ℕ, _+_, _-_, _/_, _%_, _^_, _≤_, _<_}
-use mathlib.Core.Path.{_≡_, sym, _∙_, refl, ap}
+use Prim.Native.Nat.{ℕ, _+_, _-_, _/_, _^_, _≤_, _<_}
+use mathlib.Core.Path.{_≡_, sym, _∙_, ap}
 use native.Mathlib.Nat.{div-one}
 use native.Mathlib.Omega.{arith}
 use lib.Pow as P
-use Rattle.check4.specs.Check.{step}
 use Rattle.check4.specs.Parts.{steps, steps-none, steps-next, steps-lt}
 use Rattle.check4.proofs.bits_in.Statement.{statement}
 use Rattle.check4.proofs.bits_in.Tie as tie

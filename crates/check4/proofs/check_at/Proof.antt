@@ -1,13 +1,13 @@
 -- `check4::check_at` meets its contract. Assumes nothing.
 use borrow.Author.Needs.{needs}
-use Prim.Native.Nat.{ℕ, _+_, _-_, _*_, _/_, _%_, _^_, _≤_, _<_, min}
-use mathlib.Core.Path.{_≡_, sym, _∙_, refl, ap}
+use Prim.Native.Nat.{ℕ, _+_, _-_, _^_, _≤_, _<_}
+use mathlib.Core.Path.{_≡_, refl, ap}
 use native.Mathlib.Omega.{arith}
 use lib.Pow.{pow-mono}
 use Rattle.bits.specs.Fields.{field-lt}
 use Rattle.check4.specs.Check.{register, sent, check}
 use Rattle.check4.specs.Checks.{register-lt}
-use Rattle.check4.specs.Parts.{steps, register-part}
+use Rattle.check4.specs.Parts.{register-part}
 use Rattle.check4.proofs.check_at.Statement.{statement}
 use Rattle.check4.proofs.check_at.Tie as tie
 

@@ -1,6 +1,5 @@
 -- `plan::channel_share` meets its contract. Assumes nothing.
 use borrow.Author.Tests.{eq-eqb, ne-eqb}
-use native.Mathlib.Omega.{arith}
 use borrow.Author.Needs.{needs}
 use Rattle.plan.proofs.channel_share.Statement.{statement}
 use Rattle.plan.proofs.channel_share.Tie as tie

@@ -2,7 +2,7 @@
 use borrow.Author.Needs.{needs}
 use mathlib.Core.Path.{sym}
 use native.Mathlib.Omega.{arith}
-use Rattle.plan.proofs.Only.{Chosen, left, joined, full, half, alone, choose-is}
+use Rattle.plan.proofs.Only.{left, joined, full, half, alone, choose-is}
 use Rattle.plan.proofs.choice.Statement.{statement}
 use Rattle.plan.proofs.choice.Tie as tie
 

@@ -2,7 +2,7 @@
 use native.Mathlib.Numerals.{add-one}
 use Rattle.plan.specs.Fields.{shares, fieldsIn}
 use Rattle.plan.specs.Plan.{at, span}
-use Prim.Native.Nat.{_+_, _-_, _*_, _≤_}
+use Prim.Native.Nat.{_-_, _*_, _≤_}
 use mathlib.Core.Path.{_≡_, refl, _∙_}
 use native.Mathlib.Omega.{arith}
 use borrow.Author.Needs.{needs}

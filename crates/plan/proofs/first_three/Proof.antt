@@ -1,13 +1,11 @@
 -- `plan::first_three` meets its contract. Assumes nothing.
-use mathlib.Core.Path.{_≡_, refl, sym, _∙_, ap}
-use mathlib.Core.Logic.{⊎-elim}
-use Prim.Native.Nat.{ℕ, _≤_, _-_, _+_, suc}
+use mathlib.Core.Path.{_≡_, refl, _∙_}
+use Prim.Native.Nat.{_≤_, _-_}
 use native.Mathlib.Omega.{arith}
 use native.Mathlib.Numerals.{add-one}
 use borrow.Author.Needs.{needs}
 use Rattle.plan.specs.Plan.{at}
-use Rattle.plan.specs.Guess.{firstThree, threeOf, orElse}
-use Rattle.plan.proofs.Only.{orElse-low, orElse-high}
+use Rattle.plan.specs.Guess.{firstThree}
 use Rattle.plan.proofs.first_three.Statement.{statement}
 use Rattle.plan.proofs.first_three.Tie as tie
 

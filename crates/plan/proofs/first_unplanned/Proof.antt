@@ -2,11 +2,9 @@
 use Rattle.plan.specs.Layout.{segments}
 use mathlib.Core.Path.{sym}
 use Rattle.answer.specs.Least.{least, least-start, least-step, least-stop, least-end}
-use mathlib.Core.Bool.{not}
 use Rattle.plan.specs.Guess.{noPlan, unplanned}
-use Rattle.plan.specs.Plan.{at}
 use Prim.Native.Nat.{_-_, _≤_}
-use mathlib.Core.Path.{_≡_, refl, _∙_}
+use mathlib.Core.Path.{_≡_}
 use native.Mathlib.Omega.{arith}
 use borrow.Author.Needs.{needs}
 use Rattle.plan.proofs.first_unplanned.Statement.{statement}

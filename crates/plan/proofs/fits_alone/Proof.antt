@@ -1,6 +1,6 @@
 -- `plan::fits_alone` meets its contract. Assumes nothing.
 use native.Mathlib.Omega.{arith}
-use Rattle.plan.specs.Plan.{Fits, own, blank, smaller}
+use Rattle.plan.specs.Plan.{own}
 use Rattle.plan.proofs.Fit.{at-48, at-50, low-fits, alone-none}
 use Rattle.plan.proofs.Tests.{is-yes, is-no}
 use Rattle.plan.proofs.fits_alone.Statement.{statement}

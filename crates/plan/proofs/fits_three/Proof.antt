@@ -1,7 +1,7 @@
 -- `plan::fits_three` meets its contract. Assumes nothing.
 use borrow.Author.Needs.{needs}
 use native.Mathlib.Omega.{arith}
-use Rattle.plan.specs.Plan.{Fits, own, blank, smaller}
+use Rattle.plan.specs.Plan.{own}
 use Rattle.plan.proofs.Fit.{three-takes, three-single, three-pair}
 use Rattle.plan.proofs.Tests.{is-yes, is-no}
 use Rattle.plan.proofs.fits_three.Statement.{statement}

@@ -1,6 +1,5 @@
 -- `plan::gives_fields` meets its contract. Assumes nothing.
 use Rattle.plan.specs.Fields.{gives}
-use native.Mathlib.Omega.{arith}
 use borrow.Author.Needs.{needs}
 use Rattle.plan.proofs.gives_fields.Statement.{statement}
 use Rattle.plan.proofs.gives_fields.Tie as tie

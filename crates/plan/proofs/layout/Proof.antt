@@ -2,7 +2,6 @@
 use mathlib.Core.Path.{_≡_, _∙_}
 use Rattle.plan.specs.Guess.{answer7, answer8, layoutOf}
 use Rattle.plan.proofs.Laid.{layout-laid}
-use native.Mathlib.Omega.{arith}
 use borrow.Author.Needs.{needs}
 use Rattle.plan.proofs.layout.Statement.{statement}
 use Rattle.plan.proofs.layout.Tie as tie

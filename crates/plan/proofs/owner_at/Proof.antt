@@ -3,7 +3,6 @@ use Rattle.plan.proofs.Only.{in-segment}
 use Rattle.plan.specs.Plan.{at}
 use Prim.Native.Nat.{_/_}
 use mathlib.Core.Path.{_∙_, refl}
-use native.Mathlib.Omega.{arith}
 use borrow.Author.Needs.{needs}
 use Rattle.plan.proofs.owner_at.Statement.{statement}
 use Rattle.plan.proofs.owner_at.Tie as tie

@@ -6,7 +6,7 @@ use mathlib.Core.Path.{sym}
 use mathlib.Core.Bool.{true}
 use Rattle.plan.specs.Guess.{every, fitsAt, planned}
 use Rattle.plan.specs.Plan.{at}
-use Prim.Native.Nat.{_+_, _-_, _*_, _≤_}
+use Prim.Native.Nat.{_-_, _≤_}
 use mathlib.Core.Path.{_≡_, refl, _∙_}
 use native.Mathlib.Omega.{arith}
 use borrow.Author.Needs.{needs}

@@ -1,5 +1,4 @@
 -- `plan::shared_at` meets its contract. Assumes nothing.
-use native.Mathlib.Omega.{arith}
 use borrow.Author.Needs.{needs}
 use Rattle.plan.proofs.shared_at.Statement.{statement}
 use Rattle.plan.proofs.shared_at.Tie as tie

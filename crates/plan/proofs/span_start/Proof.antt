@@ -1,5 +1,4 @@
 -- `plan::span_start` meets its contract. Assumes nothing.
-use native.Mathlib.Omega.{arith}
 use borrow.Author.Needs.{needs}
 use Rattle.plan.proofs.span_start.Statement.{statement}
 use Rattle.plan.proofs.span_start.Tie as tie
