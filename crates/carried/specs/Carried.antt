@@ -22,7 +22,8 @@ pub record CarriedRow (bw : ℕ) (r : List ℕ) : Type 0 where
   pub as-many : length r ≡ positions bw
   pub each : (p : ℕ) → p < positions bw → carried (at r p) ≡ true
 
--- the channels, of bytes a and b, carry the row r and pass checks 1 to 6. At 20 MHz channel 2 is empty by 2.
+-- the channels, of bytes a and b, carry the row r and pass checks 1 to 6. At 20 MHz channel 2 is empty by 2
+-- (`proofs/Channels.antt`: `empty-at-20`).
 pub record Carry (bw : ℕ) (r a b : List ℕ) : Type 0 where
   pub the-row : row bw a b ≡ r
   pub one-to-six : commonChecks bw a b ≡ Pass

@@ -6,8 +6,8 @@ use Prim.Native.Nat.{ℕ}
 use lib.Dec.{ltb}
 use lib.ListN.{length}
 use denote.Ref.{now}
-use Rattle.answer.specs.Answer.{_or_, answerAt}
-use Rattle.answer.specs.Order.{Only, only-if, firstOf, first-append, or-end, distinct, absent, Gives}
+use Rattle.answer.specs.Answer.{_or_}
+use Rattle.answer.specs.Order.{Only, only-if, firstOf, first-append, or-end, distinct, absent}
 use Rattle.answer.specs.declared.Answer.{Answer}
 use Rattle.answer.specs.declared.Out.{Out}
 use Rattle.reader.specs.Table.{eleven, readable}

@@ -1,12 +1,11 @@
 -- Room that suffices for the listing of a frame, found without its resources: a line before them has its place in 200 bytes, a `ru=`
 -- line in 240 and a `sta=` line in 55, and there is at most one resource for each User field and one more for each position. The
 -- program writes at once where there is so much. Assumes nothing.
-use mathlib.Core.Path.{_≡_, refl, sym, _∙_, ap}
+use mathlib.Core.Path.{_≡_, refl}
 use mathlib.Core.Bool.{Bool, true, false, cond, _||_}
 use mathlib.Core.List.{List, _∷_, []}
 use Prim.Native.Nat.{ℕ, zero, suc, _+_, _*_, _%_, _≤_}
 use native.Mathlib.Omega.{arith}
-use borrow.Author.Tests.{eq-eqb, ne-eqb}
 use lib.Dec.{eqb}
 use lib.ListN.{length, length-append}
 use Rattle.plan.specs.declared.Owner.{Owner}

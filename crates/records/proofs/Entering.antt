@@ -3,7 +3,7 @@ use mathlib.Core.Path.{_≡_, refl, sym, _∙_, ap}
 use mathlib.Core.Logic.{_⊎_, inl, inr}
 use mathlib.Core.Bool.{Bool, true, false, cond}
 use mathlib.Core.List.{List}
-use Prim.Native.Nat.{ℕ, zero, suc, _+_, _-_, _*_, _/_, _%_, _≤_, _<_}
+use Prim.Native.Nat.{ℕ, zero, suc, _+_, _*_, _/_, _%_, _≤_, _<_}
 use native.Mathlib.Omega.{arith}
 use borrow.Author.Tests.{eqb-true, ne-eqb}
 use lib.Dec.{eqb}
@@ -11,12 +11,12 @@ use lib.ListN.{length, getD, set, replicate, length-replicate, getD-replicate}
 use Rattle.answer.specs.Filled.{build, filled, build-is, filled-step, filled-length, getD-filled, getD-kept}
 use Rattle.plan.specs.declared.Owner.{Owner}
 use Rattle.plan.specs.declared.Owner.the-variants.{Itself, Pair, Whole, Three}
-use Rattle.plan.specs.Guess.{onlyPlan, choose, firstThree}
+use Rattle.plan.specs.Guess.{onlyPlan, firstThree}
 use Rattle.plan.proofs.Only.{Chosen, left, joined, full, half, alone, chosen}
 use Rattle.resource.specs.Values.{fieldsOf}
 use Rattle.resource.proofs.Fields.{fields-most}
 use Rattle.resource.proofs.Test.{below-or}
-use Rattle.records.specs.Records.{inChannel, divides, recordsFrom}
+use Rattle.records.specs.Records.{inChannel, divides}
 use Rattle.records.specs.Owns.{fieldsBefore, number, lowest, ownerAt, ownerOf}
 use Rattle.records.proofs.Listing.{records-most}
 use Rattle.records.proofs.Owners.{before-next, before-rise, found-left, nothing}

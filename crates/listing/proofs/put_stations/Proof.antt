@@ -1,9 +1,7 @@
 -- `listing::put_stations` meets its contract. Assumes nothing.
 use borrow.Author.Needs.{needs}
 use native.Mathlib.Omega.{arith}
-use mathlib.Core.List.{List}
-use mathlib.Core.Path.{_≡_}
-use Rattle.text.specs.Text.{Wrote, upto}
+use Rattle.text.specs.Text.{upto}
 use Rattle.text.specs.Laws.{after}
 use Rattle.listing.proofs.Channels.{ownedLine, ownersIn, both-channels}
 use Rattle.listing.proofs.put_stations.Statement.{statement}

@@ -1,6 +1,5 @@
 -- `listing::room_for` meets its contract. Assumes nothing.
 use borrow.Author.Needs.{needs}
-use native.Mathlib.Omega.{arith}
 use Rattle.listing.specs.Room.{roomFor}
 use Rattle.listing.proofs.room_for.Statement.{statement}
 use Rattle.listing.proofs.room_for.Tie as tie

@@ -8,7 +8,7 @@ use Rattle.plan.specs.Guess.{onlyPlan}
 use Rattle.plan.specs.Plan.{at}
 use lib.ListN.{length, getD, replicate}
 use mathlib.Core.List.{List}
-use mathlib.Core.Path.{_≡_, sym, ap, _∙_}
+use mathlib.Core.Path.{_≡_, ap, _∙_}
 use Prim.Native.Nat.{ℕ, _≤_}
 use native.Mathlib.Omega.{arith}
 use borrow.Author.Needs.{needs}
