@@ -2,17 +2,9 @@
 use mathlib.Core.Path.{_≡_, sym, _∙_}
 use Rattle.answer.proofs.refuse_if.Reads as refuse-if
 use Rattle.answer.proofs.or_else.Reads as or-else
-use Rattle.answer.proofs.passed.Reads as passed
-use Rattle.answer.proofs.answer_of.Reads as answer-of
 
 pub refuse-if-agrees : (κs : _) (a : _) (r r' : _) (s s' : _) → refuse-if.Post κs a r s → refuse-if.Post κs a r' s' → r ≡ r'
 refuse-if-agrees κs a r r' s s' p q = p ∙ sym q
 
 pub or-else-agrees : (κs : _) (a : _) (r r' : _) (s s' : _) → or-else.Post κs a r s → or-else.Post κs a r' s' → r ≡ r'
 or-else-agrees κs a r r' s s' p q = p ∙ sym q
-
-pub passed-agrees : (κs : _) (a : _) (r r' : _) (s s' : _) → passed.Post κs a r s → passed.Post κs a r' s' → r ≡ r'
-passed-agrees κs a r r' s s' p q = p ∙ sym q
-
-pub answer-of-agrees : (κs : _) (a : _) (r r' : _) (s s' : _) → answer-of.Post κs a r s → answer-of.Post κs a r' s' → r ≡ r'
-answer-of-agrees κs a r r' s s' p q = p ∙ sym q

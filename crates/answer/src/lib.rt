@@ -1,6 +1,6 @@
 // What every call of the project answers, and the order in which its checks speak.
 ghost use mathlib.Core.Path.{_≡_};
-ghost use Rattle.answer.specs.Answer.{no, refuseIf, _or_, answerAt, passes};
+ghost use Rattle.answer.specs.Answer.{no, refuseIf, _or_};
 
 // 01, "What comes back": "returns number, channel, place". The layout is C's.
 #[repr(C)]
@@ -36,28 +36,4 @@ pub fn or_else(a: Out, b: Out) -> Out
     ensures { λ r. ⌜ r ≡ (a or b) ⌝ }
 {
     if let Out::Refuse(_) = a { a } else { b }
-}
-
-// Whether nothing has refused.
-pub fn passed(out: Out) -> bool
-    ensures { λ r. ⌜ r ≡ passes out ⌝ }
-{
-    match out {
-        Out::Pass => true,
-        Out::Refuse(_) => false,
-    }
-}
-
-// The answer of a call whose checks came to `out` and that counts `count` words, or bytes, where it is accepted.
-pub fn answer_of(out: Out, count: usize) -> Answer
-    ensures { λ r. ⌜ r ≡ answerAt out count ⌝ }
-{
-    match out {
-        Out::Pass => Answer {
-            number: 0,
-            channel: 0,
-            place: count,
-        },
-        Out::Refuse(x) => x,
-    }
 }

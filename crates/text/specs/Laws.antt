@@ -3,13 +3,12 @@ use Prim.Native.Nat.{ℕ, zero, suc, _+_, _-_, _*_, _/_, _%_, _^_, _≤_, _<_, z
 use mathlib.Core.Path.{_≡_, refl, sym, ap, _∙_}
 use mathlib.Core.Bool.{Bool, true, false, cond}
 use mathlib.Core.List.{List, [], _∷_, _++_, append-assoc, append-nil}
-use mathlib.Core.Logic.{⊎-elim}
-use native.Mathlib.Nat.{suc-mul, zero-add, eq-or-lt-of-le, le-of-suc-le-suc, add-zero, add-suc, suc-add, add-assoc, div-lt-iff-lt-mul, pow-suc}
+use native.Mathlib.Nat.{suc-mul, zero-add, add-zero, add-suc, suc-add, add-assoc, div-lt-iff-lt-mul, pow-suc}
 use native.Mathlib.Numerals.{add-one, sub-one}
 use native.Mathlib.Omega.{arith}
 use borrow.Author.Tests.{lt-ltb, le-ltb, ltb-true}
 use lib.Dec.{ltb}
-use lib.IntN.{ℤ, pos, negsuc, _-ℤ_}
+use lib.IntN.{pos, _-ℤ_}
 use lib.ListN.{length, take, drop, getD, set, length-append}
 use lib.Seq.{set-out, sets, length-sets, sets-eq, take-suc, take-all, length-take-le}
 use Rattle.text.specs.Text.{codes, decs, dec, signed, upto, Wrote}

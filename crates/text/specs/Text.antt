@@ -2,7 +2,7 @@
 -- lent buffer does. Assumes nothing.
 --
 -- 01, "Listing": "Each line starts with its fixed key, compared and written byte for byte."
-use Prim.Native.Nat.{ℕ, zero, suc, _+_, _-_, _/_, _%_}
+use Prim.Native.Nat.{ℕ, zero, suc, _+_, _/_, _%_}
 use Prim.Native.Char.{code}
 use Prim.Native.String.{String, [] as end, _∷_ as _then_}
 use mathlib.Core.Path.{_≡_}

@@ -1,7 +1,7 @@
 // Writers of text into a lent buffer (01, "Listing"). Each stores where the buffer reaches and returns the next place
 // either way: one writer counts and writes.
 ghost use mathlib.Core.Path.{_≡_};
-ghost use mathlib.Core.List.{[], _∷_, _++_};
+ghost use mathlib.Core.List.{[], _∷_};
 ghost use Prim.Native.Nat.{_+_, _%_, _≤_, _<_};
 ghost use lib.ListN.{length};
 ghost use lib.IntN.{pos, _-ℤ_};

@@ -1,7 +1,7 @@
 -- `text::put_dec` meets its contract. Assumes nothing.
 use borrow.Author.Needs.{needs}
 use native.Mathlib.Omega.{arith}
-use Prim.Native.Nat.{_/_, _^_}
+use Prim.Native.Nat.{_/_}
 use Rattle.text.specs.Text.{dec}
 use Rattle.text.specs.Laws.{decs-short, dec-short, dec-fit, dec-more}
 use Prim.Native.Nat.{ℕ, _<_}

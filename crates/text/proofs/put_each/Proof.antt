@@ -1,13 +1,8 @@
 -- `text::put_each` meets its contract. Assumes nothing.
 use borrow.Author.Needs.{needs}
-use mathlib.Core.Path.{_≡_, refl, sym, ap, subst, _∙_}
-use mathlib.Core.List.{List}
-use Prim.Native.Nat.{ℕ, _+_, _-_, _≤_, _<_}
-use native.Mathlib.Nat.{le-antisymm}
-use native.Mathlib.Numerals.{add-one}
+use Prim.Native.Nat.{_-_, _≤_}
 use native.Mathlib.Omega.{arith}
 use lib.ListN.{length, take}
-use lib.Seq.{take-suc, take-all, length-take-le, length-sets}
 use Rattle.text.specs.Text.{Wrote}
 use Rattle.text.specs.Laws.{nothing, more, whole, kept, reach}
 use Rattle.text.proofs.put_each.Statement.{statement}

@@ -1,11 +1,9 @@
 -- `text::put_whole` meets its contract. Assumes nothing.
-use borrow.Author.Needs.{needs}
-use mathlib.Core.Path.{_≡_, refl, sym, ap, _∙_}
-use mathlib.Core.List.{[], _∷_}
+use mathlib.Core.Path.{refl}
 use Prim.Native.Nat.{_+_, _-_, _≤_}
 use native.Mathlib.Omega.{arith}
 use native.Mathlib.Nat.{add-zero}
-use lib.ListN.{length, take, getD, set}
+use lib.ListN.{length, take}
 use Rattle.text.specs.Text.{Wrote}
 use Rattle.text.specs.Laws.{nothing, more, whole, kept}
 use Rattle.text.proofs.put_whole.Statement.{statement}
