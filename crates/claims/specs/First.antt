@@ -31,76 +31,60 @@ use Rattle.brachymel.proofs.brachymel_read.Reads as c-read
 use Rattle.brachymel.proofs.brachymel_write.Reads as c-write
 use Rattle.brachymel.proofs.brachymel_list.Reads as c-list
 
--- "each call ends with an acceptance or one numbered refusal from the table in document 01, in the order set there": `Judged`, by the rows 1 to
--- 12 of the reader, 1, 13 and 14 of the writer, 1 to 11 and 23 of the listing
+pub record First : Type 1 where
+  -- "each call ends with an acceptance or one numbered refusal from the table in document 01, in the order set there": `Judged`, by the rows 1 to
+  -- 12 of the reader, 1, 13 and 14 of the writer, 1 to 11 and 23 of the listing
+  pub read-ends : (κs : _) (a : _) (r : _) (s : _) → read.Post κs a r s
+      → Judged reading.numbers (table (a .0) (now (a .1 .0)) (now (a .1 .1 .0)) (length (now (a .1 .1 .1 .0)))) (wordCount (a .0) (now (a .1 .0)) (now (a .1 .1 .0))) r
+  pub write-ends : (κs : _) (a : _) (r : _) (s : _) → write.Post κs a r s
+      → Judged writing.numbers (writing.rows (a .0) (now (a .1 .0)) (length (now (a .1 .1 .0))) (length (now (a .1 .1 .1 .0)))) (needed (a .0) (now (a .1 .0))) r
+  pub list-ends : (κs : _) (a : _) (r : _) (s : _) → list.Post κs a r s
+      → Judged listed.numbers (listed.rows (a .0) (now (a .1 .0)) (now (a .1 .1 .0)) (length (now (a .1 .1 .1 .0)))) (length (listing (a .0) (now (a .1 .0)) (now (a .1 .1 .0)))) r
+  -- from C: room in whole words, and 13 where the words' bytes are not whole words
+  pub c-read-ends : (κs : _) (a : _) (r : _) (s : _) → c-read.Post κs a r s
+      → Judged reading.numbers (table (a .0) (now (a .1 .0)) (now (a .1 .1 .0)) (length (now (a .1 .1 .1 .0)) / 4)) (wordCount (a .0) (now (a .1 .0)) (now (a .1 .1 .0))) r
+  pub c-write-ends : (κs : _) (a : _) (r : _) (s : _) → c-write.Post κs a r s
+      → Judged writing.numbers (entries.rows (a .0) (now (a .1 .0)) (length (now (a .1 .1 .0))) (length (now (a .1 .1 .1 .0)))) (needed (a .0) (wordsIn (now (a .1 .0)))) r
+  pub c-list-ends : (κs : _) (a : _) (r : _) (s : _) → c-list.Post κs a r s
+      → Judged listed.numbers (listed.rows (a .0) (now (a .1 .0)) (now (a .1 .1 .0)) (length (now (a .1 .1 .1 .0)))) (length (listing (a .0) (now (a .1 .0)) (now (a .1 .1 .0)))) r
+  -- "No caller checks anything first."
+  pub read-asks-nothing : (κs : _) (a : _) → read.Asked κs a
+  pub write-asks-nothing : (κs : _) (a : _) → write.Asked κs a
+  pub list-asks-nothing : (κs : _) (a : _) → list.Asked κs a
+  -- the program's whole text, of any input
+  pub respond-asks-nothing : (κs : _) (a : _) → respond.Asked κs a
+  pub c-read-asks-nothing : (κs : _) (a : _) → c-read.Asked κs a
+  pub c-write-asks-nothing : (κs : _) (a : _) → c-write.Asked κs a
+  pub c-list-asks-nothing : (κs : _) (a : _) → c-list.Asked κs a
+  -- "A refused call writes nothing into the caller's buffers."
+  pub read-keeps : (κs : _) (a : _) (r : _) (s : _) → read.Post κs a r s → (r .number ≡ 0 → ⊥) → now (s .1 .1 .1 .0) ≡ now (a .1 .1 .1 .0)
+  pub write-keeps : (κs : _) (a : _) (r : _) (s : _) → write.Post κs a r s → (r .number ≡ 0 → ⊥)
+      → (now (s .1 .1 .0) ≡ now (a .1 .1 .0)) × (now (s .1 .1 .1 .0) ≡ now (a .1 .1 .1 .0))
+  pub list-keeps : (κs : _) (a : _) (r : _) (s : _) → list.Post κs a r s → (r .number ≡ 0 → ⊥) → now (s .1 .1 .1 .0) ≡ now (a .1 .1 .1 .0)
+  pub c-read-keeps : (κs : _) (a : _) (r : _) (s : _) → c-read.Post κs a r s → (r .number ≡ 0 → ⊥) → now (s .1 .1 .1 .0) ≡ now (a .1 .1 .1 .0)
+  pub c-write-keeps : (κs : _) (a : _) (r : _) (s : _) → c-write.Post κs a r s → (r .number ≡ 0 → ⊥)
+      → (now (s .1 .1 .0) ≡ now (a .1 .1 .0)) × (now (s .1 .1 .1 .0) ≡ now (a .1 .1 .1 .0))
+  pub c-list-keeps : (κs : _) (a : _) (r : _) (s : _) → c-list.Post κs a r s → (r .number ≡ 0 → ⊥) → now (s .1 .1 .1 .0) ≡ now (a .1 .1 .1 .0)
 
-pub read-ends : (κs : _) (a : _) (r : _) (s : _) → read.Post κs a r s
-    → Judged reading.numbers (table (a .0) (now (a .1 .0)) (now (a .1 .1 .0)) (length (now (a .1 .1 .1 .0)))) (wordCount (a .0) (now (a .1 .0)) (now (a .1 .1 .0))) r
-read-ends κs a r s p = rw (p .0) (reading.read-judged (a .0) (now (a .1 .0)) (now (a .1 .1 .0)) (length (now (a .1 .1 .1 .0))))
-
-pub write-ends : (κs : _) (a : _) (r : _) (s : _) → write.Post κs a r s
-    → Judged writing.numbers (writing.rows (a .0) (now (a .1 .0)) (length (now (a .1 .1 .0))) (length (now (a .1 .1 .1 .0)))) (needed (a .0) (now (a .1 .0))) r
-write-ends κs a r s p = rw (p .0) (writing.write-judged (a .0) (now (a .1 .0)) (length (now (a .1 .1 .0))) (length (now (a .1 .1 .1 .0))))
-
-pub list-ends : (κs : _) (a : _) (r : _) (s : _) → list.Post κs a r s
-    → Judged listed.numbers (listed.rows (a .0) (now (a .1 .0)) (now (a .1 .1 .0)) (length (now (a .1 .1 .1 .0)))) (length (listing (a .0) (now (a .1 .0)) (now (a .1 .1 .0)))) r
-list-ends κs a r s p = rw (p .0) (listed.list-judged (a .0) (now (a .1 .0)) (now (a .1 .1 .0)) (length (now (a .1 .1 .1 .0))))
-
--- from C: room in whole words, and 13 where the words' bytes are not whole words
-pub c-read-ends : (κs : _) (a : _) (r : _) (s : _) → c-read.Post κs a r s
-    → Judged reading.numbers (table (a .0) (now (a .1 .0)) (now (a .1 .1 .0)) (length (now (a .1 .1 .1 .0)) / 4)) (wordCount (a .0) (now (a .1 .0)) (now (a .1 .1 .0))) r
-c-read-ends κs a r s p = rw (p .0) (reading.read-judged (a .0) (now (a .1 .0)) (now (a .1 .1 .0)) (length (now (a .1 .1 .1 .0)) / 4))
-
-pub c-write-ends : (κs : _) (a : _) (r : _) (s : _) → c-write.Post κs a r s
-    → Judged writing.numbers (entries.rows (a .0) (now (a .1 .0)) (length (now (a .1 .1 .0))) (length (now (a .1 .1 .1 .0)))) (needed (a .0) (wordsIn (now (a .1 .0)))) r
-c-write-ends κs a r s p = rw (p .0) (entries.write-judged (a .0) (now (a .1 .0)) (length (now (a .1 .1 .0))) (length (now (a .1 .1 .1 .0))))
-
-pub c-list-ends : (κs : _) (a : _) (r : _) (s : _) → c-list.Post κs a r s
-    → Judged listed.numbers (listed.rows (a .0) (now (a .1 .0)) (now (a .1 .1 .0)) (length (now (a .1 .1 .1 .0)))) (length (listing (a .0) (now (a .1 .0)) (now (a .1 .1 .0)))) r
-c-list-ends κs a r s p = rw (p .0) (listed.list-judged (a .0) (now (a .1 .0)) (now (a .1 .1 .0)) (length (now (a .1 .1 .1 .0))))
-
--- "No caller checks anything first."
-
-pub read-asks-nothing : (κs : _) (a : _) → read.Asked κs a
-read-asks-nothing κs a = tt
-
-pub write-asks-nothing : (κs : _) (a : _) → write.Asked κs a
-write-asks-nothing κs a = tt
-
-pub list-asks-nothing : (κs : _) (a : _) → list.Asked κs a
-list-asks-nothing κs a = tt
-
--- the program's whole text, of any input
-pub respond-asks-nothing : (κs : _) (a : _) → respond.Asked κs a
-respond-asks-nothing κs a = tt
-
-pub c-read-asks-nothing : (κs : _) (a : _) → c-read.Asked κs a
-c-read-asks-nothing κs a = tt
-
-pub c-write-asks-nothing : (κs : _) (a : _) → c-write.Asked κs a
-c-write-asks-nothing κs a = tt
-
-pub c-list-asks-nothing : (κs : _) (a : _) → c-list.Asked κs a
-c-list-asks-nothing κs a = tt
-
--- "A refused call writes nothing into the caller's buffers."
-
-pub read-keeps : (κs : _) (a : _) (r : _) (s : _) → read.Post κs a r s → (r .number ≡ 0 → ⊥) → now (s .1 .1 .1 .0) ≡ now (a .1 .1 .1 .0)
-read-keeps = reader.read-keeps
-
-pub write-keeps : (κs : _) (a : _) (r : _) (s : _) → write.Post κs a r s → (r .number ≡ 0 → ⊥)
-    → (now (s .1 .1 .0) ≡ now (a .1 .1 .0)) × (now (s .1 .1 .1 .0) ≡ now (a .1 .1 .1 .0))
-write-keeps = writer.write-keeps
-
-pub list-keeps : (κs : _) (a : _) (r : _) (s : _) → list.Post κs a r s → (r .number ≡ 0 → ⊥) → now (s .1 .1 .1 .0) ≡ now (a .1 .1 .1 .0)
-list-keeps = listed.list-keeps
-
-pub c-read-keeps : (κs : _) (a : _) (r : _) (s : _) → c-read.Post κs a r s → (r .number ≡ 0 → ⊥) → now (s .1 .1 .1 .0) ≡ now (a .1 .1 .1 .0)
-c-read-keeps = library.read-keeps
-
-pub c-write-keeps : (κs : _) (a : _) (r : _) (s : _) → c-write.Post κs a r s → (r .number ≡ 0 → ⊥)
-    → (now (s .1 .1 .0) ≡ now (a .1 .1 .0)) × (now (s .1 .1 .1 .0) ≡ now (a .1 .1 .1 .0))
-c-write-keeps = entries.write-keeps
-
-pub c-list-keeps : (κs : _) (a : _) (r : _) (s : _) → c-list.Post κs a r s → (r .number ≡ 0 → ⊥) → now (s .1 .1 .1 .0) ≡ now (a .1 .1 .1 .0)
-c-list-keeps = entries.list-keeps
+pub first-demand : First
+first-demand = record {
+  read-ends = λ κs a r s p. rw (p .0) (reading.read-judged (a .0) (now (a .1 .0)) (now (a .1 .1 .0)) (length (now (a .1 .1 .1 .0))));
+  write-ends = λ κs a r s p. rw (p .0) (writing.write-judged (a .0) (now (a .1 .0)) (length (now (a .1 .1 .0))) (length (now (a .1 .1 .1 .0))));
+  list-ends = λ κs a r s p. rw (p .0) (listed.list-judged (a .0) (now (a .1 .0)) (now (a .1 .1 .0)) (length (now (a .1 .1 .1 .0))));
+  c-read-ends = λ κs a r s p. rw (p .0) (reading.read-judged (a .0) (now (a .1 .0)) (now (a .1 .1 .0)) (length (now (a .1 .1 .1 .0)) / 4));
+  c-write-ends = λ κs a r s p. rw (p .0) (entries.write-judged (a .0) (now (a .1 .0)) (length (now (a .1 .1 .0))) (length (now (a .1 .1 .1 .0))));
+  c-list-ends = λ κs a r s p. rw (p .0) (listed.list-judged (a .0) (now (a .1 .0)) (now (a .1 .1 .0)) (length (now (a .1 .1 .1 .0))));
+  read-asks-nothing = λ κs a. tt;
+  write-asks-nothing = λ κs a. tt;
+  list-asks-nothing = λ κs a. tt;
+  respond-asks-nothing = λ κs a. tt;
+  c-read-asks-nothing = λ κs a. tt;
+  c-write-asks-nothing = λ κs a. tt;
+  c-list-asks-nothing = λ κs a. tt;
+  read-keeps = reader.read-keeps;
+  write-keeps = writer.write-keeps;
+  list-keeps = listed.list-keeps;
+  c-read-keeps = library.read-keeps;
+  c-write-keeps = entries.write-keeps;
+  c-list-keeps = entries.list-keeps;
+}

@@ -11,7 +11,6 @@ use mathlib.Core.Path.{_≡_}
 use mathlib.Core.Bool.{true, cond}
 use mathlib.Core.List.{List}
 use Prim.Native.Nat.{ℕ, _≤_}
-use native.Mathlib.Omega.{arith}
 use lib.ListN.{length, take}
 use denote.Ref.{now}
 use Rattle.answer.specs.Answer.{no}
@@ -20,70 +19,57 @@ use Rattle.channel.specs.Layout.{present, count}
 use Rattle.reader.specs.Result.{answerOf, wordsAfter}
 use Rattle.reader.specs.Determine.{SameFrame}
 use Rattle.reader.proofs.read.Reads as read
-use Rattle.writer.specs.Candidate.{bytesFor, countIn, channelIn, candidate}
-use Rattle.writer.specs.Built.{sealed-small}
-use Rattle.writer.specs.Inverse.{candidate-reads}
+use Rattle.writer.specs.Candidate.{bytesFor}
 use Rattle.writer.proofs.write.Reads as write
-use Rattle.writer.proofs.Inverse.{Accepts, accepts-reads, reads-accepts, GivenBack, write-after-read, read-after-write, thirteen-none, none-thirteen, equal-words}
+use Rattle.writer.proofs.Inverse.{Accepts, GivenBack, write-after-read, read-after-write, thirteen-none, none-thirteen, equal-words}
 use Rattle.carried.specs.Formats.{UserWords}
 use Rattle.carried.proofs.Formats.{user-words}
 
--- "Reading is what IEEE 802.11be and the radiotap EHT page say, to the bit": as 01's table and words, `reader`'s Table, Words and Result
-pub reading-is : (κs : _) (a : _) (r : _) (s : _) → read.Post κs a r s
-    → (r ≡ answerOf (a .0) (now (a .1 .0)) (now (a .1 .1 .0)) (length (now (a .1 .1 .1 .0))))
-    × (now (s .1 .1 .1 .0) ≡ wordsAfter (a .0) (now (a .1 .0)) (now (a .1 .1 .0)) (now (a .1 .1 .1 .0)))
-reading-is κs a r s p = (p .0, p .1)
+pub record Second : Type 1 where
+  -- "Reading is what IEEE 802.11be and the radiotap EHT page say, to the bit": as 01's table and words, `reader`'s Table, Words and Result
+  pub reading-is : (κs : _) (a : _) (r : _) (s : _) → read.Post κs a r s
+      → (r ≡ answerOf (a .0) (now (a .1 .0)) (now (a .1 .1 .0)) (length (now (a .1 .1 .1 .0))))
+      × (now (s .1 .1 .1 .0) ≡ wordsAfter (a .0) (now (a .1 .0)) (now (a .1 .1 .0)) (now (a .1 .1 .1 .0)))
+  -- "User fields, words.": each User word is that of its field, in the format of the resource that owns it in any plan of the row
+  pub user-words-are : (κs : _) (a : _) (r : _) (s : _) → read.Post κs a r s → r .number ≡ 0
+      → UserWords (a .0) (now (a .1 .0)) (now (a .1 .1 .0)) (now (s .1 .1 .1 .0))
+  -- and the words say all of the frame: equal words are of equal bandwidth, row, overflow and User fields
+  pub words-say-all : (κs : _) (a : _) (r : _) (s : _) (κs' : _) (a' : _) (r' : _) (s' : _)
+      → read.Post κs a r s → read.Post κs' a' r' s'
+      → r .number ≡ 0 → r' .number ≡ 0
+      → take (r .place) (now (s .1 .1 .1 .0)) ≡ take (r' .place) (now (s' .1 .1 .1 .0))
+      → SameFrame (a .0) (now (a .1 .0)) (now (a .1 .1 .0)) (a' .0) (now (a' .1 .0)) (now (a' .1 .1 .0))
+  -- "Writing those words gives the same channels back, padding zero, up to the end of the longer channel's last block."
+  pub writing-gives-back : (κs : _) (a : _) (r : _) (s : _) (κs' : _) (a' : _) (r' : _) (s' : _)
+      → read.Post κs a r s → write.Post κs' a' r' s'
+      → r .number ≡ 0
+      → a' .0 ≡ a .0
+      → now (a' .1 .0) ≡ take (r .place) (now (s .1 .1 .1 .0))
+      → bytesFor (a .0) (count (a .0) 1 (now (a .1 .0))) (count (a .0) 2 (now (a .1 .1 .0))) ≤ length (now (a' .1 .1 .0))
+      → (present (a .0) 2 ≡ true → bytesFor (a .0) (count (a .0) 1 (now (a .1 .0))) (count (a .0) 2 (now (a .1 .1 .0))) ≤ length (now (a' .1 .1 .1 .0)))
+      → GivenBack (a .0) (now (a .1 .0)) (now (a .1 .1 .0)) (now (a' .1 .1 .0)) (now (a' .1 .1 .1 .0)) (now (s' .1 .1 .0)) (now (s' .1 .1 .1 .0)) r'
+  -- and what was written reads to the same words
+  pub reading-gives-back : (κs : _) (a : _) (r : _) (s : _) (κs' : _) (a' : _) (r' : _) (s' : _)
+      → write.Post κs a r s → read.Post κs' a' r' s'
+      → r .number ≡ 0
+      → a' .0 ≡ a .0
+      → now (a' .1 .0) ≡ take (r .place) (now (s .1 .1 .0))
+      → now (a' .1 .1 .0) ≡ take (cond (present (a .0) 2) (r .place) 0) (now (s .1 .1 .1 .0))
+      → length (now (a .1 .0)) ≤ length (now (a' .1 .1 .1 .0))
+      → (r' ≡ no 0 0 (length (now (a .1 .0)))) × (take (length (now (a .1 .0))) (now (s' .1 .1 .1 .0)) ≡ now (a .1 .0))
+  -- "Words that no accepted pair of channels reads to are refused.": with 13, exactly where there is no such pair, of bytes
+  pub words-of-none-refused : (κs : _) (a : _) (r : _) (s : _) → write.Post κs a r s → a .0 ≤ 4
+      → ((x y w : List ℕ) → Small x → Small y → Accepts (a .0) x y w (now (a .1 .0)) → ⊥) → r .number ≡ 13
+  pub only-words-of-none-refused : (κs : _) (a : _) (r : _) (s : _) → write.Post κs a r s → r .number ≡ 13
+      → (x y w : List ℕ) → Accepts (a .0) x y w (now (a .1 .0)) → ⊥
 
--- "User fields, words.": each User word is that of its field, in the format of the resource that owns it in any plan of the row
-pub user-words-are : (κs : _) (a : _) (r : _) (s : _) → read.Post κs a r s → r .number ≡ 0
-    → UserWords (a .0) (now (a .1 .0)) (now (a .1 .1 .0)) (now (s .1 .1 .1 .0))
-user-words-are = user-words
-
--- and the words say all of the frame: equal words are of equal bandwidth, row, overflow and User fields
-pub words-say-all : (κs : _) (a : _) (r : _) (s : _) (κs' : _) (a' : _) (r' : _) (s' : _)
-    → read.Post κs a r s → read.Post κs' a' r' s'
-    → r .number ≡ 0 → r' .number ≡ 0
-    → take (r .place) (now (s .1 .1 .1 .0)) ≡ take (r' .place) (now (s' .1 .1 .1 .0))
-    → SameFrame (a .0) (now (a .1 .0)) (now (a .1 .1 .0)) (a' .0) (now (a' .1 .0)) (now (a' .1 .1 .0))
-words-say-all = equal-words
-
--- "Writing those words gives the same channels back, padding zero, up to the end of the longer channel's last block."
-pub writing-gives-back : (κs : _) (a : _) (r : _) (s : _) (κs' : _) (a' : _) (r' : _) (s' : _)
-    → read.Post κs a r s → write.Post κs' a' r' s'
-    → r .number ≡ 0
-    → a' .0 ≡ a .0
-    → now (a' .1 .0) ≡ take (r .place) (now (s .1 .1 .1 .0))
-    → bytesFor (a .0) (count (a .0) 1 (now (a .1 .0))) (count (a .0) 2 (now (a .1 .1 .0))) ≤ length (now (a' .1 .1 .0))
-    → (present (a .0) 2 ≡ true → bytesFor (a .0) (count (a .0) 1 (now (a .1 .0))) (count (a .0) 2 (now (a .1 .1 .0))) ≤ length (now (a' .1 .1 .1 .0)))
-    → GivenBack (a .0) (now (a .1 .0)) (now (a .1 .1 .0)) (now (a' .1 .1 .0)) (now (a' .1 .1 .1 .0)) (now (s' .1 .1 .0)) (now (s' .1 .1 .1 .0)) r'
-writing-gives-back = write-after-read
-
--- and what was written reads to the same words
-pub reading-gives-back : (κs : _) (a : _) (r : _) (s : _) (κs' : _) (a' : _) (r' : _) (s' : _)
-    → write.Post κs a r s → read.Post κs' a' r' s'
-    → r .number ≡ 0
-    → a' .0 ≡ a .0
-    → now (a' .1 .0) ≡ take (r .place) (now (s .1 .1 .0))
-    → now (a' .1 .1 .0) ≡ take (cond (present (a .0) 2) (r .place) 0) (now (s .1 .1 .1 .0))
-    → length (now (a .1 .0)) ≤ length (now (a' .1 .1 .1 .0))
-    → (r' ≡ no 0 0 (length (now (a .1 .0)))) × (take (length (now (a .1 .0))) (now (s' .1 .1 .1 .0)) ≡ now (a .1 .0))
-reading-gives-back = read-after-write
-
--- "Words that no accepted pair of channels reads to are refused.": with 13, exactly where there is no such pair, of bytes
-candidate-small : (bw : ℕ) (w : List ℕ) (c : ℕ) → Small (candidate bw w c)
-unfolding candidate channelIn
-candidate-small bw w c = sealed-small bw (countIn bw w c) _
-
-pub words-of-none-refused : (κs : _) (a : _) (r : _) (s : _) → write.Post κs a r s → a .0 ≤ 4
-    → ((x y w : List ℕ) → Small x → Small y → Accepts (a .0) x y w (now (a .1 .0)) → ⊥) → r .number ≡ 13
-words-of-none-refused κs a r s p l h =
-    let bw = a .0 in
-    let w = now (a .1 .0) in
-    none-thirteen κs a r s p l
-    (λ x y v t.
-    h (candidate bw w 1) (candidate bw w 2) w (candidate-small bw w 1) (candidate-small bw w 2)
-    (reads-accepts bw (candidate bw w 1) (candidate bw w 2) w w (candidate-reads bw x y w (accepts-reads bw x y v w t)) (omega arith)))
-
-pub only-words-of-none-refused : (κs : _) (a : _) (r : _) (s : _) → write.Post κs a r s → r .number ≡ 13
-    → (x y w : List ℕ) → Accepts (a .0) x y w (now (a .1 .0)) → ⊥
-only-words-of-none-refused = thirteen-none
+pub second-demand : Second
+second-demand = record {
+  reading-is = λ κs a r s p. (p .0, p .1);
+  user-words-are = user-words;
+  words-say-all = equal-words;
+  writing-gives-back = write-after-read;
+  reading-gives-back = read-after-write;
+  words-of-none-refused = none-thirteen;
+  only-words-of-none-refused = thirteen-none;
+}

@@ -53,7 +53,7 @@ NotPunctured o row n =
 abbrev pub RightTones : (ℕ → Owner) → (ℕ → ℕ) → ℕ → Type 0
 RightTones o row n = (i : ℕ) → i < length (recordsFrom o row n) → RightRecord n (getD (recordsFrom o row n) i blank)
 
-pub record Third (row : List ℕ) : Type 0 where
+pub record Third (b : ℕ) (row : List ℕ) : Type 1 where
   -- "If any plan .. signals that row with at most eight User fields on each resource, the row is accepted"
   pub is-accepted : (x : Out) → Laid row x → PlanOfEight row 0 (length row) → x ≡ Pass
   pub has-plan : (x : Out) → Laid row x → x ≡ Pass → PlanOfEight row 0 (length row)
@@ -71,9 +71,18 @@ pub record Third (row : List ℕ) : Type 0 where
   -- "each User field in either channel has exactly one resource": one of the plan's
   pub one-resource : (o : ℕ → Owner) → Signals o (at row) 0 (length row) → (c j : ℕ) → j < fieldsBefore c (at row) (length row)
       → (i : ℕ) × (i < length (recordsOf o row)) × Owns o (at row) (length row) i c j × ((i′ : ℕ) → Owns o (at row) (length row) i′ c j → i′ ≡ i)
+  -- of whole frames, "A row is accepted when channels that carry it pass checks 1 to 6 and get neither 7 nor 8." (01, "What a plan is").
+  -- "any row of carried RU Allocation values of the number it needs": some channels, of bytes, carry it and pass 1 to 6
+  pub row-is-carried : CarriedRow b row → (x : List ℕ) × (y : List ℕ) × Carry b row x y × Small x × Small y
+  -- "the row is accepted .. Otherwise it is refused, for its layout": all channels that carry it and pass 1 to 6 get 7 or 8 exactly when no
+  -- plan signals it with at most eight on each resource, with the segment that 01's table says
+  pub row-is-answered : (κs : _) (a : _) (x : _) (s : _) → read.Post κs a x s → Carry (a .0) row (now (a .1 .0)) (now (a .1 .1 .0)) → ForLayout row x
+  -- "A reader that always refuses falls to the third demand, as the row's plan exists." (01, "What nobody may get away with")
+  pub plan-is-read : CarriedRow b row → PlanOfEight row 0 (length row)
+      → (x : List ℕ) × (y : List ℕ) × Carry b row x y × Small x × Small y × ReadAccepts b x y
 
 -- for every bandwidth code b, 0 to 4, and every row of the number of values that it needs
-pub third-demand : (b : ℕ) (row : List ℕ) → b ≤ 4 → length row ≡ 2 ^ b → Third row
+pub third-demand : (b : ℕ) (row : List ℕ) → b ≤ 4 → length row ≡ 2 ^ b → Third b row
 third-demand b row l e = record {
   is-accepted = λ x w p. laid-same row x Pass w (accepted p);
   has-plan = λ x w q. accepted-plan row (subst (Laid row) q w);
@@ -88,21 +97,7 @@ third-demand b row l e = record {
     owner-owns o (at row) (length row) s c j h,
     λ i′ w. one-owner o (at row) (length row) i′ (ownerOf o (at row) c (length row) j) c j w (owner-owns o (at row) (length row) s c j h),
   );
+  row-is-carried = λ w. let g = some-channels b row w in (g .0, g .1, g .2, g .3, g .4);
+  row-is-answered = all-channels row;
+  plan-is-read = no-reader-always-refuses b row;
 }
-
--- ---- of whole frames: "A row is accepted when channels that carry it pass checks 1 to 6 and get neither 7 nor 8." (01, "What a plan is")
-
--- "Take any bandwidth and any row of carried RU Allocation values of the number it needs.": some channels, of bytes, carry it and pass 1 to 6
-pub row-is-carried : (bw : ℕ) (r : List ℕ) → CarriedRow bw r → (a : List ℕ) × (b : List ℕ) × Carry bw r a b × Small a × Small b
-row-is-carried bw r w = let g = some-channels bw r w in (g .0, g .1, g .2, g .3, g .4)
-
--- "If any plan .. signals that row .., the row is accepted .. Otherwise it is refused, for its layout.": all channels that carry it and pass
--- 1 to 6 get 7 or 8 exactly when no plan signals it with at most eight on each resource, with the segment that 01's table says
-pub row-is-answered : (r : List ℕ) (κs : _) (a : _) (x : _) (s : _) → read.Post κs a x s
-    → Carry (a .0) r (now (a .1 .0)) (now (a .1 .1 .0)) → ForLayout r x
-row-is-answered = all-channels
-
--- "A reader that always refuses falls to the third demand, as the row's plan exists." (01, "What nobody may get away with")
-pub plan-is-read : (bw : ℕ) (r : List ℕ) → CarriedRow bw r → PlanOfEight r 0 (length r)
-    → (a : List ℕ) × (b : List ℕ) × Carry bw r a b × Small a × Small b × ReadAccepts bw a b
-plan-is-read = no-reader-always-refuses

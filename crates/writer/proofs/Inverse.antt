@@ -19,6 +19,7 @@ use Rattle.answer.specs.declared.Answer.{Answer}
 use Rattle.answer.specs.declared.Out.{Out}
 use Rattle.answer.specs.declared.Out.the-variants.{Pass, Refuse}
 use Rattle.bits.specs.Bits.{bit}
+use Rattle.bits.specs.Writes.{Small}
 use Rattle.channel.specs.Layout.{present, count, endOf}
 use Rattle.channel.specs.Laws.{present-1}
 use Rattle.channel.specs.Padding.{Same}
@@ -29,7 +30,8 @@ use Rattle.reader.specs.Stages.{reading-stages}
 use Rattle.reader.specs.Determine.{words-length, SameFrame, words-determine}
 use Rattle.reader.proofs.Exactly as E
 use Rattle.reader.proofs.read.Reads as read
-use Rattle.writer.specs.Candidate.{needed, bytesFor, candidate}
+use Rattle.writer.specs.Candidate.{countIn, channelIn, needed, bytesFor, candidate}
+use Rattle.writer.specs.Built.{sealed-small}
 use Rattle.writer.specs.Result.{readsTo, notRead, check13, tooShort, check14, writing, front, answerOf, channelAfter}
 use Rattle.writer.specs.Inverse.{ReadsTo, reads-to-says, says-reads-to, candidate-reads, present-length, absent-length, accepted-known, same-1, same-2, zero-1, zero-2, reach-1, reach-2, needed-of}
 use Rattle.writer.proofs.Exactly as W
@@ -291,15 +293,19 @@ thirteen-applies bw w n m l h = record { refuses = second-refuses bw w h; nothin
     go : (j : ℕ) → j < 1 → getD (W.rows bw w n m) j Pass ≡ Pass
     go j k = let z : j ≡ 0 = omega arith in rw z (first-passes bw l)
 
+candidate-small : (bw : ℕ) (w : List ℕ) (c : ℕ) → Small (candidate bw w c)
+unfolding candidate channelIn
+candidate-small bw w c = sealed-small bw (countIn bw w c) _
+
 -- and it is given where there are none, for every bandwidth code up to 4
 pub none-thirteen : (κs : _) (a : _) (r : _) (s : _) → write.Post κs a r s → a .0 ≤ 4
-    → ((x y w₀ : List ℕ) → Accepts (a .0) x y w₀ (now (a .1 .0)) → ⊥) → r .number ≡ 13
+    → ((x y w₀ : List ℕ) → Small x → Small y → Accepts (a .0) x y w₀ (now (a .1 .0)) → ⊥) → r .number ≡ 13
 none-thirteen κs a r s p l h =
     let bw = a .0 in
     let w = now (a .1 .0) in
     let n = length (now (a .1 .1 .0)) in
     let m = length (now (a .1 .1 .1 .0)) in
-    let d = thirteen-applies bw w n m l (λ t. h (candidate bw w 1) (candidate bw w 2) w (reads-accepts bw (candidate bw w 1) (candidate bw w 2) w w t (omega arith))) in
+    let d = thirteen-applies bw w n m l (λ t. h (candidate bw w 1) (candidate bw w 2) w (candidate-small bw w 1) (candidate-small bw w 2) (reads-accepts bw (candidate bw w 1) (candidate bw w 2) w w t (omega arith))) in
     ap (λ (t : Answer). t .number) (p .0 ∙ W.applies-exactly bw w n m 1 (A.no 13 0 0) d .0)
 
 -- ---- (d) equal words
