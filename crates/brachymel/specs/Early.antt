@@ -19,7 +19,7 @@ use Rattle.reader.specs.Determine.{words-length}
 use Rattle.writer.specs.Candidate.{candidate}
 use Rattle.writer.specs.Result.{sameWords, readsTo, notRead, check13, check14, writing}
 use Rattle.brachymel.specs.Bytes.{wordAt, wordsIn, ragged, writingText}
-use Rattle.brachymel.specs.Rooms.{words-most}
+use Rattle.reader.specs.Stages.{word-count-le}
 
 unfoldable pub early : ℕ → ℕ → ℕ → Out
 early bw bytes n =
@@ -29,7 +29,7 @@ early bw bytes n =
 not-so-many : (bw : ℕ) (a b w : List ℕ) → 154 < length w → readsTo bw a b w ≡ false
 unfolding readsTo sameWords
 not-so-many bw a b w l =
-    rw (ne-eqb (length (wordsOf bw a b)) (length w) (λ e. omega (arith, words-length bw a b, words-most bw a b))) (go (passes (readable bw a b)))
+    rw (ne-eqb (length (wordsOf bw a b)) (length w) (λ e. omega (arith, words-length bw a b, word-count-le bw a b))) (go (passes (readable bw a b)))
   where
     go : (t : Bool) → t && false ≡ false
     go true = refl

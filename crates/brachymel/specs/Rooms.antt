@@ -7,13 +7,8 @@ use native.Mathlib.Omega.{arith}
 use lib.Dec.{ltb}
 use borrow.Author.Tests.{ltb-true, ltb-false, lt-ltb, le-ltb}
 use Rattle.answer.specs.Answer.{no, refuseIf, _or_}
-use Rattle.channel.specs.Laws.{count-le}
 use Rattle.reader.specs.Table.{readable, reading, wordCount, noRoom, check12}
-use Rattle.reader.specs.Stages.{reading-stages}
-
-pub words-most : (bw : ℕ) (a b : List ℕ) → wordCount bw a b ≤ 154
-unfolding wordCount
-words-most bw a b = omega (arith, count-le bw 1 a, count-le bw 2 b)
+use Rattle.reader.specs.Stages.{word-count-le, reading-stages}
 
 same-room : (need r : ℕ) → need ≤ 154 → ltb (min r 154) need ≡ ltb r need
 same-room need r l = go (ltb r need) refl
@@ -26,5 +21,5 @@ pub reading-room : (bw : ℕ) (a b : List ℕ) (r : ℕ) → reading bw a b (min
 unfolding check12 noRoom
 reading-room bw a b r =
     reading-stages bw a b (min r 154)
-    ∙ ap (λ (t : Bool). readable bw a b or refuseIf t (no 12 0 (wordCount bw a b))) (same-room (wordCount bw a b) r (words-most bw a b))
+    ∙ ap (λ (t : Bool). readable bw a b or refuseIf t (no 12 0 (wordCount bw a b))) (same-room (wordCount bw a b) r (word-count-le bw a b))
     ∙ sym (reading-stages bw a b r)

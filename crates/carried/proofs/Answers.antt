@@ -18,9 +18,8 @@ use Rattle.plan.specs.Guess.{answer7, answer8, layoutOf}
 use Rattle.plan.proofs.Laid.{layout-laid, part-signals}
 use Rattle.plan.proofs.Demand.{plan-accepted, plan-parts}
 use Rattle.channel.specs.Layout.{row}
-use Rattle.channel.specs.Laws.{count-le}
 use Rattle.reader.specs.Table.{check7, check8, check12, noRoom, readable, reading, wordCount}
-use Rattle.reader.specs.Stages.{userChecks, reading-stages, readable-rest}
+use Rattle.reader.specs.Stages.{word-count-le, userChecks, reading-stages, readable-rest}
 use Rattle.reader.specs.Result.{answerOf}
 use Rattle.reader.proofs.Exactly.{refused-exactly}
 use Rattle.reader.proofs.read.Reads as read
@@ -144,10 +143,6 @@ accepted-answer bw a b room e l =
     ap (λ (o : Out). answerAt o (wordCount bw a b))
     (reading-stages bw a b room ∙ or-pass (readable bw a b) _ e (if-pass _ _ (le-ltb room (wordCount bw a b) l)))
 
-words-fit : (bw : ℕ) (a b : List ℕ) → wordCount bw a b ≤ 154
-unfolding wordCount
-words-fit bw a b = omega (arith, count-le bw 1 a, count-le bw 2 b)
-
 pub some-accepted : (bw : ℕ) (r : List ℕ) → CarriedRow bw r → PlanOfEight r 0 (length r)
     → (a : List ℕ) × (b : List ℕ) × Carry bw r a b × Small a × Small b × (readable bw a b ≡ Pass)
 some-accepted bw r w p =
@@ -173,7 +168,7 @@ accepts : (bw : ℕ) (x y : List ℕ) → readable bw x y ≡ Pass → ReadAccep
 accepts bw x y e κs a q s h f g i l =
     let room = length (now (a .1 .1 .1 .0)) in
     let z : answerOf (a .0) (now (a .1 .0)) (now (a .1 .1 .0)) room ≡ no 0 0 (wordCount bw x y) =
-    rw (f, g, i) (accepted-answer bw x y room e (omega (arith, words-fit bw x y))) in
+    rw (f, g, i) (accepted-answer bw x y room e (omega (arith, word-count-le bw x y))) in
     ap (λ (v : Answer). v .number) (h .0 ∙ z)
 
 -- "A reader that always refuses falls to the third demand, as the row's plan exists.": each row that has a plan has channels that

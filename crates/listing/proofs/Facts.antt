@@ -3,7 +3,7 @@ use mathlib.Core.Path.{_≡_, refl, sym, ap, _∙_}
 use mathlib.Core.Bool.{Bool, true, false}
 use mathlib.Core.List.{List, _++_}
 use mathlib.Core.Logic.{_⊎_, inl, inr}
-use Prim.Native.Nat.{ℕ, _+_, _≤_, _<_}
+use Prim.Native.Nat.{ℕ, _+_, _<_}
 use native.Mathlib.Omega.{arith}
 use borrow.Author.Tests.{lt-ltb, le-ltb, ltb-true, ltb-false}
 use denote.Ref.{now}
@@ -17,14 +17,13 @@ use Rattle.answer.specs.declared.Answer.{Answer}
 use Rattle.answer.specs.declared.Out.the-variants.{Pass, Refuse}
 use Rattle.text.specs.Text.{upto}
 use Rattle.channel.specs.Layout.{row, count}
-use Rattle.channel.specs.Laws.{count-le}
 use Rattle.plan.specs.Plan.{at, Signals}
 use Rattle.plan.specs.Guess.{onlyPlan, layoutOf}
 use Rattle.plan.specs.Layout.{Laid, accepted, no-plan, over-eight}
 use Rattle.plan.proofs.Laid.{part-plan, whole-signals, layout-laid}
 use Rattle.records.specs.Records.{blank}
 use Rattle.reader.specs.Table.{readable, check12, noRoom, wordCount}
-use Rattle.reader.specs.Stages.{commonChecks, userChecks, readable-stages, reading-stages}
+use Rattle.reader.specs.Stages.{word-count-le, commonChecks, userChecks, readable-stages, reading-stages}
 use Rattle.reader.specs.Result.{answerOf}
 use Rattle.input.specs.Parse.{parsed}
 use Rattle.listing.specs.Lines.{headText}
@@ -47,17 +46,13 @@ unfolding listAnswer listAfter
 list-kept bw a b d h = after-kept (listable bw a b (length d)) (length (listing bw a b)) _ d h
 
 -- ---- 1 to 11 as the reader: `list` refuses with one of them exactly when `read` with room for 154 words does
-words-fit : (bw : ℕ) (a b : List ℕ) → wordCount bw a b ≤ 154
-unfolding wordCount
-words-fit bw a b = omega (arith, count-le bw 1 a, count-le bw 2 b)
-
 pub read-refuses : (bw : ℕ) (a b : List ℕ) (x : Answer) → readable bw a b ≡ Refuse x → answerOf bw a b 154 ≡ x
 unfolding answerOf _or_
 read-refuses bw a b x e = rw (reading-stages bw a b 154, e)
 
 pub read-accepts : (bw : ℕ) (a b : List ℕ) → readable bw a b ≡ Pass → answerOf bw a b 154 .number ≡ 0
 unfolding answerOf _or_ check12 noRoom
-read-accepts bw a b e = rw (reading-stages bw a b 154, e, le-ltb 154 (wordCount bw a b) (words-fit bw a b))
+read-accepts bw a b e = rw (reading-stages bw a b 154, e, le-ltb 154 (wordCount bw a b) (word-count-le bw a b))
 
 pub list-refuses : (bw : ℕ) (a b : List ℕ) (room : ℕ) (x : Answer) → readable bw a b ≡ Refuse x → listAnswer bw a b room ≡ x
 unfolding listAnswer listable _or_

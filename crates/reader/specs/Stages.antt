@@ -3,6 +3,7 @@ use mathlib.Core.Path.{_≡_, refl, sym, _∙_, ap}
 use mathlib.Core.Bool.{Bool, true, false, _||_}
 use mathlib.Core.List.{List, [], _∷_}
 use Prim.Native.Nat.{ℕ, _+_, _≤_}
+use native.Mathlib.Omega.{arith}
 use lib.Dec.{ltb}
 use lib.ListN.{length}
 use borrow.Author.Tests.{ltb-false}
@@ -13,6 +14,7 @@ use Rattle.answer.specs.declared.Out.{Out}
 use Rattle.answer.specs.declared.Out.the-variants.{Pass, Refuse}
 use Rattle.plan.specs.Guess.{layoutOf}
 use Rattle.channel.specs.Layout.{row, count}
+use Rattle.channel.specs.Laws.{count-le}
 use Rattle.channel.specs.Checks.{tooLong}
 use Rattle.reader.specs.Table.{check1, check2, check3, check4, check5, check6, check7, check8, check9, check10, check11, check12, eleven, readable, reading, wordCount, noRoom}
 
@@ -106,6 +108,11 @@ readable-stopped bw a b x e = stopped _ _ _ x e ∙ sym (readable-stages bw a b)
 pub reading-is : (bw : ℕ) (a b : List ℕ) (room need : ℕ) (r o : Out)
     → r ≡ readable bw a b → need ≡ wordCount bw a b → o ≡ (r or noRoom need room) → reading bw a b room ≡ o
 reading-is bw a b room need r o er en eo = reading-stages bw a b room ∙ sym (eo ∙ unfold check12 in rw (er, en))
+
+-- "At most 16 positions of 9 fields: 154 words"
+pub word-count-le : (bw : ℕ) (a b : List ℕ) → wordCount bw a b ≤ 154
+unfolding wordCount
+word-count-le bw a b = omega (arith, count-le bw 1 a, count-le bw 2 b)
 
 pub counted : (bw : ℕ) (a b : List ℕ) (n m : ℕ) → n ≡ count bw 1 a → m ≡ count bw 2 b → 10 + (n + m) ≡ wordCount bw a b
 unfolding wordCount

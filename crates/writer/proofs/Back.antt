@@ -12,13 +12,13 @@ use Rattle.answer.specs.Order.{pass-left, or-pass, if-pass, pass-or-refuse, aft
 use Rattle.answer.specs.declared.Answer.{Answer}
 use Rattle.answer.specs.declared.Out.the-variants.{Pass, Refuse}
 use Rattle.reader.specs.Table.{check12, noRoom, readable, reading, wordCount}
-use Rattle.reader.specs.Stages.{reading-stages}
+use Rattle.reader.specs.Stages.{word-count-le, reading-stages}
 use Rattle.reader.specs.Words.{wordsOf}
 use Rattle.reader.specs.Determine.{words-length}
 use Rattle.reader.specs.Result.{answerOf, wordsAfter}
 use Rattle.reader.proofs.Exactly.{accepted-exactly}
 use Rattle.writer.specs.Result.{readsTo}
-use Rattle.writer.specs.Steps.{reads-no, word-count-le}
+use Rattle.writer.specs.Steps.{reads-no}
 
 module _ (bw : ℕ) (a b : List ℕ) (room : ℕ) (l : 154 ≤ room) where
   read-passes : readable bw a b ≡ Pass → reading bw a b room ≡ Pass

@@ -18,7 +18,7 @@ use Rattle.answer.specs.declared.Out.the-variants.{Pass, Refuse}
 use Rattle.answer.specs.Filled.{filled, build-is}
 use Rattle.bits.specs.Bits.{put}
 use Rattle.channel.specs.Layout.{present, firstBits, subfieldsIn, valueAt, userAt, blockAt, blocks, covered}
-use Rattle.channel.specs.Laws.{present-1, count-le}
+use Rattle.channel.specs.Laws.{present-1}
 use Rattle.words.specs.Words.{nth}
 use Rattle.words.specs.Back.{overflowOf, valueOf, userField}
 use Rattle.writer.specs.Candidate.{puts, seal, sealSecond, sealBlocks, payload, sealed, overflowIn, valueIn, countIn, firstIn, fieldIn, bytesFor, needed, bytesIn, channelIn, candidate}
@@ -91,10 +91,6 @@ reads-no bw a b w o x e f = let g : readable bw a b ≡ Refuse x = sym e ∙ f i
 pub reads-yes : (bw : ℕ) (a b w v : List ℕ) (o : Out) (r : Bool) → o ≡ readable bw a b → o ≡ Pass → v ≡ wordsOf bw a b → r ≡ sameWords v w → r ≡ readsTo bw a b w
 unfolding readsTo
 reads-yes bw a b w v o r e f g h = let p : readable bw a b ≡ Pass = sym e ∙ f in rw p (rw g at h)
-
-pub word-count-le : (bw : ℕ) (a b : List ℕ) → wordCount bw a b ≤ 154
-unfolding wordCount
-word-count-le bw a b = omega (arith, count-le bw 1 a, count-le bw 2 b)
 
 pub words-front : (bw : ℕ) (a b : List ℕ) (n : ℕ) (s t : List ℕ) → n ≡ wordCount bw a b → s ≡ wordsOf bw a b ++ t → take n s ≡ wordsOf bw a b
 words-front bw a b n s t e f = rw f (take-at (wordsOf bw a b) t n (words-length bw a b ∙ sym e))
