@@ -1,3 +1,4 @@
 pub mod Check
 pub mod Checks
 pub mod Parts
+pub mod Mirror

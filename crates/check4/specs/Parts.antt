@@ -1,11 +1,9 @@
 -- The register by parts of its block. Assumes nothing.
-use Prim.Native.Nat.{ℕ, zero, suc, _+_, _*_, _/_, _%_, _^_, _≤_, _<_}
-use mathlib.Core.Path.{_≡_, refl, ap}
+use Prim.Native.Nat.{ℕ, zero, suc, _+_, _/_, _%_, _^_, _≤_, _<_}
+use mathlib.Core.Path.{_≡_, refl}
 use mathlib.Core.List.{List}
-use native.Mathlib.Numerals.{add-one}
 use native.Mathlib.Nat.{add-zero}
 use native.Mathlib.Omega.{arith}
-use lib.Bits.{bitXor}
 use Rattle.bits.specs.Bits.{bit, field}
 use Rattle.bits.specs.Fields.{field-bit}
 use Rattle.check4.specs.Check.{step, register}
@@ -15,19 +13,6 @@ use Rattle.check4.specs.Checks.{step-lt}
 unfoldable pub steps : ℕ → ℕ → ℕ → ℕ
 steps r w zero = r
 steps r w (suc m) = step (steps r w m) (w / 2 ^ m % 2)
-
--- the register looks at the lowest bit alone
-step-low : (r b : ℕ) → step r b ≡ step r (b % 2)
-unfolding step
-step-low r b = ap (λ (x : ℕ). bitXor (r * 2 % 256) (7 * x)) (omega arith)
-
-pub steps-none : (r w : ℕ) → r ≡ steps r w 0
-unfolding steps
-steps-none r w = refl
-
-pub steps-next : (r w m : ℕ) → step (steps r w m) (w / 2 ^ m) ≡ steps r w (m + 1)
-unfolding steps
-steps-next r w m = rw add-one (step-low (steps r w m) (w / 2 ^ m))
 
 pub steps-lt : (r w m : ℕ) → r < 256 → steps r w m < 256
 unfolding steps

@@ -1,31 +1,37 @@
 // The four-bit check and the tail of one block of bits.
 ghost use mathlib.Core.Path.{_≡_};
 ghost use Prim.Native.Nat.{_+_, _^_, _≤_, _<_, min};
-ghost use Rattle.check4.specs.Check.{step, check, right};
-ghost use Rattle.check4.specs.Parts.{steps};
+ghost use Rattle.check4.specs.Check.{check, right};
+ghost use Rattle.check4.specs.Mirror.{shift, shifts};
 
-// One bit into the register: the lowest of b.
-fn step_in(r: u32, b: u32) -> u32
-    requires { ⌜ (r < 256) × (b < 2 ^ 22) ⌝ }
-    ensures { λ x. ⌜ x ≡ step r b ⌝ }
+// One place down; where a 1 leaves, x^2 + x + 1, mirrored, is added.
+fn shift_out(x: u32) -> u32
+    ensures { λ r. ⌜ r ≡ shift x ⌝ }
 {
-    (r * 2 % 256) ^ (7 * ((r / 128 + b) % 2))
+    (x / 2) ^ (224 * (x % 2))
 }
 
-// The m lowest bits of w into the register, the lowest first.
-fn bits_in(r: u32, w: u32, m: usize) -> u32
-    requires { ⌜ (r < 256) × (w < 2 ^ 22) ⌝ }
-    ensures { λ x. ⌜ x ≡ steps r w m ⌝ }
+// m places down.
+fn shift_all(x: u32, m: usize) -> u32
+    ensures { λ r. ⌜ r ≡ shifts x m ⌝ }
 {
-    let mut x = r;
-    let mut v = w;
+    let mut y = x;
     let mut k: usize = 0;
     while k < m {
-        x = step_in(x, v);
-        v = v / 2;
+        y = shift_out(y);
         k += 1;
     }
-    x
+    y
+}
+
+// The same. A User field's bits, the usual case, are a loop of fixed length.
+fn shift_part(x: u32, m: usize) -> u32
+    ensures { λ r. ⌜ r ≡ shifts x m ⌝ }
+{
+    if m == 22 {
+        return shift_all(x, 22);
+    }
+    shift_all(x, m)
 }
 
 // As many of n bits as are looked at in one go: a User field's.
@@ -35,7 +41,8 @@ fn part_of(n: usize) -> usize
     if n < 22 { n } else { 22 }
 }
 
-// The check of the n bits from `at`, first sent bit lowest.
+// The check of the n bits from `at`, first sent bit lowest. The register is held mirrored, so that it moves the way the
+// bits come, and they are added to it a part at a time.
 pub fn check_at(s: &[u8], at: usize, n: usize) -> u32
     requires { ⌜ at + n < 2 ^ 64 ⌝ }
     ensures { λ r. ⌜ r ≡ check (now (s .entry)) at n ⌝ }
@@ -44,11 +51,10 @@ pub fn check_at(s: &[u8], at: usize, n: usize) -> u32
     let mut k: usize = 0;
     while k < n {
         let m = part_of(n - k);
-        r = bits_in(r, bits::field_at(s, at + k, m), m);
+        r = shift_part(r ^ bits::field_at(s, at + k, m), m);
         k += m;
     }
-    let v = 255 - r;
-    v / 128 % 2 + v / 64 % 2 * 2 + v / 32 % 2 * 4 + v / 16 % 2 * 8
+    15 - r % 16
 }
 
 // Whether the check after the n bits from `at` is right and the tail after it zero. The ten bits are compared in one
