@@ -74,9 +74,9 @@ static void prepare_check(void)
 
 static unsigned check(uint64_t covered, unsigned bits)
 {
-    unsigned r = 0xFF;
-    for (unsigned k = 0; k < bits; k++, covered >>= 1)
-        r = (r ^ covered) & 1 ? r >> 1 ^ 0xE0 : r >> 1;
+    uint64_t r = covered ^ 0xFF; /* the register, and the bits that are to come in */
+    for (unsigned k = 0; k < bits; k++)
+        r = r >> 1 ^ (0xE0 & -(r & 1));
     return ~r & 0xF;
 }
 #else
