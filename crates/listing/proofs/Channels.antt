@@ -13,7 +13,7 @@ use Rattle.channel.specs.Layout.{userAt}
 use Rattle.plan.specs.Plan.{at}
 use Rattle.plan.specs.Guess.{onlyPlan}
 use Rattle.records.specs.Owns.{ownerOf}
-use Rattle.listing.specs.Lines.{staLine}
+use Rattle.lines.specs.Lines.{staLine}
 use Rattle.listing.specs.Listing.{ownerIn, staLineAt, staLines}
 
 -- the line of field i of a channel whose bytes are s, its owner the i-th number

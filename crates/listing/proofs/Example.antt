@@ -10,7 +10,7 @@ use Rattle.resource.specs.Index.{indexOf, resourceAt, positionOf, placeOf}
 use Rattle.resource.specs.Runs.{offset106, wide, wideWith26, runsOf}
 use Rattle.records.specs.Records.{divides, pieceFields, listAt}
 use Rattle.records.specs.Owns.{lowest, ownerAt, ownerOf}
-use Rattle.listing.specs.Lines.{nameText, comma, tonesText, ruHead, ruLine, staLine, headText}
+use Rattle.lines.specs.Lines.{nameText, comma, tonesText, ruHead, ruLine, staLine, headText}
 use Rattle.listing.specs.Listing.{resources, ruLines, ownerIn}
 
 abbrev theRow : List ℕ

@@ -26,7 +26,7 @@ use Rattle.reader.specs.Table.{readable, check12, noRoom, wordCount}
 use Rattle.reader.specs.Stages.{word-count-le, commonChecks, userChecks, readable-stages, reading-stages}
 use Rattle.reader.specs.Result.{answerOf}
 use Rattle.input.specs.Parse.{parsed}
-use Rattle.listing.specs.Lines.{headText}
+use Rattle.lines.specs.Lines.{headText}
 use Rattle.listing.specs.Listing.{recordLine, resources, ruLines, staLineAt, staLines, listingOf, listing, check23, listable, listAnswer, listAfter, programText}
 use Rattle.listing.proofs.list.Reads as list
 use Rattle.listing.proofs.respond.Reads as respond

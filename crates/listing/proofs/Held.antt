@@ -1,27 +1,16 @@
--- The runs and the plan that the program holds have the text of the resource's and of the row's. Assumes nothing.
+-- The plan that the program holds has the text of the row's. Assumes nothing.
 use mathlib.Core.Path.{_≡_, refl, ap, _∙_}
 use mathlib.Core.List.{List}
 use Prim.Native.Nat.{ℕ, _≤_}
 use native.Mathlib.Omega.{arith}
 use lib.ListN.{length, drop, replicate, length-append, length-drop, length-replicate, List·getD-append}
 use Rattle.text.specs.Laws.{upto-cong}
-use Rattle.resource.specs.declared.Resource.{Resource}
-use Rattle.resource.specs.declared.Run.{Run}
-use Rattle.resource.specs.Runs.{spanOf, runsOf, held}
-use Rattle.resource.proofs.Held.{runs-few, held-at}
 use Rattle.plan.specs.Plan.{at}
 use Rattle.plan.specs.Guess.{onlyPlan}
 use Rattle.records.specs.declared.Record.{Record}
 use Rattle.records.specs.Records.{planOf, blank}
 use Rattle.records.proofs.Listing.{records-most}
-use Rattle.listing.specs.Lines.{spanText, tonesText, heldText}
 use Rattle.listing.specs.Listing.{recordLine, resources, ruLines, planLines}
-
-pub held-text : (n g : ℕ) (r : Resource) → heldText n (held (runsOf n g r)) ≡ tonesText n (runsOf n g r)
-unfolding heldText tonesText held
-held-text n g r =
-    upto-cong _ _ (length (runsOf n g r))
-    (λ i h. ap (λ (x : Run). spanText i (spanOf n x)) (held-at (runsOf n g r) i (runs-few n g r) h))
 
 -- a row of sixteen positions has at most 144 resources
 pub resources-few : (r : List ℕ) → length r ≤ 16 → length (resources r) ≤ 144

@@ -25,7 +25,7 @@ use Rattle.records.proofs.Shares.{owner-listed}
 use Rattle.reader.specs.Table.{readable, wordCount}
 use Rattle.reader.specs.Words.{wordsOf}
 use Rattle.reader.specs.Determine.{words-length, user-back-1, user-back-2}
-use Rattle.listing.specs.Lines.{staLine}
+use Rattle.lines.specs.Lines.{staLine}
 use Rattle.listing.specs.Listing.{resources, ownerIn, staLineAt}
 use Rattle.listing.proofs.Outcome.{known-code}
 use Rattle.listing.proofs.Facts.{accepted-signals}

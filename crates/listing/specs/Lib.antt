@@ -1,4 +1,2 @@
-pub mod Lines
-pub mod LineLaws
 pub mod Listing
 pub mod Room

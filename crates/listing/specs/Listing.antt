@@ -23,7 +23,7 @@ use Rattle.reader.specs.Table.{readable}
 use Rattle.input.specs.declared.Parsed.{Parsed}
 use Rattle.input.specs.declared.Parsed.the-variants.{Wrong, Lines}
 use Rattle.input.specs.Parse.{parsed, bytesAt, secondAt}
-use Rattle.listing.specs.Lines.{ruLine, staLine, refusalText, headText}
+use Rattle.lines.specs.Lines.{ruLine, staLine, refusalText, headText}
 
 -- ---- the listing of a row r
 

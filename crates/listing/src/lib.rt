@@ -1,6 +1,4 @@
 // A listing (01, "Listing"): an accepted frame's resources and stations as lines of text; and the program's whole text.
-mod lines;
-
 use answer::Answer;
 use answer::Out;
 use input::Parsed;
@@ -17,7 +15,7 @@ ghost use Rattle.text.specs.Text.{Wrote, upto};
 ghost use Rattle.bits.specs.Bits.{field};
 ghost use Rattle.channel.specs.Layout.{userAt};
 ghost use Rattle.input.specs.Parse.{bytesAt, secondAt};
-ghost use Rattle.listing.specs.Lines.{staLine};
+ghost use Rattle.lines.specs.Lines.{staLine};
 ghost use Rattle.listing.specs.Room.{roomFor};
 ghost use Rattle.listing.specs.Listing.{recordLine, resources, planLines, staLines, listingOf, listing, listAnswer, listAfter, frameText, programText};
 

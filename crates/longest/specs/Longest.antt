@@ -47,8 +47,8 @@ use Rattle.input.specs.declared.Parsed.the-variants.{Wrong, Lines}
 use Rattle.input.specs.Parse.{parsed, bytesAt, secondAt}
 use Rattle.stations.specs.Stations.{stationAt}
 use Rattle.reader.specs.Table.{readable}
-use Rattle.listing.specs.Lines.{nameText, comma, spanText, tonesText, ruHead, ruLine, staLine, refusalText, headText}
-use Rattle.listing.specs.LineLaws.{span-short}
+use Rattle.lines.specs.Lines.{nameText, comma, spanText, tonesText, ruHead, ruLine, staLine, refusalText, headText}
+use Rattle.lines.specs.LineLaws.{span-short}
 use Rattle.listing.specs.Listing.{recordLine, resources, ruLines, ownerIn, staLineAt, staLines, listingOf, listing, outcomeText, frameText, parsedText, programText}
 use Rattle.listing.proofs.Owner.{at-small}
 use Rattle.listing.proofs.Outcome.{known-code}

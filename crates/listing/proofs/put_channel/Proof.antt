@@ -8,7 +8,7 @@ use Rattle.text.specs.Text.{Wrote, upto}
 use Rattle.text.specs.Laws.{no-item, item, kept}
 use Rattle.bits.specs.Bits.{field}
 use Rattle.channel.specs.Layout.{userAt}
-use Rattle.listing.specs.Lines.{staLine}
+use Rattle.lines.specs.Lines.{staLine}
 use Rattle.listing.proofs.put_channel.Statement.{statement}
 use Rattle.listing.proofs.put_channel.Tie as tie
 

@@ -1,0 +1,25 @@
+-- `lines::put_comma` meets its contract. Assumes nothing.
+use native.Mathlib.Omega.{arith}
+use borrow.Author.Tests.{ne-eqb}
+use Rattle.text.specs.Laws.{nothing}
+use Rattle.lines.specs.Lines.{comma}
+use borrow.Author.Needs.{needs}
+use Rattle.lines.proofs.put_comma.Statement.{statement}
+use Rattle.lines.proofs.put_comma.Tie as tie
+
+returns : tie.Need-returns
+unfolding comma
+returns c = (rw (c .if1 .taken) (nothing _ _), omega arith)
+
+put-requires : tie.Need-put-requires
+put-requires c κs = search needs
+
+same-length : tie.Need-same-length
+same-length c = search needs
+
+returns-2 : tie.Need-returns-2
+unfolding comma
+returns-2 c = (rw (ne-eqb _ _ (c .before .before .before .before .if1 .left)) (c .before .before .put .ensures), omega (arith, c .before .before .put .ensures .next))
+
+pub put-comma-spec : {M : Type 1} → statement M
+put-comma-spec = tie.close (tie.spec returns put-requires same-length returns-2)

@@ -1,0 +1,21 @@
+-- `lines::put_key` meets its contract. Assumes nothing.
+use native.Mathlib.Omega.{arith}
+use Rattle.text.specs.Laws.{after}
+use borrow.Author.Needs.{needs}
+use Rattle.lines.proofs.put_key.Statement.{statement}
+use Rattle.lines.proofs.put_key.Tie as tie
+
+put-all-requires : tie.Need-put-all-requires
+put-all-requires c κs = search needs
+
+put-dec-requires : tie.Need-put-dec-requires
+put-dec-requires c κs = search needs
+
+same-length : tie.Need-same-length
+same-length c = search needs
+
+returns : tie.Need-returns
+returns c = (after (c .before .before .before .before .before .before .put-all .ensures) (c .before .before .put-dec .ensures .0), omega (arith, c .before .before .before .before .before .before .put-all .ensures .next))
+
+pub put-key-spec : {M : Type 1} → statement M
+put-key-spec = tie.close (tie.spec put-all-requires put-dec-requires same-length returns)

@@ -1,0 +1,60 @@
+-- `lines::put_ru` meets its contract. Assumes nothing.
+use native.Mathlib.Omega.{arith}
+use mathlib.Core.Path.{_≡_, ap, _∙_}
+use Prim.Native.Nat.{_≤_}
+use lib.ListN.{length}
+use Rattle.text.specs.Laws.{after}
+use Rattle.resource.specs.Runs.{runsOf, held}
+use Rattle.resource.proofs.Held.{runs-few, held-count, held-three}
+use Rattle.lines.specs.Lines.{ruLine, tonesText, heldText}
+use Rattle.lines.proofs.Held.{held-text}
+use borrow.Author.Needs.{needs}
+use Rattle.lines.proofs.put_ru.Statement.{statement}
+use Rattle.lines.proofs.put_ru.Tie as tie
+
+put-ru-head-requires : tie.Need-put-ru-head-requires
+put-ru-head-requires c κs = search needs
+
+slice-aggregate-put-all : tie.Need-slice-aggregate-put-all
+slice-aggregate-put-all c = search needs
+
+put-all-requires : tie.Need-put-all-requires
+put-all-requires c κs = search needs
+
+tones-of-requires : tie.Need-tones-of-requires
+tones-of-requires c κs = search needs
+
+put-tones-requires : tie.Need-put-tones-requires
+put-tones-requires c κs =
+    let a = c .before .before .before .before .before .before .before .before .before .before .before .before .args in
+    let rs = runsOf (a .n) (a .g) (a .r) in
+    let l : length rs ≤ 3 = runs-few (a .n) (a .g) (a .r) in
+    let e : c .before .tones-of .result ≡ held rs = c .before .tones-of .ensures in
+    (omega (arith, c .before .before .before .before .put-all .ensures .next), rw e (omega (arith, held-count rs)), rw e (held-three rs))
+
+put-requires : tie.Need-put-requires
+put-requires c κs = search needs
+
+same-length : tie.Need-same-length
+same-length c = search needs
+
+returns : tie.Need-returns
+unfolding ruLine
+returns c =
+    let a = c .before .before .before .before .before .before .before .before .before .before .before .before .before .before .before .before .before .before .before .args in
+    let rs = runsOf (a .n) (a .g) (a .r) in
+    let e : heldText (a .n) (c .before .before .before .before .before .before .before .before .tones-of .result) ≡ tonesText (a .n) rs = ap (heldText (a .n)) (c .before .before .before .before .before .before .before .before .tones-of .ensures) ∙ held-text (a .n) (a .g) (a .r) in
+    (after (after (after (c .before .before .before .before .before .before .before .before .before .before .before .before .before .before .before .before .put-ru-head .ensures .0) (c .before .before .before .before .before .before .before .before .before .before .before .put-all .ensures)) (rw e at (c .before .before .before .before .before .before .put-tones .ensures .0))) (c .before .before .put .ensures), omega (arith, c .before .before .before .before .before .before .before .before .before .before .before .put-all .ensures .next, c .before .before .put .ensures .next))
+
+pub put-ru-spec : {M : Type 1} → statement M
+put-ru-spec =
+    tie.close
+    (tie.spec
+    put-ru-head-requires
+    slice-aggregate-put-all
+    put-all-requires
+    tones-of-requires
+    put-tones-requires
+    put-requires
+    same-length
+    returns)

@@ -1,0 +1,65 @@
+-- `lines::put_ru_head` meets its contract. Assumes nothing.
+use native.Mathlib.Omega.{arith}
+use Rattle.text.specs.Laws.{after}
+use Rattle.lines.specs.Lines.{ruHead}
+use borrow.Author.Needs.{needs}
+use Rattle.lines.proofs.put_ru_head.Statement.{statement}
+use Rattle.lines.proofs.put_ru_head.Tie as tie
+
+slice-aggregate-put-all : tie.Need-slice-aggregate-put-all
+slice-aggregate-put-all c = search needs
+
+put-all-requires : tie.Need-put-all-requires
+put-all-requires c κs = search needs
+
+put-name-requires : tie.Need-put-name-requires
+put-name-requires c κs = search needs
+
+slice-aggregate-put-key : tie.Need-slice-aggregate-put-key
+slice-aggregate-put-key c = search needs
+
+number-of-requires : tie.Need-number-of-requires
+number-of-requires c κs = search needs
+
+cast-put-key : tie.Need-cast-put-key
+cast-put-key c = search needs
+
+put-key-requires : tie.Need-put-key-requires
+put-key-requires c κs = search needs
+
+slice-aggregate-put-key-2 : tie.Need-slice-aggregate-put-key-2
+slice-aggregate-put-key-2 c = search needs
+
+put-key-requires-2 : tie.Need-put-key-requires-2
+put-key-requires-2 c κs = search needs
+
+slice-aggregate-put-key-3 : tie.Need-slice-aggregate-put-key-3
+slice-aggregate-put-key-3 c = search needs
+
+put-key-requires-3 : tie.Need-put-key-requires-3
+put-key-requires-3 c κs = search needs
+
+same-length : tie.Need-same-length
+same-length c = search needs
+
+returns : tie.Need-returns
+unfolding ruHead
+returns c = (after (after (after (after (c .before .before .before .before .before .before .before .before .before .before .before .before .before .before .before .before .before .before .before .before .before .before .put-all .ensures) (c .before .before .before .before .before .before .before .before .before .before .before .before .before .before .before .before .before .before .put-name .ensures .0)) (rw (c .before .before .before .before .before .before .before .before .before .before .before .before .before .number-of .ensures) at (c .before .before .before .before .before .before .before .before .before .before .before .before .put-key .ensures .0))) (c .before .before .before .before .before .before .before .put-key2 .ensures .0)) (c .before .before .put-key3 .ensures .0), omega (arith, c .before .before .before .before .before .before .before .before .before .before .before .before .before .before .before .before .before .before .before .before .before .before .put-all .ensures .next))
+
+pub put-ru-head-spec : {M : Type 1} → statement M
+put-ru-head-spec =
+    tie.close
+    (tie.spec
+    slice-aggregate-put-all
+    put-all-requires
+    put-name-requires
+    slice-aggregate-put-key
+    number-of-requires
+    cast-put-key
+    put-key-requires
+    slice-aggregate-put-key-2
+    put-key-requires-2
+    slice-aggregate-put-key-3
+    put-key-requires-3
+    same-length
+    returns)
