@@ -4,7 +4,7 @@ use mathlib.Core.Path.{_≡_, refl, sym, _∙_, ap, subst}
 use mathlib.Core.Logic.{⊎-elim}
 use mathlib.Core.Bool.{Bool, true, false, cond}
 use mathlib.Core.List.{List}
-use native.Mathlib.Nat.{mod-lt, eq-or-lt-of-le, mod-eq-of-lt}
+use native.Mathlib.Nat.{mod-lt, eq-or-lt-of-le, mod-eq-of-lt, add-mul}
 use native.Mathlib.Decide.{decLt, ℕ-discrete}
 use native.Mathlib.Omega.{arith}
 use lib.Arith.{digits-lt}
@@ -14,7 +14,7 @@ use lib.Pow as P
 use borrow.Author.Tests.{le-leb, lt-leb, lt-ltb, le-ltb}
 use Rattle.answer.specs.Filled.{length-build, getD-build}
 use Rattle.bits.specs.Bits.{bit, field, gather, bytes, within, put}
-use Rattle.bits.specs.Fields.{inner, bit-lt, bit-end, field-of, field-ext, field-byte}
+use Rattle.bits.specs.Fields.{inner, bit-lt, bit-end, field-of, field-bit, field-ext, field-byte}
 
 -- ---- a number by its bits
 
@@ -182,7 +182,7 @@ unfoldable pub merge : ℕ → ℕ → ℕ → ℕ → ℕ
 merge x a m w = (x / 2 ^ (a + m) * 2 ^ m + w % 2 ^ m) * 2 ^ a + x % 2 ^ a
 
 module _ (x a m w : ℕ) where
-  pub merge-high : merge x a m w / 2 ^ a ≡ x / 2 ^ (a + m) * 2 ^ m + w % 2 ^ m
+  merge-high : merge x a m w / 2 ^ a ≡ x / 2 ^ (a + m) * 2 ^ m + w % 2 ^ m
   unfolding merge
   merge-high = P.high (x / 2 ^ (a + m) * 2 ^ m + w % 2 ^ m) a (mod-lt x (P.pow-pos a))
 
@@ -210,19 +210,30 @@ module _ (x a m w : ℕ) where
       ∙ P.high (x / 2 ^ (a + m)) m (mod-lt w (P.pow-pos m)))
       ∙ P.shr-shr x (a + m) k)
 
-  pub merge-lt : x < 256 → a + m ≤ 8 → merge x a m w < 256
+  -- it stays as wide as it was
+  pub merge-lt : (b : ℕ) → x < 2 ^ b → a + m ≤ b → merge x a m w < 2 ^ b
   unfolding merge
-  merge-lt hx h =
-      let e : 8 ≡ (8 - (a + m)) + (a + m) = omega arith in
-      let f : 8 - (a + m) + m + a ≡ 8 = omega arith in
-      let y : x / 2 ^ (a + m) < 2 ^ (8 - (a + m)) = P.shr-lt (8 - (a + m)) (a + m) (subst (λ (k : ℕ). x < 2 ^ k) e hx) in
-      let z : x / 2 ^ (a + m) * 2 ^ m + w % 2 ^ m < 2 ^ (8 - (a + m)) * 2 ^ m = digits-lt y (mod-lt w (P.pow-pos m)) in
-      let q : (x / 2 ^ (a + m) * 2 ^ m + w % 2 ^ m) * 2 ^ a + x % 2 ^ a < 2 ^ (8 - (a + m)) * 2 ^ m * 2 ^ a = digits-lt z (mod-lt x (P.pow-pos a)) in
-      let g : 2 ^ (8 - (a + m)) * 2 ^ m * 2 ^ a ≡ 256 =
-      ap (λ (k : ℕ). k * 2 ^ a) (sym (P.pow-add 2 (8 - (a + m)) m))
-      ∙ sym (P.pow-add 2 (8 - (a + m) + m) a)
+  merge-lt b hx h =
+      let e : b ≡ (b - (a + m)) + (a + m) = omega arith in
+      let f : b - (a + m) + m + a ≡ b = omega arith in
+      let y : x / 2 ^ (a + m) < 2 ^ (b - (a + m)) = P.shr-lt (b - (a + m)) (a + m) (subst (λ (k : ℕ). x < 2 ^ k) e hx) in
+      let z : x / 2 ^ (a + m) * 2 ^ m + w % 2 ^ m < 2 ^ (b - (a + m)) * 2 ^ m = digits-lt y (mod-lt w (P.pow-pos m)) in
+      let q : (x / 2 ^ (a + m) * 2 ^ m + w % 2 ^ m) * 2 ^ a + x % 2 ^ a < 2 ^ (b - (a + m)) * 2 ^ m * 2 ^ a = digits-lt z (mod-lt x (P.pow-pos a)) in
+      let g : 2 ^ (b - (a + m)) * 2 ^ m * 2 ^ a ≡ 2 ^ b =
+      ap (λ (k : ℕ). k * 2 ^ a) (sym (P.pow-add 2 (b - (a + m)) m))
+      ∙ sym (P.pow-add 2 (b - (a + m) + m) a)
       ∙ ap (λ (k : ℕ). 2 ^ k) f in
       rw g at q
+
+  -- the bits that stood there go, and those of w come
+  pub merge-change : merge x a m w + x / 2 ^ a % 2 ^ m * 2 ^ a ≡ x + w % 2 ^ m * 2 ^ a
+  unfolding merge
+  merge-change =
+      let h = x / 2 ^ (a + m) * 2 ^ m in
+      let o = x / 2 ^ a % 2 ^ m in
+      let e : h + o ≡ x / 2 ^ a = ap (λ (y : ℕ). y * 2 ^ m + o) (sym (P.shr-shr x a m)) ∙ P.split (x / 2 ^ a) m in
+      let f : (h + o) * 2 ^ a + x % 2 ^ a ≡ x = ap (λ (y : ℕ). y * 2 ^ a + x % 2 ^ a) e ∙ P.split x a in
+      omega (arith, f, add-mul h o (2 ^ a), add-mul h (w % 2 ^ m) (2 ^ a))
 
 -- a bit of a list with one byte stored
 bit-set : (s : List ℕ) (q y j : ℕ) → q < length s → j / 8 ≡ q → bit (set s q y) j ≡ y / 2 ^ (j % 8) % 2
@@ -277,8 +288,76 @@ module _ (s : List ℕ) (i m w : ℕ) (h : Small s) (l : i / 8 < length s) (b : 
   pub put-byte : set s (i / 8) (merge (getD s (i / 8) 0) (i % 8) m w) ≡ put s i m w
   put-byte =
       is-put s (set s (i / 8) new) i m w
-      (set-small s (i / 8) new h l (merge-lt old (i % 8) m w (h .small (i / 8)) b))
+      (set-small s (i / 8) new h l (merge-lt old (i % 8) m w 8 (h .small (i / 8)) b))
       (length-set s (i / 8) new)
       (λ k n c. inside k n)
       (λ j n. kept j (λ e. merge-below old (i % 8) m w (j % 8) (omega arith)))
       (λ j n. kept j (above j n))
+
+-- ---- four bytes
+
+merge-whole : (x w : ℕ) → x < 256 → merge x 0 8 w ≡ w % 256
+unfolding merge
+merge-whole x w h = omega arith
+
+-- a whole byte stored is eight bits put
+set-byte : (s : List ℕ) (i w : ℕ) → Small s → i < length s → set s i (w % 256) ≡ put s (8 * i) 8 w
+set-byte s i w h l =
+    let e : 8 * i / 8 ≡ i = omega arith in
+    let f : 8 * i % 8 ≡ 0 = omega arith in
+    let p = put-byte s (8 * i) 8 w h (omega arith) (omega arith) in
+    ap (λ (y : ℕ). set s i y) (sym (merge-whole (getD s i 0) w (h .small i))) ∙ (rw (e, f) at p)
+
+-- k bytes that were put, and the next one stored
+set-next : (s : List ℕ) (i k w : ℕ) → i + k < length s
+    → set (put s (8 * i) (8 * k) w) (i + k) (w / 2 ^ (8 * k) % 256) ≡ put s (8 * i) (8 * k + 8) w
+set-next s i k w l =
+    let p = put s (8 * i) (8 * k) w in
+    let e : 8 * (i + k) ≡ 8 * i + 8 * k = omega arith in
+    set-byte p (i + k) (w / 2 ^ (8 * k)) (put-small s (8 * i) (8 * k) w) (omega (arith, put-length s (8 * i) (8 * k) w))
+    ∙ ap (λ (j : ℕ). put p j 8 (w / 2 ^ (8 * k))) e
+    ∙ put-more s (8 * i) (8 * k) 8 w
+
+-- four bytes stored are 32 bits put
+pub set-four : (s : List ℕ) (i w : ℕ) → Small s → i + 3 < length s
+    → set (set (set (set s i (w % 256)) (i + 1) (w / 256 % 256)) (i + 2) (w / 65536 % 256)) (i + 3) (w / 16777216 % 256) ≡ put s (8 * i) 32 w
+set-four s i w h l =
+    ap (λ (t : List ℕ). set (set (set t (i + 1) (w / 256 % 256)) (i + 2) (w / 65536 % 256)) (i + 3) (w / 16777216 % 256)) (set-byte s i w h (omega arith))
+    ∙ ap (λ (t : List ℕ). set (set t (i + 2) (w / 65536 % 256)) (i + 3) (w / 16777216 % 256)) (set-next s i 1 w (omega arith))
+    ∙ ap (λ (t : List ℕ). set t (i + 3) (w / 16777216 % 256)) (set-next s i 2 w (omega arith))
+    ∙ set-next s i 3 w l
+
+-- 32 bits put back with a field merged into them are the field put
+module _ (s : List ℕ) (i a m v : ℕ) (b : a + m ≤ 32) where
+  abbrev held : ℕ
+  held = field s (8 * i) 32
+
+  abbrev word : ℕ
+  word = merge held a m v
+
+  -- a bit that merging leaves
+  left-of : (j : ℕ) → ((k : ℕ) → 8 * i + k ≡ j → k < 32 → word / 2 ^ k % 2 ≡ held / 2 ^ k % 2) → bit (put s (8 * i) 32 word) j ≡ bit s j
+  left-of j same = go (decLt j (8 * i)) (decLt j (8 * i + 32)) (decLt j (8 * length s))
+    where
+      go : Dec (j < 8 * i) → Dec (j < 8 * i + 32) → Dec (j < 8 * length s) → bit (put s (8 * i) 32 word) j ≡ bit s j
+      go (yes l) n r = put-before s (8 * i) 32 word j l
+      go (no l) (no n) r = put-after s (8 * i) 32 word j (omega arith)
+      go (no l) (yes n) (no r) = bit-end (put s (8 * i) 32 word) j (omega (arith, put-length s (8 * i) 32 word)) ∙ sym (bit-end s j (omega arith))
+      go (no l) (yes n) (yes r) =
+          let e : 8 * i + (j - 8 * i) ≡ j = omega arith in
+          let p : bit (put s (8 * i) 32 word) (8 * i + (j - 8 * i)) ≡ bit s (8 * i + (j - 8 * i)) =
+          put-in s (8 * i) 32 word (j - 8 * i) (omega arith) (omega arith)
+          ∙ same (j - 8 * i) e (omega arith)
+          ∙ field-bit s (8 * i) 32 (j - 8 * i) (omega arith) in
+          rw e at p
+
+  pub put-merged : put s (8 * i) 32 (merge (field s (8 * i) 32) a m v) ≡ put s (8 * i + a) m v
+  put-merged =
+      is-put s (put s (8 * i) 32 word) (8 * i + a) m v (put-small s (8 * i) 32 word) (put-length s (8 * i) 32 word)
+      (λ k l r.
+      let e : 8 * i + (a + k) ≡ 8 * i + a + k = omega arith in
+      (rw e at (put-in s (8 * i) 32 word (a + k) (omega arith) (omega arith))) ∙ merge-in held a m v k l)
+      (λ j l. left-of j (λ k e n. merge-below held a m v k (omega arith)))
+      (λ j l. left-of j (λ k e n.
+      let f : a + m + (k - (a + m)) ≡ k = omega arith in
+      rw f at (merge-above held a m v (k - (a + m)))))

@@ -1,15 +1,16 @@
 -- `bits::merged` meets its contract. Assumes nothing.
-use Prim.Native.Nat.{ℕ, _+_, _*_, _/_, _%_, _^_, _<_}
-use mathlib.Core.Path.{_≡_}
+use Prim.Native.Nat.{ℕ, _+_, _*_, _/_, _%_, _^_, _≤_}
+use mathlib.Core.Path.{_≡_, _∙_, ap}
+use native.Mathlib.Nat.{mod-lt, add-mul}
 use native.Mathlib.Omega.{arith}
-use lib.Pow.{shr-le, pow-pos}
+use lib.Pow.{pow-pos, shl-exact, split}
 use Rattle.bits.specs.Fields.{shl-one}
-use Rattle.bits.specs.Writes.{merge, merge-lt, merge-high}
+use Rattle.bits.specs.Writes.{merge, merge-lt, merge-change}
 use borrow.Author.Needs.{needs}
 use Rattle.bits.proofs.merged.Statement.{statement}
 use Rattle.bits.proofs.merged.Tie as tie
 
--- all that the needs want: the sum is a byte, and no shift loses a bit
+-- all that the needs want: no shift loses a bit, the bits that go were there, and the sum is as wide as x
 module _ (c : tie.Start) where
   abbrev x : ℕ
   x = c .args .x
@@ -23,96 +24,83 @@ module _ (c : tie.Start) where
   abbrev w : ℕ
   w = c .args .w
 
-  small : (x / 2 ^ (a + m) * 2 ^ m + w % 2 ^ m) * 2 ^ a + x % 2 ^ a < 256
-  unfolding merge
-  small = merge-lt x a m w (c .fits .x .fits) (c .pre)
+  power : 1 * 2 ^ m % 4294967296 ≡ 2 ^ m
+  power = shl-one m (omega arith)
 
-  middle : x / 2 ^ (a + m) * 2 ^ m + w % 2 ^ m < 256
-  unfolding merge
-  middle = let h = shr-le (merge x a m w) a in let s = small in omega (arith, merge-high x a m w)
+  low : (y : ℕ) → y % 2 ^ m * 2 ^ a % 4294967296 ≡ y % 2 ^ m * 2 ^ a
+  low y = shl-exact m a 32 (mod-lt y (pow-pos m)) (omega arith)
 
-  high : x / 2 ^ (a + m) * 2 ^ m % 4294967296 ≡ x / 2 ^ (a + m) * 2 ^ m
-  high = let s = middle in omega arith
+  -- the bits that stand there, where they stand
+  held : x / 2 ^ a % 2 ^ m * 2 ^ a ≤ x
+  held =
+      let e : (x / 2 ^ a / 2 ^ m * 2 ^ m + x / 2 ^ a % 2 ^ m) * 2 ^ a + x % 2 ^ a ≡ x =
+      ap (λ (y : ℕ). y * 2 ^ a + x % 2 ^ a) (split (x / 2 ^ a) m) ∙ split x a in
+      omega (arith, e, add-mul (x / 2 ^ a / 2 ^ m * 2 ^ m) (x / 2 ^ a % 2 ^ m) (2 ^ a))
 
-  whole : (x / 2 ^ (a + m) * 2 ^ m + w % 2 ^ m) * 2 ^ a % 4294967296 ≡ (x / 2 ^ (a + m) * 2 ^ m + w % 2 ^ m) * 2 ^ a
-  whole = let s = small in omega arith
+cast-old : tie.Need-cast-old
+cast-old c = search needs
 
-  pow-m : 1 * 2 ^ m % 4294967296 ≡ 2 ^ m
-  pow-m = shl-one m (omega arith)
+shr-old : tie.Need-shr-old
+shr-old c = search needs
 
-  pow-a : 1 * 2 ^ a % 4294967296 ≡ 2 ^ a
-  pow-a = shl-one a (omega arith)
+cast-old-2 : tie.Need-cast-old-2
+cast-old-2 c = search needs
 
-add-result : tie.Need-add-result
-add-result c = search needs
+shl-old : tie.Need-shl-old
+shl-old c = search needs
+
+rem-old : tie.Need-rem-old
+rem-old c = rw (power c) (pow-pos (m c))
 
 cast-result : tie.Need-cast-result
 cast-result c = search needs
 
-shr-result : tie.Need-shr-result
-shr-result c = search needs
-
-cast-result-2 : tie.Need-cast-result-2
-cast-result-2 c = search needs
-
 shl-result : tie.Need-shl-result
 shl-result c = search needs
 
-cast-result-3 : tie.Need-cast-result-3
-cast-result-3 c = search needs
+sub-result : tie.Need-sub-result
+sub-result c = rw (power c, low c (x c / 2 ^ a c)) (held c)
+
+cast-result-2 : tie.Need-cast-result-2
+cast-result-2 c = search needs
 
 shl-result-2 : tie.Need-shl-result-2
 shl-result-2 c = search needs
 
 rem-result : tie.Need-rem-result
-rem-result c = rw (pow-m c) (pow-pos (m c))
+rem-result c = rw (power c) (pow-pos (m c))
 
-add-result-2 : tie.Need-add-result-2
-add-result-2 c = rw (high c, pow-m c) (omega (arith, middle c))
-
-cast-result-4 : tie.Need-cast-result-4
-cast-result-4 c = search needs
+cast-result-3 : tie.Need-cast-result-3
+cast-result-3 c = search needs
 
 shl-result-3 : tie.Need-shl-result-3
 shl-result-3 c = search needs
 
-cast-result-5 : tie.Need-cast-result-5
-cast-result-5 c = search needs
-
-shl-result-4 : tie.Need-shl-result-4
-shl-result-4 c = search needs
-
-rem-result-2 : tie.Need-rem-result-2
-rem-result-2 c = rw (pow-a c) (pow-pos (a c))
-
-add-result-3 : tie.Need-add-result-3
-add-result-3 c = rw (high c, pow-m c, whole c, pow-a c) (omega (arith, small c))
-
-cast-result-6 : tie.Need-cast-result-6
-cast-result-6 c = rw (high c, pow-m c, whole c, pow-a c) (omega (arith, small c))
+add-result : tie.Need-add-result
+add-result c =
+    rw (power c, low c (x c / 2 ^ a c), low c (w c))
+    (omega (arith, held c, merge-change (x c) (a c) (m c) (w c), merge-lt (x c) (a c) (m c) (w c) 32 (c .fits .x .fits) (omega arith)))
 
 returns : tie.Need-returns
-unfolding merge
-returns c = rw (high c, pow-m c, whole c, pow-a c)
+returns c =
+    rw (power c, low c (x c / 2 ^ a c), low c (w c)) (omega (arith, held c, merge-change (x c) (a c) (m c) (w c)))
 
 pub merged-spec : {M : Type 1} → statement M
 merged-spec =
     tie.close
     (tie.spec
-    add-result
+    cast-old
+    shr-old
+    cast-old-2
+    shl-old
+    rem-old
     cast-result
-    shr-result
-    cast-result-2
     shl-result
-    cast-result-3
+    sub-result
+    cast-result-2
     shl-result-2
     rem-result
-    add-result-2
-    cast-result-4
+    cast-result-3
     shl-result-3
-    cast-result-5
-    shl-result-4
-    rem-result-2
-    add-result-3
-    cast-result-6
+    add-result
     returns)

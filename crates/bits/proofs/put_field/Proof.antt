@@ -1,90 +1,78 @@
 -- `bits::put_field` meets its contract. Assumes nothing.
-use Prim.Native.Nat.{ℕ, _+_, _-_, _/_, _^_, _≤_}
-use mathlib.Core.Path.{_≡_, refl, ap, _∙_}
-use mathlib.Core.List.{List}
+use Prim.Native.Nat.{ℕ, _+_, _*_, _/_, _%_, _≤_, _<_}
+use mathlib.Core.Path.{_≡_, refl, _∙_, ap}
+use mathlib.Core.Bool.{Bool, true, false, _&&_}
 use native.Mathlib.Omega.{arith}
+use lib.Dec.{leb, ltb}
 use lib.ListN.{length}
+use borrow.Author.Tests.{leb-true, ltb-true}
 use Rattle.bits.specs.Bits.{put}
-use Rattle.bits.specs.Writes.{put-none, put-more, put-length}
+use Rattle.bits.specs.Writes.{merge, put-merged}
 use borrow.Author.Needs.{needs}
 use Rattle.bits.proofs.put_field.Statement.{statement}
 use Rattle.bits.proofs.put_field.Tie as tie
 
-abbrev Inv-loop : tie.InvT-loop
-Inv-loop d₀ at n v k₀ d k = (k ≤ n) × (d ≡ put d₀ at k v) × (length d ≡ length d₀)
+both : (s t : Bool) → (s && t) ≡ true → (s ≡ true) × (t ≡ true)
+both true t e = (refl, e)
+both false t e = absurd (let z : _≡_ {A = ℕ} 0 1 = cc in omega arith)
 
-abbrev μ-loop : tie.MeasureT-loop
-μ-loop d₀ at n v k₀ d k = n - k
+-- what the test says
+fits-window : (n i l : ℕ) → (leb n 25 && ltb (i + 3) l) ≡ true → (n ≤ 25) × (i + 3 < l)
+fits-window n i l e =
+    let p = both (leb n 25) (ltb (i + 3) l) e in
+    (leb-true n 25 (p .0), ltb-true (i + 3) l (p .1))
 
-loop-holds : tie.Need-loop-holds Inv-loop μ-loop
-loop-holds c =
-    let a = c .before .args in
-    (search needs, put-none (a .d .now) (a .at) (a .v) (record { small = λ j. c .slice-known .given j .fits }), refl)
+add-if1 : tie.Need-add-if1
+add-if1 c = search needs
 
-add-part-of : tie.Need-add-part-of Inv-loop μ-loop
-add-part-of c = search needs
+window-requires : tie.Need-window-requires
+window-requires c κs = search needs
 
-sub-part-of : tie.Need-sub-part-of Inv-loop μ-loop
-sub-part-of c = search needs
+merged-requires : tie.Need-merged-requires
+merged-requires c κs =
+    let a = c .before .before .before .before .args in
+    let t = fits-window (a .n) (a .at / 8) (length (a .d .now)) (c .before .before .if1 .taken) in
+    (omega arith, t .0)
 
-part-of-requires : tie.Need-part-of-requires Inv-loop μ-loop
-part-of-requires c κs = search needs
+put-window-requires : tie.Need-put-window-requires
+put-window-requires c κs =
+    let a = c .before .before .before .before .before .before .args in
+    (fits-window (a .n) (a .at / 8) (length (a .d .now)) (c .before .before .before .before .if1 .taken) .1, record { small = λ j. c .before .before .before .before .before .slice-known .given j .fits })
 
-add-put-part : tie.Need-add-put-part Inv-loop μ-loop
-add-put-part c = search needs
-
-cast-put-part : tie.Need-cast-put-part Inv-loop μ-loop
-cast-put-part c = search needs
-
-shr-put-part : tie.Need-shr-put-part Inv-loop μ-loop
-shr-put-part c = search needs
-
-put-part-requires : tie.Need-put-part-requires Inv-loop μ-loop
-put-part-requires c κs = search needs
-
-add-k : tie.Need-add-k Inv-loop μ-loop
-add-k c = search needs
-
-loop-less : tie.Need-loop-less Inv-loop μ-loop
-loop-less c = search needs
-
-loop-again : tie.Need-loop-again Inv-loop μ-loop
-loop-again c =
-    let a = c .before .before .before .before .before .before .before .before .args in
-    let l = c .before .before .before .before .before .before .loop in
-    let m = c .before .before .before .before .part-of .result in
-    let p = c .before .before .put-part in
-    let e : p .last .0 ≡ put (a .d .now) (a .at) (l .k + m) (a .v) =
-    p .ensures
-    ∙ ap (λ (d : List ℕ). put d (a .at + l .k) m (a .v / 2 ^ l .k)) (l .inv .1)
-    ∙ put-more (a .d .now) (a .at) (l .k) m (a .v) in
-    (search needs, e, ap length e ∙ put-length (a .d .now) (a .at) (l .k + m) (a .v))
-
-same-length : tie.Need-same-length Inv-loop μ-loop
+same-length : tie.Need-same-length
 same-length c = search needs
 
-returns : tie.Need-returns Inv-loop μ-loop
+returns : tie.Need-returns
 returns c =
-    let a = c .before .before .before .args in
-    let e : c .before .loop .k ≡ a .n = omega arith in
-    c .before .loop .inv .1 ∙ ap (λ (k : ℕ). put (a .d .now) (a .at) k (a .v)) e
+    let a = c .before .before .before .before .before .before .before .before .before .args in
+    let t = fits-window (a .n) (a .at / 8) (length (a .d .now)) (c .before .before .before .before .before .before .before .if1 .taken) in
+    let i = a .at / 8 in
+    let e : 8 * i + a .at % 8 ≡ a .at = omega arith in
+    c .before .before .put-window .ensures
+    ∙ ap (λ (y : ℕ). put (a .d .now) (8 * i) 32 y) (c .before .before .before .before .merged .ensures
+    ∙ ap (λ (y : ℕ). merge y (a .at % 8) (a .n) (a .v)) (c .before .before .before .before .before .window .ensures))
+    ∙ put-merged (a .d .now) i (a .at % 8) (a .n) (a .v) (omega (arith, t .0))
+    ∙ ap (λ (k : ℕ). put (a .d .now) k (a .n) (a .v)) e
+
+put-parts-requires : tie.Need-put-parts-requires
+put-parts-requires c κs = search needs
+
+same-length-2 : tie.Need-same-length-2
+same-length-2 c = search needs
+
+returns-2 : tie.Need-returns-2
+returns-2 c = search needs
 
 pub put-field-spec : {M : Type 1} → statement M
 put-field-spec =
     tie.close
     (tie.spec
-    Inv-loop
-    μ-loop
-    loop-holds
-    add-part-of
-    sub-part-of
-    part-of-requires
-    add-put-part
-    cast-put-part
-    shr-put-part
-    put-part-requires
-    add-k
-    loop-less
-    loop-again
+    add-if1
+    window-requires
+    merged-requires
+    put-window-requires
     same-length
-    returns)
+    returns
+    put-parts-requires
+    same-length-2
+    returns-2)

@@ -1,9 +1,9 @@
 -- `bits::put_part` meets its contract. Assumes nothing.
-use Prim.Native.Nat.{ℕ, _/_}
+use Prim.Native.Nat.{ℕ, _/_, _%_}
 use mathlib.Core.Path.{ap, _∙_}
 use native.Mathlib.Omega.{arith}
-use lib.ListN.{set}
-use Rattle.bits.specs.Writes.{put-byte, put-past}
+use lib.ListN.{getD, set}
+use Rattle.bits.specs.Writes.{merge-lt, put-byte, put-past}
 use borrow.Author.Needs.{needs}
 use Rattle.bits.proofs.put_part.Statement.{statement}
 use Rattle.bits.proofs.put_part.Tie as tie
@@ -11,8 +11,19 @@ use Rattle.bits.proofs.put_part.Tie as tie
 slice-read-merged : tie.Need-slice-read-merged
 slice-read-merged c = search needs
 
+cast-merged : tie.Need-cast-merged
+cast-merged c =
+    let h = c .slice-known2 .given (c .before .before .before .args .i / 8) .fits in
+    record { fits = omega (arith, h) }
+
 merged-requires : tie.Need-merged-requires
 merged-requires c κs = search needs
+
+cast-d : tie.Need-cast-d
+cast-d c =
+    let k = c .before .before .before in
+    let a = k .before .args in
+    record { fits = rw (c .merged .ensures) (merge-lt (getD (a .d .now) (a .i / 8) 0) (a .i % 8) (a .m) (a .w) 8 (k .slice-known .given (a .i / 8) .fits) (omega arith)) }
 
 slice-write-d : tie.Need-slice-write-d
 slice-write-d c = search needs
@@ -36,4 +47,4 @@ returns-2 c =
 pub put-part-spec : {M : Type 1} → statement M
 put-part-spec =
     tie.close
-    (tie.spec slice-read-merged merged-requires slice-write-d same-length returns returns-2)
+    (tie.spec slice-read-merged cast-merged merged-requires cast-d slice-write-d same-length returns returns-2)
