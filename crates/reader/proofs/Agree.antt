@@ -10,6 +10,7 @@ use Rattle.reader.specs.Words.{wordsOf}
 use Rattle.reader.specs.Result.{answerOf, wordsAfter}
 use Rattle.reader.proofs.check_frame.Reads as check-frame
 use Rattle.reader.proofs.read.Reads as read
+use Rattle.reader.proofs.read_sealed.Reads as read-sealed
 
 pub check-frame-agrees : (κs : _) (a : _) (r r' : _) (s s' : _) → check-frame.Post κs a r s → check-frame.Post κs a r' s' → r ≡ r'
 check-frame-agrees κs a r r' s s' p q = p ∙ sym q
@@ -18,6 +19,10 @@ check-frame-agrees κs a r r' s s' p q = p ∙ sym q
 pub read-agrees : (κs : _) (a : _) (r r' : _) (s s' : _) → read.Post κs a r s → read.Post κs a r' s'
     → (r ≡ r') × (now (s .1 .1 .1 .0) ≡ now (s' .1 .1 .1 .0))
 read-agrees κs a r r' s s' p q = (p .0 ∙ sym (q .0), p .1 ∙ sym (q .1))
+
+pub read-sealed-agrees : (κs : _) (a : _) (r r' : _) (s s' : _) → read-sealed.Post κs a r s → read-sealed.Post κs a r' s'
+    → (r ≡ r') × (now (s .1 .1 .1 .0) ≡ now (s' .1 .1 .1 .0))
+read-sealed-agrees κs a r r' s s' p q = (p .0 ∙ sym (q .0), p .1 ∙ sym (q .1))
 
 -- "Every refusal writes nothing": with any number but 0 the lent words are as they were
 pub read-keeps : (κs : _) (a : _) (r : _) (s : _) → read.Post κs a r s → (r .number ≡ 0 → ⊥) → now (s .1 .1 .1 .0) ≡ now (a .1 .1 .1 .0)

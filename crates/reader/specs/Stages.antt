@@ -73,6 +73,11 @@ short-pass bw a b e =
       second = not-long bw 2 b (pass-right (tooLong bw 1 a) _ f);
     }
 
+-- channels whose every check and tail is right: all that 4 and 10 ask
+pub record Sealed (bw : ℕ) (a b : List ℕ) : Type 0 where
+  pub common-sealed : check4 bw a b ≡ Pass
+  pub users-sealed : check10 bw a b ≡ Pass
+
 pub record Common (bw : ℕ) (a b : List ℕ) : Type 0 where
   pub known : bw ≤ 4
   pub short : Short a b

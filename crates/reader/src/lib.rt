@@ -2,6 +2,7 @@
 use answer::Answer;
 use answer::Out;
 ghost use mathlib.Core.Path.{_≡_};
+ghost use mathlib.Core.Bool.{true};
 ghost use mathlib.Core.List.{_++_};
 ghost use Prim.Native.Nat.{_+_, _*_, _-_, _<_, _≤_};
 ghost use lib.ListN.{length, drop};
@@ -11,9 +12,9 @@ ghost use Rattle.channel.specs.Layout.{row, count};
 ghost use Rattle.reader.specs.Table.{check1, check2, check3, check4, check5, check6, check10, check11, wordCount, noRoom, readable};
 ghost use Rattle.reader.specs.Words.{sharedAt, runWord, userWordAt, headerOf, wordsIn};
 ghost use Rattle.reader.specs.Result.{answerOf, wordsAfter};
-ghost use Rattle.reader.specs.Stages.{Short, commonChecks, userChecks};
+ghost use Rattle.reader.specs.Stages.{Short, Sealed, commonChecks, userChecks};
 
-// ---- the checks, each run only where the earlier ones pass
+// ---- the checks, each run only where the earlier ones pass; 4 and 10 not where the channels are known to be sealed
 
 fn first_checks(bw: u32, a: &[u8], b: &[u8]) -> Out
     ensures { λ r. ⌜ r ≡ (check1 bw or check2 bw (now (a .entry)) (now (b .entry))) ⌝ }
@@ -34,10 +35,14 @@ fn then_cut_common(prev: Out, bw: u32, a: &[u8], b: &[u8]) -> Out
     answer::or_else(channel::cut_common(bw, 1, a), channel::cut_common(bw, 2, b))
 }
 
-fn then_wrong_common(prev: Out, bw: u32, a: &[u8], b: &[u8]) -> Out
+fn then_wrong_common(prev: Out, bw: u32, a: &[u8], b: &[u8], sealed: bool) -> Out
+    requires { ⌜ (sealed ≡ true → Sealed bw (now a) (now b)) ⌝ }
     ensures { λ r. ⌜ r ≡ (prev or check4 bw (now (a .entry)) (now (b .entry))) ⌝ }
 {
     if let Out::Refuse(_) = prev {
+        return prev;
+    }
+    if sealed {
         return prev;
     }
     answer::or_else(
@@ -68,23 +73,27 @@ fn then_not_carried(prev: Out, bw: u32, a: &[u8], b: &[u8]) -> Out
 }
 
 // 1 to 6.
-fn common_checks(bw: u32, a: &[u8], b: &[u8]) -> Out
+fn common_checks(bw: u32, a: &[u8], b: &[u8], sealed: bool) -> Out
+    requires { ⌜ (sealed ≡ true → Sealed bw (now a) (now b)) ⌝ }
     ensures { λ r. ⌜ r ≡ commonChecks bw (now (a .entry)) (now (b .entry)) ⌝ }
 {
     let r = first_checks(bw, a, b);
     let r = then_cut_common(r, bw, a, b);
-    let r = then_wrong_common(r, bw, a, b);
+    let r = then_wrong_common(r, bw, a, b, sealed);
     let r = then_overflow(r, bw, a, b);
     then_not_carried(r, bw, a, b)
 }
 
 // ---- 9 to 11, of n fields in channel 1 and m in channel 2
 
-fn then_wrong_users(prev: Out, bw: u32, a: &[u8], b: &[u8], n: usize, m: usize) -> Out
-    requires { ⌜ (n ≤ 72) × (m ≤ 72) × (n ≡ count bw 1 (now a)) × (m ≡ count bw 2 (now b)) ⌝ }
+fn then_wrong_users(prev: Out, bw: u32, a: &[u8], b: &[u8], n: usize, m: usize, sealed: bool) -> Out
+    requires { ⌜ (sealed ≡ true → Sealed bw (now a) (now b)) × (n ≤ 72) × (m ≤ 72) × (n ≡ count bw 1 (now a)) × (m ≡ count bw 2 (now b)) ⌝ }
     ensures { λ r. ⌜ r ≡ (prev or check10 bw (now (a .entry)) (now (b .entry))) ⌝ }
 {
     if let Out::Refuse(_) = prev {
+        return prev;
+    }
+    if sealed {
         return prev;
     }
     answer::or_else(
@@ -103,8 +112,8 @@ fn then_twice(prev: Out, bw: u32, a: &[u8], b: &[u8], n: usize, m: usize) -> Out
     stations::station_twice(bw, a, b, n, m)
 }
 
-fn then_users(prev: Out, bw: u32, a: &[u8], b: &[u8], n: usize, m: usize) -> Out
-    requires { ⌜ Short (now a) (now b) × (n ≤ 72) × (m ≤ 72) × (n ≡ count bw 1 (now a)) × (m ≡ count bw 2 (now b)) ⌝ }
+fn then_users(prev: Out, bw: u32, a: &[u8], b: &[u8], n: usize, m: usize, sealed: bool) -> Out
+    requires { ⌜ (sealed ≡ true → Sealed bw (now a) (now b)) × Short (now a) (now b) × (n ≤ 72) × (m ≤ 72) × (n ≡ count bw 1 (now a)) × (m ≡ count bw 2 (now b)) ⌝ }
     ensures { λ r. ⌜ r ≡ (prev or userChecks bw (now (a .entry)) (now (b .entry))) ⌝ }
 {
     if let Out::Refuse(_) = prev {
@@ -114,7 +123,7 @@ fn then_users(prev: Out, bw: u32, a: &[u8], b: &[u8], n: usize, m: usize) -> Out
         channel::cut_users(bw, 1, a, n),
         channel::cut_users(bw, 2, b, m),
     );
-    let r = then_wrong_users(r, bw, a, b, n, m);
+    let r = then_wrong_users(r, bw, a, b, n, m, sealed);
     then_twice(r, bw, a, b, n, m)
 }
 
@@ -122,7 +131,7 @@ fn then_users(prev: Out, bw: u32, a: &[u8], b: &[u8], n: usize, m: usize) -> Out
 pub fn check_frame(bw: u32, a: &[u8], b: &[u8]) -> Out
     ensures { λ r. ⌜ r ≡ readable bw (now (a .entry)) (now (b .entry)) ⌝ }
 {
-    let common = common_checks(bw, a, b);
+    let common = common_checks(bw, a, b, false);
     if let Out::Refuse(_) = common {
         return common;
     }
@@ -130,7 +139,7 @@ pub fn check_frame(bw: u32, a: &[u8], b: &[u8]) -> Out
     let p = channel::positions_of(bw);
     let n = channel::count_of(bw, 1, a);
     let m = channel::count_of(bw, 2, b);
-    then_users(plan::layout(&row[..p]), bw, a, b, n, m)
+    then_users(plan::layout(&row[..p]), bw, a, b, n, m, false)
 }
 
 // ---- the words
@@ -208,15 +217,15 @@ fn then_room(prev: Out, need: usize, room: usize) -> Out
 }
 
 // 7 to 12 of a frame that passes 1 to 6 and has this row, and its words where it is accepted.
-fn read_row(bw: u32, a: &[u8], b: &[u8], values: &[u16], words: &mut [u32]) -> Answer
-    requires { ⌜ (commonChecks bw (now a) (now b) ≡ Out.Pass) × (now values ≡ row bw (now a) (now b)) ⌝ }
+fn read_row(bw: u32, a: &[u8], b: &[u8], values: &[u16], words: &mut [u32], sealed: bool) -> Answer
+    requires { ⌜ (sealed ≡ true → Sealed bw (now a) (now b)) × (commonChecks bw (now a) (now b) ≡ Out.Pass) × (now values ≡ row bw (now a) (now b)) ⌝ }
     ensures { λ r. ⌜ r ≡ answerOf bw (now (a .entry)) (now (b .entry)) (length (now (words .entry))) ⌝ }
     ensures { λ _. ⌜ now (words .exit) ≡ wordsAfter bw (now (a .entry)) (now (b .entry)) (now (words .entry)) ⌝ }
 {
     let n = channel::count_of(bw, 1, a);
     let m = channel::count_of(bw, 2, b);
     let need = 10 + (n + m);
-    let seen = then_users(plan::layout(values), bw, a, b, n, m);
+    let seen = then_users(plan::layout(values), bw, a, b, n, m, sealed);
     let out = then_room(seen, need, words.len());
     if let Out::Refuse(x) = out {
         return x;
@@ -229,16 +238,34 @@ fn read_row(bw: u32, a: &[u8], b: &[u8], values: &[u16], words: &mut [u32]) -> A
     }
 }
 
-// Reads a frame: the answer, and on acceptance the words at the front of the lent buffer. A refusal writes nothing.
-pub fn read(bandwidth: u32, cc1: &[u8], cc2: &[u8], words: &mut [u32]) -> Answer
+// The reading, of channels that may be known to be sealed.
+fn read_as(bandwidth: u32, cc1: &[u8], cc2: &[u8], words: &mut [u32], sealed: bool) -> Answer
+    requires { ⌜ (sealed ≡ true → Sealed bandwidth (now cc1) (now cc2)) ⌝ }
     ensures { λ r. ⌜ r ≡ answerOf bandwidth (now (cc1 .entry)) (now (cc2 .entry)) (length (now (words .entry))) ⌝ }
     ensures { λ _. ⌜ now (words .exit) ≡ wordsAfter bandwidth (now (cc1 .entry)) (now (cc2 .entry)) (now (words .entry)) ⌝ }
 {
-    let common = common_checks(bandwidth, cc1, cc2);
+    let common = common_checks(bandwidth, cc1, cc2, sealed);
     if let Out::Refuse(x) = common {
         return x;
     }
     let row = channel::fill_row(bandwidth, cc1, cc2);
     let p = channel::positions_of(bandwidth);
-    read_row(bandwidth, cc1, cc2, &row[..p], words)
+    read_row(bandwidth, cc1, cc2, &row[..p], words, sealed)
+}
+
+// Reads a frame: the answer, and on acceptance the words at the front of the lent buffer. A refusal writes nothing.
+pub fn read(bandwidth: u32, cc1: &[u8], cc2: &[u8], words: &mut [u32]) -> Answer
+    ensures { λ r. ⌜ r ≡ answerOf bandwidth (now (cc1 .entry)) (now (cc2 .entry)) (length (now (words .entry))) ⌝ }
+    ensures { λ _. ⌜ now (words .exit) ≡ wordsAfter bandwidth (now (cc1 .entry)) (now (cc2 .entry)) (now (words .entry)) ⌝ }
+{
+    read_as(bandwidth, cc1, cc2, words, false)
+}
+
+// The same of channels that pass 4 and 10, as those that the writer has built do: no check is worked out again.
+pub fn read_sealed(bandwidth: u32, cc1: &[u8], cc2: &[u8], words: &mut [u32]) -> Answer
+    requires { ⌜ Sealed bandwidth (now cc1) (now cc2) ⌝ }
+    ensures { λ r. ⌜ r ≡ answerOf bandwidth (now (cc1 .entry)) (now (cc2 .entry)) (length (now (words .entry))) ⌝ }
+    ensures { λ _. ⌜ now (words .exit) ≡ wordsAfter bandwidth (now (cc1 .entry)) (now (cc2 .entry)) (now (words .entry)) ⌝ }
+{
+    read_as(bandwidth, cc1, cc2, words, true)
 }

@@ -105,7 +105,7 @@ pub record Holds (bw : ℕ) (w : List ℕ) (c : ℕ) : Type 0 where
   pub there : present bw c ≡ true
   pub enough : endOf bw (countIn bw w c) ≤ 8 * needed bw w
 
-abbrev Carried : ℕ → List ℕ → ℕ → List ℕ → Type 0
+abbrev pub Carried : ℕ → List ℕ → ℕ → List ℕ → Type 0
 Carried bw w c s =
     Carries bw (overflowIn w % 2 ^ 17) (λ k. valueIn w c k % 2 ^ 9) (countIn bw w c) (λ i. fieldIn bw w c i % 2 ^ 22) s
 
@@ -114,11 +114,11 @@ module _ (bw : ℕ) (w : List ℕ) (c : ℕ) (h : Holds bw w c) where
   unfolding bytesIn
   reached = rw (length-replicate {A = ℕ} (bytesIn bw w c) 0, h .there) (h .enough)
 
-  all-subfields : subfieldsIn bw c ≡ subfields bw
+  pub all-subfields : subfieldsIn bw c ≡ subfields bw
   unfolding subfieldsIn
   all-subfields = rw (h .there)
 
-  candidate-carries : Carried bw w c (candidate bw w c)
+  pub candidate-carries : Carried bw w c (candidate bw w c)
   unfolding candidate channelIn
   candidate-carries =
       rw all-subfields
@@ -165,10 +165,10 @@ module _ (bw : ℕ) (w : List ℕ) (c : ℕ) (s : List ℕ) (h : Holds bw w c) (
 
 -- ---- accepted channels
 
-holds-1 : (bw : ℕ) (w : List ℕ) → Holds bw w 1
+pub holds-1 : (bw : ℕ) (w : List ℕ) → Holds bw w 1
 holds-1 bw w = record { there = present-1 bw; enough = needed-1 bw w }
 
-holds-2 : (bw : ℕ) (w : List ℕ) → present bw 2 ≡ true → Holds bw w 2
+pub holds-2 : (bw : ℕ) (w : List ℕ) → present bw 2 ≡ true → Holds bw w 2
 holds-2 bw w p = record { there = p; enough = needed-2 bw w }
 
 module _ (bw : ℕ) (a b : List ℕ) (e : readable bw a b ≡ Pass) where

@@ -4,3 +4,4 @@ pub mod Carries
 pub mod Built
 pub mod Inverse
 pub mod Steps
+pub mod Sealed

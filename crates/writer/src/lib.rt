@@ -12,6 +12,7 @@ ghost use Rattle.channel.specs.Layout.{present, subfieldsIn, valueAt, userAt, b
 ghost use Rattle.words.specs.Words.{nth};
 ghost use Rattle.words.specs.Back.{userField};
 ghost use Rattle.reader.specs.Table.{check1};
+ghost use Rattle.reader.specs.Stages.{Sealed};
 ghost use Rattle.writer.specs.Candidate.{puts, seal, sealSecond, sealBlocks, valueIn, countIn, firstIn, bytesFor, needed, bytesIn, channelIn};
 ghost use Rattle.writer.specs.Result.{unlike, sameWords, readsTo, notRead, tooShort, front, answerOf, channelAfter};
 
@@ -168,12 +169,13 @@ fn same_words(v: &[u32], w: &[u32]) -> bool
     first_unlike(v, w) == v.len()
 }
 
-// Whether channels are accepted and read to exactly these words.
+// Whether channels that were sealed are accepted and read to exactly these words.
 fn reads_to(bw: u32, a: &[u8], b: &[u8], words: &[u32]) -> bool
+    requires { ⌜ Sealed bw (now a) (now b) ⌝ }
     ensures { λ r. ⌜ r ≡ readsTo bw (now (a .entry)) (now (b .entry)) (now (words .entry)) ⌝ }
 {
     let mut back = [0u32; 154];
-    let x = reader::read(bw, a, b, &mut back);
+    let x = reader::read_sealed(bw, a, b, &mut back);
     if x.number != 0 {
         return false;
     }
@@ -184,6 +186,7 @@ fn reads_to(bw: u32, a: &[u8], b: &[u8], words: &[u32]) -> bool
 
 // 13 for these channels, where nothing earlier applies.
 fn then_not_read(prev: Out, bw: u32, a: &[u8], b: &[u8], words: &[u32]) -> Out
+    requires { ⌜ Sealed bw (now a) (now b) ⌝ }
     ensures { λ r. ⌜ r ≡ (prev or notRead bw (now (a .entry)) (now (b .entry)) (now (words .entry))) ⌝ }
 {
     if let Out::Refuse(_) = prev {
@@ -219,6 +222,7 @@ fn put_front(d: &mut [u8], s: &[u8])
 
 // 1, 13 and 14 in order, for the channels that were built.
 fn judge(bw: u32, words: &[u32], a: &[u8], b: &[u8], need: usize, n: usize, m: usize) -> Out
+    requires { ⌜ Sealed bw (now a) (now b) ⌝ }
     ensures { λ r. ⌜ r ≡ (check1 bw or notRead bw (now (a .entry)) (now (b .entry)) (now (words .entry)) or tooShort bw need n m) ⌝ }
 {
     let out = then_not_read(answer::refuse_if(4 < bw, 1, 0, 0), bw, a, b, words);

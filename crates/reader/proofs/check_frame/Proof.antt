@@ -8,12 +8,13 @@ use Rattle.plan.specs.Guess.{layoutOf}
 use Rattle.answer.specs.declared.Out.{Out}
 use Rattle.answer.specs.Answer.{_or_}
 use mathlib.Core.Path.{_≡_, sym, _∙_, ap}
+use mathlib.Core.Bool.{false≢true}
 use borrow.Author.Needs.{needs}
 use Rattle.reader.proofs.check_frame.Statement.{statement}
 use Rattle.reader.proofs.check_frame.Tie as tie
 
 common-checks-requires : tie.Need-common-checks-requires
-common-checks-requires c κs = search needs
+common-checks-requires c κs = λ e. absurd (false≢true e)
 
 enum-told : tie.Need-enum-told
 enum-told c = search needs
@@ -54,7 +55,7 @@ layout-requires c κs =
 
 then-users-requires : tie.Need-then-users-requires
 then-users-requires c κs =
-    (common-pass _ _ _ (sym (c .before .before .before .before .before .before .before .before .common-checks .ensures) ∙ c .before .before .before .before .before .before .enum-told2 .given .1) .short, c .before .before .before .count-of .ensures .1, c .before .before .count-of2 .ensures .1, c .before .before .before .count-of .ensures .0, c .before .before .count-of2 .ensures .0)
+    (λ e. absurd (false≢true e), common-pass _ _ _ (sym (c .before .before .before .before .before .before .before .before .common-checks .ensures) ∙ c .before .before .before .before .before .before .enum-told2 .given .1) .short, c .before .before .before .count-of .ensures .1, c .before .before .count-of2 .ensures .1, c .before .before .before .count-of .ensures .0, c .before .before .count-of2 .ensures .0)
 
 returns-2 : tie.Need-returns-2
 returns-2 c =

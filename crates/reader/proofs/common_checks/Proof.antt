@@ -12,7 +12,7 @@ then-cut-common-requires : tie.Need-then-cut-common-requires
 then-cut-common-requires c κs = λ e. short-pass _ _ _ (sym (c .first-checks .ensures) ∙ e)
 
 then-wrong-common-requires : tie.Need-then-wrong-common-requires
-then-wrong-common-requires c κs = search needs
+then-wrong-common-requires c κs = c .before .before .before .before .pre
 
 then-overflow-requires : tie.Need-then-overflow-requires
 then-overflow-requires c κs = search needs

@@ -26,12 +26,12 @@ layout-requires : tie.Need-layout-requires
 layout-requires c κs =
     let s = c .before .before .before .before .before .before .args in
     let p = c .before .before .before .before .before .before .pre in
-    rw (p .1, row-length (s .bw) (s .a .now) (s .b .now)) (positions-le (s .bw) (common-pass (s .bw) (s .a .now) (s .b .now) (p .0) .known))
+    rw (p .2, row-length (s .bw) (s .a .now) (s .b .now)) (positions-le (s .bw) (common-pass (s .bw) (s .a .now) (s .b .now) (p .1) .known))
 
 then-users-requires : tie.Need-then-users-requires
 then-users-requires c κs =
     let p = c .before .before .before .before .before .before .before .pre in
-    (common-pass _ _ _ (p .0) .short, c .before .before .count-of .ensures .1, c .before .count-of2 .ensures .1, c .before .before .count-of .ensures .0, c .before .count-of2 .ensures .0)
+    (p .0, common-pass _ _ _ (p .1) .short, c .before .before .count-of .ensures .1, c .before .count-of2 .ensures .1, c .before .before .count-of .ensures .0, c .before .count-of2 .ensures .0)
 
 then-room-requires : tie.Need-then-room-requires
 then-room-requires c κs = search needs
@@ -45,7 +45,7 @@ returns c =
     let s = c .before .before .before .before .before .before .before .before .before .before .before .before .args in
     let p = c .before .before .before .before .before .before .before .before .before .before .before .before .pre in
     let need = counted (s .bw) (s .a .now) (s .b .now) _ _ (c .before .before .before .before .before .before .before .count-of .ensures .0) (c .before .before .before .before .before .before .count-of2 .ensures .0) in
-    let e = reading-rest (s .bw) (s .a .now) (s .b .now) (length (s .words .now)) _ _ _ _ (p .0) (laid-is _ _ (rw (p .1) at (c .before .before .before .before .before .layout .ensures))) (c .before .before .before .before .then-users .ensures) need (c .before .before .before .then-room .ensures) ∙ c .before .out .given .1 in
+    let e = reading-rest (s .bw) (s .a .now) (s .b .now) (length (s .words .now)) _ _ _ _ (p .1) (laid-is _ _ (rw (p .2) at (c .before .before .before .before .before .layout .ensures))) (c .before .before .before .before .then-users .ensures) need (c .before .before .before .then-room .ensures) ∙ c .before .out .given .1 in
     (rw e, rw e)
 
 enum-told : tie.Need-enum-told
@@ -56,7 +56,7 @@ put-frame-requires c κs =
     let s = c .before .before .before .before .before .before .before .before .before .before .before .before .args in
     let p = c .before .before .before .before .before .before .before .before .before .before .before .before .pre in
     let need = counted (s .bw) (s .a .now) (s .b .now) _ _ (c .before .before .before .before .before .before .before .count-of .ensures .0) (c .before .before .before .before .before .before .count-of2 .ensures .0) in
-    let e = reading-rest (s .bw) (s .a .now) (s .b .now) (length (s .words .now)) _ _ _ _ (p .0) (laid-is _ _ (rw (p .1) at (c .before .before .before .before .before .layout .ensures))) (c .before .before .before .before .then-users .ensures) need (c .before .before .before .then-room .ensures) ∙ c .before .enum-told .given .1 in
+    let e = reading-rest (s .bw) (s .a .now) (s .b .now) (length (s .words .now)) _ _ _ _ (p .1) (laid-is _ _ (rw (p .2) at (c .before .before .before .before .before .layout .ensures))) (c .before .before .before .before .then-users .ensures) need (c .before .before .before .then-room .ensures) ∙ c .before .enum-told .given .1 in
     (reading-pass (s .bw) (s .a .now) (s .b .now) (length (s .words .now)) e .room-enough, c .before .before .before .before .before .before .before .count-of .ensures .1, c .before .before .before .before .before .before .before .count-of .ensures .0)
 
 same-length : tie.Need-same-length
@@ -68,8 +68,8 @@ returns-2 c =
     let s = c .before .before .before .before .before .before .before .before .before .before .before .before .before .before .before .args in
     let p = c .before .before .before .before .before .before .before .before .before .before .before .before .before .before .before .pre in
     let need = counted (s .bw) (s .a .now) (s .b .now) _ _ (c .before .before .before .before .before .before .before .before .before .before .count-of .ensures .0) (c .before .before .before .before .before .before .before .before .before .count-of2 .ensures .0) in
-    let e = reading-rest (s .bw) (s .a .now) (s .b .now) (length (s .words .now)) _ _ _ _ (p .0) (laid-is _ _ (rw (p .1) at (c .before .before .before .before .before .before .before .before .layout .ensures))) (c .before .before .before .before .before .before .before .then-users .ensures) need (c .before .before .before .before .before .before .then-room .ensures) ∙ c .before .before .before .before .enum-told .given .1 in
-    (rw (e, need), rw e (c .before .before .put-frame .ensures ∙ rw (p .1)))
+    let e = reading-rest (s .bw) (s .a .now) (s .b .now) (length (s .words .now)) _ _ _ _ (p .1) (laid-is _ _ (rw (p .2) at (c .before .before .before .before .before .before .before .before .layout .ensures))) (c .before .before .before .before .before .before .before .then-users .ensures) need (c .before .before .before .before .before .before .then-room .ensures) ∙ c .before .before .before .before .enum-told .given .1 in
+    (rw (e, need), rw e (c .before .before .put-frame .ensures ∙ rw (p .2)))
 
 pub read-row-spec : {M : Type 1} → statement M
 read-row-spec =

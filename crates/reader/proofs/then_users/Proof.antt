@@ -27,7 +27,9 @@ or-else-requires : tie.Need-or-else-requires
 or-else-requires c κs = search needs
 
 then-wrong-users-requires : tie.Need-then-wrong-users-requires
-then-wrong-users-requires c κs = search needs
+then-wrong-users-requires c κs =
+    let p = c .before .before .before .before .before .before .before .pre in
+    (p .0, p .2, p .3, p .4, p .5)
 
 then-twice-requires : tie.Need-then-twice-requires
 then-twice-requires c κs = search needs

@@ -1,6 +1,6 @@
 -- `reader::then_wrong_common` meets its contract. Assumes nothing.
 use Rattle.reader.specs.Stages.{pass-next}
-use mathlib.Core.Path.{_∙_}
+use mathlib.Core.Path.{sym, _∙_}
 use Rattle.answer.specs.Answer.{_or_}
 use Rattle.reader.specs.Table.{check4}
 use borrow.Author.Needs.{needs}
@@ -17,6 +17,11 @@ returns c = rw (c .enum-told .given .1)
 enum-told-2 : tie.Need-enum-told-2
 enum-told-2 c = search needs
 
+returns-2 : tie.Need-returns-2
+returns-2 c =
+    let p = c .before .enum-told2 .given .1 in
+    pass-next p (p ∙ sym (c .before .before .before .before .before .pre (c .if1 .taken) .common-sealed))
+
 wrong-common-requires : tie.Need-wrong-common-requires
 wrong-common-requires c κs = search needs
 
@@ -26,9 +31,9 @@ wrong-common-requires-2 c κs = search needs
 or-else-requires : tie.Need-or-else-requires
 or-else-requires c κs = search needs
 
-returns-2 : tie.Need-returns-2
+returns-3 : tie.Need-returns-3
 unfolding check4
-returns-2 c = pass-next (c .before .before .before .enum-told2 .given .1) (c .or-else .ensures ∙ cc (c .before .wrong-common2 .ensures, c .before .before .wrong-common .ensures))
+returns-3 c = pass-next (c .before .before .before .before .enum-told2 .given .1) (c .or-else .ensures ∙ cc (c .before .wrong-common2 .ensures, c .before .before .wrong-common .ensures))
 
 pub then-wrong-common-spec : {M : Type 1} → statement M
 then-wrong-common-spec =
@@ -37,7 +42,8 @@ then-wrong-common-spec =
     enum-told
     returns
     enum-told-2
+    returns-2
     wrong-common-requires
     wrong-common-requires-2
     or-else-requires
-    returns-2)
+    returns-3)

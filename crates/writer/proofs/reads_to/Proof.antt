@@ -10,22 +10,22 @@ use Rattle.writer.proofs.Back.{back-refused, back-accepted, back-count,
 use Rattle.writer.proofs.reads_to.Statement.{statement}
 use Rattle.writer.proofs.reads_to.Tie as tie
 
-slice-aggregate-read : tie.Need-slice-aggregate-read
-slice-aggregate-read c = search needs
+slice-aggregate-read-sealed : tie.Need-slice-aggregate-read-sealed
+slice-aggregate-read-sealed c = search needs
 
-read-requires : tie.Need-read-requires
-read-requires c κs = search needs
+read-sealed-requires : tie.Need-read-sealed-requires
+read-sealed-requires c κs = search needs
 
 returns : tie.Need-returns
 returns c =
     let a = c .before .before .before .before .before .before .before .before .args in
-    let r = c .before .before .before .read .ensures in
+    let r = c .before .before .before .read-sealed .ensures in
     back-refused (a .bw) (a .a .now) (a .b .now) 154 (omega arith) (a .words .now) (λ e. c .if1 .taken (ap (λ (x : Answer). x .number) (r .0) ∙ e))
 
 array-share-prefix-back : tie.Need-array-share-prefix-back
 array-share-prefix-back c =
     let a = c .before .before .before .before .before .before .before .before .args in
-    let r = c .before .before .before .read .ensures in
+    let r = c .before .before .before .read-sealed .ensures in
     let e = sym (ap (λ (x : Answer). x .number) (r .0)) ∙ c .if1 .left in
     let n = ap (λ (x : Answer). x .place) (r .0) ∙ back-count (a .bw) (a .a .now) (a .b .now) 154 (omega arith) e in
     rw n (back-room (a .bw) (a .a .now) (a .b .now) 154 (omega arith) e (replicate 154 0) _ refl (r .1))
@@ -33,7 +33,7 @@ array-share-prefix-back c =
 slice-aggregate-same-words : tie.Need-slice-aggregate-same-words
 slice-aggregate-same-words c =
     let a = c .before .before .before .before .before .before .before .before .before .args in
-    let r = c .before .before .before .before .read .ensures in
+    let r = c .before .before .before .before .read-sealed .ensures in
     let e = sym (ap (λ (x : Answer). x .number) (r .0)) ∙ c .before .if1 .left in
     let n = ap (λ (x : Answer). x .place) (r .0) ∙ back-count (a .bw) (a .a .now) (a .b .now) 154 (omega arith) e in
     let t = words-front (a .bw) (a .a .now) (a .b .now) _ _ _ n (r .1 ∙ back-words (a .bw) (a .a .now) (a .b .now) 154 (omega arith) e (replicate 154 0) refl) in
@@ -45,7 +45,7 @@ same-words-requires c κs = search needs
 returns-2 : tie.Need-returns-2
 returns-2 c =
     let a = c .before .before .before .before .before .before .before .before .before .before .args in
-    let r = c .before .before .before .before .before .read .ensures in
+    let r = c .before .before .before .before .before .read-sealed .ensures in
     let e = sym (ap (λ (x : Answer). x .number) (r .0)) ∙ c .before .before .if1 .left in
     let n = ap (λ (x : Answer). x .place) (r .0) ∙ back-count (a .bw) (a .a .now) (a .b .now) 154 (omega arith) e in
     let t = words-front (a .bw) (a .a .now) (a .b .now) _ _ _ n (r .1 ∙ back-words (a .bw) (a .a .now) (a .b .now) 154 (omega arith) e (replicate 154 0) refl) in
@@ -55,8 +55,8 @@ pub reads-to-spec : {M : Type 1} → statement M
 reads-to-spec =
     tie.close
     (tie.spec
-    slice-aggregate-read
-    read-requires
+    slice-aggregate-read-sealed
+    read-sealed-requires
     returns
     array-share-prefix-back
     slice-aggregate-same-words

@@ -1,5 +1,6 @@
 -- `writer::write_in` meets its contract. Assumes nothing.
 use Rattle.writer.specs.Steps.{candidate-is, writing-is, writing-room}
+use Rattle.writer.specs.Sealed.{candidate-sealed}
 use Rattle.writer.specs.Result.{front, answerOf, channelAfter}
 use Rattle.writer.specs.Candidate.{firstIn}
 use lib.ListN.{length}
@@ -27,7 +28,11 @@ fill-requires-2 c κs =
     (omega arith, omega arith, omega arith, s .pre .0 .1, ap (λ (k : ℕ). 10 + k) (s .pre .0 .2), s .pre .0 .3)
 
 judge-requires : tie.Need-judge-requires
-judge-requires c κs = search needs
+judge-requires c κs =
+    let s = c .before .before .before .before .before .before .before .before .before .before .before .before .before .before .before in
+    let ea = candidate-is (s .args .bw) (s .args .words .now) 1 _ _ (s .pre .1 .0) (c .before .before .before .before .before .before .before .before .fill .ensures) in
+    let eb = candidate-is (s .args .bw) (s .args .words .now) 2 _ _ (s .pre .1 .1) (c .before .before .before .before .fill2 .ensures) in
+    rw (ea, eb) (candidate-sealed (s .args .bw) (s .args .words .now))
 
 enum-known-out : tie.Need-enum-known-out
 enum-known-out c = search needs
