@@ -7,7 +7,7 @@ use native.Mathlib.Numerals.{add-one}
 use native.Mathlib.Omega.{arith}
 use lib.Dec.{eqb, ltb}
 use lib.ListN.{length, take, drop, replicate, length-replicate}
-use lib.Seq.{take-at}
+use lib.Seq.{take-at, ext-getD}
 use borrow.Author.Tests.{eq-eqb, ne-eqb, ltb-false}
 use Rattle.answer.specs.Answer as A
 use Rattle.answer.specs.Answer.{refuseIf, _or_}
@@ -26,6 +26,7 @@ use Rattle.reader.specs.Table.{check1, readable, wordCount}
 use Rattle.reader.specs.Words.{wordsOf}
 use Rattle.reader.specs.Determine.{words-length}
 use Rattle.writer.specs.Result.{unlike, sameWords, readsTo, notRead, check13, tooShort, check14, writing, front}
+use Rattle.writer.specs.Built.{sealed-length}
 use Rattle.writer.specs.Inverse.{present-length, absent-length}
 
 module _ (at : ℕ → ℕ) (w : ℕ) (v : ℕ → ℕ) (d : List ℕ) where
@@ -81,6 +82,14 @@ pub channel-steps : (bw : ℕ) (w : List ℕ) (c : ℕ) (d : List ℕ) (first n 
 unfolding channelIn sealed payload overflowIn fieldIn
 channel-steps bw w c d first n v b d₁ d₂ d₃ d₄ d₅ d₆ ef en ev eb e₁ e₂ e₃ e₄ e₅ e₆ =
     rw (e₆, e₅, e₄, e₃, e₂, e₁, ev, eb, ef, en)
+
+-- a channel of no bytes stays so
+pub channel-none : (bw : ℕ) (w : List ℕ) (c : ℕ) (d : List ℕ) → length d ≡ 0 → d ≡ channelIn bw w c d
+unfolding channelIn
+channel-none bw w c d e =
+    ext-getD 0 d _
+    (sym (sealed-length bw (countIn bw w c) (overflowIn w) (valueIn w c) (subfieldsIn bw c) (fieldIn bw w c) d))
+    (λ k l. absurd (omega arith))
 
 -- ---- the read-back
 

@@ -120,7 +120,7 @@ fn put_block_checks(d: &mut [u8], bw: u32, n: usize)
 }
 
 // A channel that has n User fields, whose words start at `first`.
-fn fill(d: &mut [u8], bw: u32, words: &[u32], channel: u32, first: usize, n: usize)
+fn fill_bytes(d: &mut [u8], bw: u32, words: &[u32], channel: u32, first: usize, n: usize)
     requires { ⌜ (1 ≤ channel) × (channel ≤ 2) × (first ≤ 82) × (n ≤ 72) × (first ≡ firstIn bw (now words) channel) × (n ≡ countIn bw (now words) channel) ⌝ }
     ensures { λ _. ⌜ now (d .exit) ≡ channelIn bw (now (words .entry)) channel (now (d .entry)) ⌝ }
 {
@@ -130,6 +130,17 @@ fn fill(d: &mut [u8], bw: u32, words: &[u32], channel: u32, first: usize, n: usi
     put_check(d, 0, channel::first_bits(bw));
     put_second_check(d, bw);
     put_block_checks(d, bw, n);
+}
+
+// The same, with no work for the channel that the bandwidth lacks: it has no bytes.
+fn fill(d: &mut [u8], bw: u32, words: &[u32], channel: u32, first: usize, n: usize)
+    requires { ⌜ (1 ≤ channel) × (channel ≤ 2) × (first ≤ 82) × (n ≤ 72) × (first ≡ firstIn bw (now words) channel) × (n ≡ countIn bw (now words) channel) ⌝ }
+    ensures { λ _. ⌜ now (d .exit) ≡ channelIn bw (now (words .entry)) channel (now (d .entry)) ⌝ }
+{
+    if d.len() == 0 {
+        return;
+    }
+    fill_bytes(d, bw, words, channel, first, n);
 }
 
 // Bytes for the longer channel, of n and m User fields.
