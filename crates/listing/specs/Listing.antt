@@ -11,12 +11,12 @@ use Rattle.answer.specs.declared.Answer.{Answer}
 use Rattle.answer.specs.declared.Out.{Out}
 use Rattle.answer.specs.declared.Out.the-variants.{Pass, Refuse}
 use Rattle.text.specs.Text.{upto}
+use Rattle.plan.specs.declared.Owner.{Owner}
 use Rattle.plan.specs.Plan.{at}
 use Rattle.plan.specs.Guess.{onlyPlan}
 use Rattle.channel.specs.Layout.{row, count}
 use Rattle.records.specs.declared.Record.{Record}
-use Rattle.records.specs.declared.Plan.{Plan}
-use Rattle.records.specs.Records.{recordsOf, blank}
+use Rattle.records.specs.Records.{listAt, recordsOf, blank}
 use Rattle.records.specs.Owns.{ownerOf}
 use Rattle.stations.specs.Stations.{stationOf}
 use Rattle.reader.specs.Table.{readable}
@@ -31,6 +31,10 @@ use Rattle.lines.specs.Lines.{ruLine, staLine, refusalText, headText}
 abbrev pub recordLine : ℕ → Record → List ℕ
 recordLine n x = ruLine n (x .segment) (x .resource) (x .fields1 + x .fields2)
 
+-- those whose lowest position is p, which is given to o
+abbrev pub listedAt : List ℕ → Owner → ℕ → List Record
+listedAt r o p = listAt o (at r) p
+
 -- the plan's resources, "by lowest position, then frequency"
 abbrev pub resources : List ℕ → List Record
 resources r = recordsOf (onlyPlan (at r)) r
@@ -38,10 +42,6 @@ resources r = recordsOf (onlyPlan (at r)) r
 -- a `ru=` line for each
 unfoldable pub ruLines : ℕ → List Record → List ℕ
 ruLines n rs = upto (λ i. recordLine n (getD rs i blank)) (length rs)
-
--- the same of the plan as the program holds it
-unfoldable pub planLines : ℕ → Plan → List ℕ
-planLines n p = upto (λ i. recordLine n (getD (p .records) i blank)) (p .count)
 
 -- the resource that owns User field i over both channels, m of which are channel 1's
 unfoldable pub ownerIn : List ℕ → ℕ → ℕ → ℕ

@@ -6,7 +6,7 @@ use lines::put_head;
 use lines::put_refusal;
 use lines::put_ru;
 use lines::put_sta;
-use records::Plan;
+use plan::Owner;
 use records::Record;
 ghost use mathlib.Core.Path.{_≡_};
 ghost use Prim.Native.Nat.{_+_, _*_, _≤_, _<_};
@@ -17,7 +17,9 @@ ghost use Rattle.channel.specs.Layout.{userAt};
 ghost use Rattle.input.specs.Parse.{bytesAt, secondAt};
 ghost use Rattle.lines.specs.Lines.{staLine};
 ghost use Rattle.listing.specs.Room.{roomFor};
-ghost use Rattle.listing.specs.Listing.{recordLine, resources, planLines, staLines, listingOf, listing, listAnswer, listAfter, frameText, programText};
+ghost use Rattle.records.specs.Records.{leftOut};
+ghost use Rattle.records.specs.Tables.{kindsOf, numbersOf};
+ghost use Rattle.listing.specs.Listing.{recordLine, listedAt, resources, ruLines, staLines, listingOf, listing, listAnswer, listAfter, frameText, programText};
 
 // ---- the listing of an accepted frame
 
@@ -31,19 +33,35 @@ fn put_record(out: &mut [u8], at: usize, n: u16, x: Record) -> usize
     put_ru(out, at, n, x.segment, resource, users)
 }
 
-// A line for each resource, in a channel of n positions.
-fn put_records(out: &mut [u8], at: usize, n: u16, plan: Plan) -> usize
-    requires { ⌜ (at ≤ 1000) × (plan .count ≤ 144) × (length (plan .records) ≡ 144) ⌝ }
-    ensures { λ r. ⌜ Wrote (now (out .entry)) at (planLines n plan) (now (out .exit)) r ⌝ }
-    ensures bounded { λ r. ⌜ r ≤ at + 240 * plan .count ⌝ }
+// A line for each of the resources whose lowest position is p, which is given to o.
+fn put_position(out: &mut [u8], at: usize, row: &[u16], o: Owner, p: usize) -> usize
+    requires { ⌜ (at ≤ 50000) × (length (now row) ≤ 16) × (p < length (now row)) × (leftOut o < 4) ⌝ }
+    ensures { λ r. ⌜ Wrote (now (out .entry)) at (ruLines (length (now (row .entry))) (listedAt (now (row .entry)) o p)) (now (out .exit)) r ⌝ }
+    ensures bounded { λ r. ⌜ r ≤ at + 240 * length (listedAt (now (row .entry)) o p) ⌝ }
 {
-    let count = plan.count;
-    let records = plan.records;
+    let n = row.len() as u16;
+    let here = records::listed_of(o, p, row[p]);
+    let mut e = at;
+    let mut k: u16 = 0;
+    while k < here {
+        e = put_record(out, e, n, records::record_at(o, row, p, k));
+        k += 1;
+    }
+    e
+}
+
+// A line for each resource, by the row's table.
+fn put_records(out: &mut [u8], at: usize, row: &[u16], kinds: &[u16; 16]) -> usize
+    requires { ⌜ (at ≤ 1000) × (length (now row) ≤ 16) × (now kinds ≡ kindsOf (now row)) ⌝ }
+    ensures { λ r. ⌜ Wrote (now (out .entry)) at (ruLines (length (now (row .entry))) (resources (now (row .entry)))) (now (out .exit)) r ⌝ }
+    ensures bounded { λ r. ⌜ r ≤ at + 240 * length (resources (now (row .entry))) ⌝ }
+{
+    let n = row.len();
     let mut o = at;
-    let mut i: usize = 0;
-    while i < count {
-        o = put_record(out, o, n, records[i]);
-        i += 1;
+    let mut p: usize = 0;
+    while p < n {
+        o = put_position(out, o, row, records::owner_in(kinds, row, p), p);
+        p += 1;
     }
     o
 }
@@ -71,7 +89,7 @@ fn put_channel(out: &mut [u8], at: usize, bw: u32, s: &[u8], owners: &[u16; 72],
     o
 }
 
-// A line for each User field, of m in channel 1 and k in channel 2.
+// A line for each User field, of m in channel 1 and k in channel 2, by the row's tables.
 fn put_stations(
     out: &mut [u8],
     at: usize,
@@ -79,30 +97,52 @@ fn put_stations(
     a: &[u8],
     b: &[u8],
     row: &[u16],
+    kinds: &[u16; 16],
+    before: &[u16; 17],
     m: usize,
     k: usize,
 ) -> usize
-    requires { ⌜ (at ≤ 40000) × (m ≤ 72) × (k ≤ 72) × (length (now row) ≤ 16) ⌝ }
+    requires { ⌜ (at ≤ 40000) × (m ≤ 72) × (k ≤ 72) × (length (now row) ≤ 16) × (now kinds ≡ kindsOf (now row)) × (now before ≡ numbersOf (now row)) ⌝ }
     ensures { λ r. ⌜ Wrote (now (out .entry)) at (staLines bw (now (row .entry)) (now (a .entry)) (now (b .entry)) m (m + k)) (now (out .exit)) r ⌝ }
     ensures bounded { λ r. ⌜ r ≤ at + 55 * (m + k) ⌝ }
 {
-    let first = records::owners_of(row, 0);
-    let second = records::owners_of(row, 1);
+    let first = records::owners_of(kinds, before, row, 0);
+    let second = records::owners_of(kinds, before, row, 1);
     let o = put_channel(out, at, bw, a, &first, m);
     put_channel(out, o, bw, b, &second, k)
 }
 
-// The listing of a frame whose row is given, with m fields in channel 1 and k in channel 2.
+// The listing of a frame whose row is given with its tables, with m fields in channel 1 and k in channel 2.
+fn put_tabled(
+    out: &mut [u8],
+    bw: u32,
+    a: &[u8],
+    b: &[u8],
+    row: &[u16],
+    kinds: &[u16; 16],
+    before: &[u16; 17],
+    m: usize,
+    k: usize,
+) -> usize
+    requires { ⌜ (m ≤ 72) × (k ≤ 72) × (length (now row) ≤ 16) × (now kinds ≡ kindsOf (now row)) × (now before ≡ numbersOf (now row)) ⌝ }
+    ensures { λ r. ⌜ Wrote (now (out .entry)) 0 (listingOf bw (now (row .entry)) (now (a .entry)) (now (b .entry)) m k) (now (out .exit)) r ⌝ }
+    ensures bounded { λ r. ⌜ r ≤ 200 + 240 * length (resources (now (row .entry))) + 55 * (m + k) ⌝ }
+{
+    let resources = records::count_in(before, row) as usize;
+    let o = put_head(out, bw, resources, m, k);
+    let p = put_records(out, o, row, kinds);
+    put_stations(out, p, bw, a, b, row, kinds, before, m, k)
+}
+
+// The same with its row alone.
 fn put_row(out: &mut [u8], bw: u32, a: &[u8], b: &[u8], row: &[u16], m: usize, k: usize) -> usize
     requires { ⌜ (m ≤ 72) × (k ≤ 72) × (length (now row) ≤ 16) ⌝ }
     ensures { λ r. ⌜ Wrote (now (out .entry)) 0 (listingOf bw (now (row .entry)) (now (a .entry)) (now (b .entry)) m k) (now (out .exit)) r ⌝ }
     ensures bounded { λ r. ⌜ r ≤ 200 + 240 * length (resources (now (row .entry))) + 55 * (m + k) ⌝ }
 {
-    let plan = records::plan_of(row);
-    let n = row.len() as u16;
-    let o = put_head(out, bw, plan.count, m, k);
-    let p = put_records(out, o, n, plan);
-    put_stations(out, p, bw, a, b, row, m, k)
+    let kinds = records::kinds_of(row);
+    let before = records::numbers_before(&kinds, row);
+    put_tabled(out, bw, a, b, row, &kinds, &before, m, k)
 }
 
 // The listing of a frame.

@@ -1,4 +1,5 @@
 pub mod Listing
+pub mod Tables
 pub mod Filling
 pub mod Owners
 pub mod Entering

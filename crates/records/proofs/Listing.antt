@@ -96,6 +96,11 @@ pub same-records : (o o′ : ℕ → Owner) (row : ℕ → ℕ) (n : ℕ) → ((
 same-records o o′ row zero h = refl
 same-records o o′ row (suc n) h = rw (same-records o o′ row n (λ p l. h p (omega arith)), h n (omega arith))
 
+-- ---- as many as are listed at p, of the only plan
+pub here-is : (row : ℕ → ℕ) (p v h : ℕ) (o : Owner) → o ≡ onlyPlan row p → v ≡ row p → h ≡ listed o p v → h ≡ length (listAt (onlyPlan row p) row p)
+here-is row p v h o e f g =
+    g ∙ ap (λ (x : Owner). listed x p v) e ∙ ap (listed (onlyPlan row p) p) f ∙ sym (list-length (onlyPlan row p) row p)
+
 -- ---- the only plan leaves out one of four places
 pub left-out : (row : ℕ → ℕ) (p : ℕ) → leftOut (onlyPlan row p) < 4
 unfolding onlyPlan

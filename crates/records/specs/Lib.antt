@@ -1,2 +1,3 @@
 pub mod Records
+pub mod Tables
 pub mod Owns

@@ -13,6 +13,7 @@ ghost use Rattle.plan.specs.Guess.{onlyPlan};
 ghost use Rattle.resource.specs.Starts.{pieceAt};
 ghost use Rattle.records.specs.Records.{inChannel, divides, pieceFields, pieceRecord, lead, larger, largerRecord, leftOut, recordAt, listed, listAt, recordsFrom, recordsOf, blank, planOf};
 ghost use Rattle.records.specs.Owns.{fieldsBefore, lowest, ownerAt, ownerOf};
+ghost use Rattle.records.specs.Tables.{kindOf, fromKind, kindsOf, numbersOf};
 
 // A resource of the plan: its segment, its lowest position, and how many User fields of each channel are its own.
 pub struct Record {
@@ -124,7 +125,7 @@ fn larger_record(o: Owner, row: &[u16], p: usize) -> Record
 }
 
 // The k-th of the resources whose lowest position is p, which is given to o.
-fn record_at(o: Owner, row: &[u16], p: usize, k: u16) -> Record
+pub fn record_at(o: Owner, row: &[u16], p: usize, k: u16) -> Record
     requires { ⌜ (p < 4096) × (leftOut o < 4) ⌝ }
     ensures { λ r. ⌜ r ≡ recordAt o (at (now (row .entry))) p k ⌝ }
 {
@@ -143,7 +144,7 @@ fn one_if(t: bool) -> u16
 }
 
 // How many of them there are, the position's value being v.
-fn listed_of(o: Owner, p: usize, v: u16) -> u16
+pub fn listed_of(o: Owner, p: usize, v: u16) -> u16
     ensures { λ r. ⌜ (r ≡ listed o p v) × (r ≤ 9) ⌝ }
 {
     match o {
@@ -252,46 +253,105 @@ pub fn owner_of(row: &[u16], channel: usize, j: usize) -> usize
     144
 }
 
-// ---- the owners of all fields at once
+// ---- tables of a row, for what is asked of every position
 
-// For each position of the row, how many resources have a lower one for their lowest.
-fn numbers_before(row: &[u16]) -> [u16; 16]
+// What a position is given to, as a number.
+fn kind_of(o: Owner) -> u16
+    requires { ⌜ leftOut o < 4 ⌝ }
+    ensures { λ r. ⌜ r ≡ kindOf o ⌝ }
+{
+    match o {
+        Owner::Itself => 0,
+        Owner::Pair => 1,
+        Owner::Whole => 2,
+        Owner::Three(k) => k + 3,
+    }
+}
+
+fn owner_from(kind: u16) -> Owner
+    ensures { λ r. ⌜ r ≡ fromKind kind ⌝ }
+{
+    match kind {
+        0 => Owner::Itself,
+        1 => Owner::Pair,
+        2 => Owner::Whole,
+        _ => Owner::Three(kind - 3),
+    }
+}
+
+// To what the only plan that can signal the row gives each position.
+pub fn kinds_of(row: &[u16]) -> [u16; 16]
     requires { ⌜ length (now row) ≤ 16 ⌝ }
-    ensures { λ r. ⌜ r ≡ filled (λ p. length (recordsFrom (onlyPlan (at (now (row .entry)))) (at (now (row .entry))) p)) (length (now (row .entry))) (replicate 16 0) ⌝ }
+    ensures { λ r. ⌜ r ≡ kindsOf (now (row .entry)) ⌝ }
 {
     let n = row.len();
-    let mut before = [0u16; 16];
+    let mut kinds = [0u16; 16];
+    let mut p: usize = 0;
+    while p < n {
+        kinds[p] = kind_of(plan::owner_at(row, p));
+        p += 1;
+    }
+    kinds
+}
+
+// To what position p is given, by the row's table.
+pub fn owner_in(kinds: &[u16; 16], row: &[u16], p: usize) -> Owner
+    requires { ⌜ (length (now row) ≤ 16) × (p < length (now row)) × (now kinds ≡ kindsOf (now row)) ⌝ }
+    ensures { λ r. ⌜ (r ≡ onlyPlan (at (now (row .entry))) p) × (leftOut r < 4) ⌝ }
+{
+    owner_from(kinds[p])
+}
+
+// For each position, how many resources have a lower one for their lowest; past the last, how many there are.
+pub fn numbers_before(kinds: &[u16; 16], row: &[u16]) -> [u16; 17]
+    requires { ⌜ (length (now row) ≤ 16) × (now kinds ≡ kindsOf (now row)) ⌝ }
+    ensures { λ r. ⌜ r ≡ numbersOf (now (row .entry)) ⌝ }
+{
+    let n = row.len();
+    let mut before = [0u16; 17];
     let mut sum: u16 = 0;
     let mut p: usize = 0;
     while p < n {
         before[p] = sum;
-        sum += listed_at(row, p);
+        sum += listed_of(owner_in(kinds, row, p), p, value_at(row, p));
         p += 1;
     }
+    before[p] = sum;
     before
 }
 
+// How many resources the row's plan has.
+pub fn count_in(before: &[u16; 17], row: &[u16]) -> u16
+    requires { ⌜ (length (now row) ≤ 16) × (now before ≡ numbersOf (now row)) ⌝ }
+    ensures { λ r. ⌜ r ≡ length (recordsOf (onlyPlan (at (now (row .entry)))) (now (row .entry))) ⌝ }
+{
+    before[row.len()]
+}
+
+// ---- the owners of all fields at once
+
 // The number of the resource that owns the first field of position p.
-fn first_owner(before: &[u16; 16], row: &[u16], p: usize) -> u16
-    requires { ⌜ (length (now row) ≤ 16) × (p < length (now row)) × (now before ≡ filled (λ q. length (recordsFrom (onlyPlan (at (now row))) (at (now row)) q)) (length (now row)) (replicate 16 0)) ⌝ }
+fn first_owner(kinds: &[u16; 16], before: &[u16; 17], row: &[u16], p: usize) -> u16
+    requires { ⌜ (length (now row) ≤ 16) × (p < length (now row)) × (now kinds ≡ kindsOf (now row)) × (now before ≡ numbersOf (now row)) ⌝ }
     ensures { λ r. ⌜ r ≡ ownerAt (onlyPlan (at (now (row .entry)))) (at (now (row .entry))) p 0 ⌝ }
 {
     if is_divided(value_at(row, p)) {
         return before[p];
     }
-    before[lowest_of(plan::owner_at(row, p), p)]
+    before[lowest_of(owner_in(kinds, row, p), p)]
 }
 
 // Enters the owners of the fields that position p gives a channel, from field j on; returns the field after them.
 fn enter_owners(
     owners: &mut [u16; 72],
-    before: &[u16; 16],
+    kinds: &[u16; 16],
+    before: &[u16; 17],
     row: &[u16],
     channel: usize,
     p: usize,
     j: usize,
 ) -> usize
-    requires { ⌜ (length (now row) ≤ 16) × (p < length (now row)) × (now before ≡ filled (λ q. length (recordsFrom (onlyPlan (at (now row))) (at (now row)) q)) (length (now row)) (replicate 16 0)) ⌝ }
+    requires { ⌜ (length (now row) ≤ 16) × (p < length (now row)) × (now kinds ≡ kindsOf (now row)) × (now before ≡ numbersOf (now row)) ⌝ }
     requires { ⌜ (j ≡ fieldsBefore channel (at (now row)) p) × (now owners ≡ filled (ownerOf (onlyPlan (at (now row))) (at (now row)) channel (length (now row))) j (replicate 72 144)) ⌝ }
     ensures { λ r. ⌜ r ≡ fieldsBefore channel (at (now (row .entry))) (p + 1) ⌝ }
     ensures { λ r. ⌜ now (owners .exit) ≡ filled (ownerOf (onlyPlan (at (now (row .entry)))) (at (now (row .entry))) channel (length (now (row .entry)))) r (replicate 72 144) ⌝ }
@@ -302,7 +362,7 @@ fn enter_owners(
         return j;
     }
     let step = one_if(is_divided(v)); // each field of a divided position is another piece's
-    let mut number = first_owner(before, row, p);
+    let mut number = first_owner(kinds, before, row, p);
     let mut k: usize = 0;
     while k < f {
         owners[j + k] = number;
@@ -312,18 +372,18 @@ fn enter_owners(
     j + f
 }
 
-// The number of the resource that owns each field of a channel (0 or 1); 144 where there is no such field.
-pub fn owners_of(row: &[u16], channel: usize) -> [u16; 72]
-    requires { ⌜ length (now row) ≤ 16 ⌝ }
+// The number of the resource that owns each field of a channel (0 or 1), by the row's tables; 144 where there is no such
+// field.
+pub fn owners_of(kinds: &[u16; 16], before: &[u16; 17], row: &[u16], channel: usize) -> [u16; 72]
+    requires { ⌜ (length (now row) ≤ 16) × (now kinds ≡ kindsOf (now row)) × (now before ≡ numbersOf (now row)) ⌝ }
     ensures { λ r. ⌜ r ≡ build (ownerOf (onlyPlan (at (now (row .entry)))) (at (now (row .entry))) channel (length (now (row .entry)))) 72 ⌝ }
 {
     let n = row.len();
-    let before = numbers_before(row);
     let mut owners = [144u16; 72];
     let mut j: usize = 0;
     let mut p: usize = 0;
     while p < n {
-        j = enter_owners(&mut owners, &before, row, channel, p, j);
+        j = enter_owners(&mut owners, kinds, before, row, channel, p, j);
         p += 1;
     }
     owners

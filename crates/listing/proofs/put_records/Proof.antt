@@ -3,48 +3,58 @@ use borrow.Author.Needs.{needs}
 use native.Mathlib.Omega.{arith}
 use mathlib.Core.Path.{_≡_}
 use Prim.Native.Nat.{_+_, _-_, _*_, _≤_}
-use lib.ListN.{getD}
-use Rattle.text.specs.Text.{Wrote, upto}
-use Rattle.text.specs.Laws.{no-item, item, kept}
-use Rattle.records.specs.Records.{blank}
-use Rattle.listing.specs.Listing.{recordLine, planLines}
+use lib.ListN.{length}
+use Rattle.text.specs.Text.{Wrote}
+use Rattle.text.specs.Laws.{no-item, after, kept}
+use Rattle.plan.specs.Plan.{at as value}
+use Rattle.plan.specs.Guess.{onlyPlan}
+use Rattle.records.specs.Records.{listAt, recordsFrom}
+use Rattle.records.proofs.Listing.{next-length, records-most}
+use Rattle.listing.specs.Listing.{ruLines}
+use Rattle.listing.proofs.Held.{lines-next}
 use Rattle.listing.proofs.put_records.Statement.{statement}
 use Rattle.listing.proofs.put_records.Tie as tie
 
 abbrev Inv-loop : tie.InvT-loop
-Inv-loop out₀ at n count records o₀ i₀ out o i =
-    (i ≤ count) × Wrote out₀ at (upto (λ j. recordLine n (getD records j blank)) i) out o × (o ≤ at + 240 * i)
+Inv-loop out₀ at row kinds n o₀ p₀ out o p =
+    (p ≤ n) × Wrote out₀ at (ruLines (length row) (recordsFrom (onlyPlan (value row)) (value row) p)) out o × (o ≤ at + 240 * length (recordsFrom (onlyPlan (value row)) (value row) p))
 
 abbrev μ-loop : tie.MeasureT-loop
-μ-loop out₀ at n count records o₀ i₀ out o i = count - i
+μ-loop out₀ at row kinds n o₀ p₀ out o p = n - p
 
 loop-holds : tie.Need-loop-holds Inv-loop μ-loop
-loop-holds c = (search needs, no-item _ _ _, omega arith)
+unfolding ruLines
+loop-holds c = (omega arith, no-item _ _ _, omega arith)
 
-mul-put-record : tie.Need-mul-put-record Inv-loop μ-loop
-mul-put-record c = search needs
+owner-in-requires : tie.Need-owner-in-requires Inv-loop μ-loop
+owner-in-requires c κs = search needs
 
-array-copy-out-put-record : tie.Need-array-copy-out-put-record Inv-loop μ-loop
-array-copy-out-put-record c = search needs
+put-position-requires : tie.Need-put-position-requires Inv-loop μ-loop
+put-position-requires c κs =
+    let r = c .before .before .before .before .before .before .args .row .now in
+    (omega (arith, records-most (onlyPlan (value r)) (value r) (c .before .before .before .loop .p)), omega arith, omega arith, c .owner-in .ensures .1)
 
-put-record-requires : tie.Need-put-record-requires Inv-loop μ-loop
-put-record-requires c κs = search needs
-
-add-i : tie.Need-add-i Inv-loop μ-loop
-add-i c = search needs
+add-p : tie.Need-add-p Inv-loop μ-loop
+add-p c = omega arith
 
 loop-less : tie.Need-loop-less Inv-loop μ-loop
-loop-less c = search needs
+loop-less c = omega arith
 
 loop-again : tie.Need-loop-again Inv-loop μ-loop
-loop-again c = (omega arith, item _ _ (c .before .before .before .before .before .before .loop .inv .1) (c .before .before .put-record .ensures .0), omega arith)
+loop-again c =
+    let r = c .before .before .before .before .before .before .before .before .before .args .row .now in
+    let l = c .before .before .before .before .before .before .loop in
+    let o = onlyPlan (value r) in
+    let q = rw (c .before .before .before .owner-in .ensures .0) at (c .before .before .put-position .ensures) in
+    (omega arith, rw (lines-next (length r) o (value r) (l .p)) (after {u = ruLines (length r) (listAt (o (l .p)) (value r) (l .p))} (l .inv .1) (q .0)), omega (arith, next-length o (value r) (l .p), q .1))
 
 same-length : tie.Need-same-length Inv-loop μ-loop
 same-length c = kept (c .before .loop .inv .1)
 
 returns : tie.Need-returns Inv-loop μ-loop
-unfolding planLines
-returns c = let e : c .before .loop .i ≡ c .before .before .before .before .args .plan .count = omega arith in (rw e at (c .before .loop .inv .1), omega arith)
+returns c =
+    let e : c .before .loop .p ≡ length (c .before .before .before .before .args .row .now) = omega arith in
+    (rw e at (c .before .loop .inv .1), rw e at (c .before .loop .inv .2))
 
 pub put-records-spec : {M : Type 1} → statement M
 put-records-spec =
@@ -53,10 +63,9 @@ put-records-spec =
     Inv-loop
     μ-loop
     loop-holds
-    mul-put-record
-    array-copy-out-put-record
-    put-record-requires
-    add-i
+    owner-in-requires
+    put-position-requires
+    add-p
     loop-less
     loop-again
     same-length

@@ -17,11 +17,11 @@ use Rattle.records.proofs.enter_owners.Statement.{statement}
 use Rattle.records.proofs.enter_owners.Tie as tie
 
 abbrev Inv-loop : tie.InvT-loop
-Inv-loop owners₀ before row channel p j v f step number₀ k₀ owners number k =
+Inv-loop owners₀ kinds before row channel p j v f step number₀ k₀ owners number k =
     (k ≤ f) × (number ≡ ownerAt (onlyPlan (at row)) (at row) p k) × (owners ≡ filled (ownerOf (onlyPlan (at row)) (at row) channel (length row)) (j + k) (replicate 72 144))
 
 abbrev μ-loop : tie.MeasureT-loop
-μ-loop owners₀ before row channel p j v f step number₀ k₀ owners number k = f - k
+μ-loop owners₀ kinds before row channel p j v f step number₀ k₀ owners number k = f - k
 
 value-at-requires : tie.Need-value-at-requires Inv-loop μ-loop
 value-at-requires c κs = search needs

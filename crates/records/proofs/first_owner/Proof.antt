@@ -1,12 +1,11 @@
 -- `records::first_owner` meets its contract. Assumes nothing.
 use Rattle.records.proofs.Entering.{lowest-below}
+use Rattle.records.proofs.Tables.{number-at}
 use Rattle.records.specs.Owns.{lowest, ownerAt}
-use Rattle.records.specs.Records.{recordsFrom}
-use Rattle.answer.specs.Filled.{getD-filled}
 use Rattle.plan.specs.declared.Owner.{Owner}
 use Rattle.plan.specs.Guess.{onlyPlan}
 use Rattle.plan.specs.Plan.{at}
-use lib.ListN.{length, getD, replicate}
+use lib.ListN.{getD}
 use mathlib.Core.List.{List}
 use mathlib.Core.Path.{_≡_, ap, _∙_}
 use Prim.Native.Nat.{ℕ, _≤_}
@@ -31,12 +30,11 @@ returns : tie.Need-returns
 unfolding ownerAt
 returns c =
     let s = c .before .before .before .before .before .args in
-    let r = s .row .now in
-    let e = getD-filled (λ q. length (recordsFrom (onlyPlan (at r)) (at r) q)) (length r) (replicate {A = ℕ} 16 0) (s .p) 0 (c .before .before .before .before .before .pre .1) in
-    ap (λ (w : List ℕ). getD w (s .p) 0) (c .before .before .before .before .before .pre .2) ∙ e ∙ rw (← c .before .before .before .value-at .ensures, ← c .before .before .is-divided .ensures, c .before .if1 .taken) (omega arith)
+    let q = c .before .before .before .before .before .pre in
+    ap (λ (w : List ℕ). getD w (s .p) 0) (q .3) ∙ number-at (s .row .now) (s .p) (omega arith) ∙ rw (← c .before .before .before .value-at .ensures, ← c .before .before .is-divided .ensures, c .before .if1 .taken) (omega arith)
 
-owner-at-requires : tie.Need-owner-at-requires
-owner-at-requires c κs = search needs
+owner-in-requires : tie.Need-owner-in-requires
+owner-in-requires c κs = search needs
 
 lowest-of-requires : tie.Need-lowest-of-requires
 lowest-of-requires c κs = search needs
@@ -47,7 +45,7 @@ mul-result-2 c = search needs
 element-copy-out-result-2 : tie.Need-element-copy-out-result-2
 element-copy-out-result-2 c =
     let s = c .before .before .before .before .before .before .args in
-    let l : c .lowest-of .result ≤ s .p = rw (c .lowest-of .ensures .0, c .before .owner-at .ensures) (lowest-below (at (s .row .now)) (s .p)) in
+    let l : c .lowest-of .result ≤ s .p = rw (c .lowest-of .ensures .0, c .before .owner-in .ensures .0) (lowest-below (at (s .row .now)) (s .p)) in
     omega arith
 
 returns-2 : tie.Need-returns-2
@@ -55,9 +53,8 @@ unfolding ownerAt
 returns-2 c =
     let s = c .before .before .before .before .before .before .before .args in
     let r = s .row .now in
-    let q : c .before .lowest-of .result ≡ lowest (onlyPlan (at r) (s .p)) (s .p) = c .before .lowest-of .ensures .0 ∙ ap (λ (x : Owner). lowest x (s .p)) (c .before .before .owner-at .ensures) in
-    let e = getD-filled (λ q. length (recordsFrom (onlyPlan (at r)) (at r) q)) (length r) (replicate {A = ℕ} 16 0) (c .before .lowest-of .result) 0 (omega (arith, lowest-below (at r) (s .p))) in
-    ap (λ (w : List ℕ). getD w (c .before .lowest-of .result) 0) (c .before .before .before .before .before .before .before .pre .2) ∙ e ∙ rw (← c .before .before .before .before .before .value-at .ensures, ← c .before .before .before .before .is-divided .ensures, c .before .before .before .if1 .left, ← q) (omega arith)
+    let q : c .before .lowest-of .result ≡ lowest (onlyPlan (at r) (s .p)) (s .p) = c .before .lowest-of .ensures .0 ∙ ap (λ (x : Owner). lowest x (s .p)) (c .before .before .owner-in .ensures .0) in
+    ap (λ (w : List ℕ). getD w (c .before .lowest-of .result) 0) (c .before .before .before .before .before .before .before .pre .3) ∙ number-at r (c .before .lowest-of .result) (omega (arith, lowest-below (at r) (s .p))) ∙ rw (← c .before .before .before .before .before .value-at .ensures, ← c .before .before .before .before .is-divided .ensures, c .before .before .before .if1 .left, ← q) (omega arith)
 
 pub first-owner-spec : {M : Type 1} → statement M
 first-owner-spec =
@@ -68,7 +65,7 @@ first-owner-spec =
     mul-result
     element-copy-out-result
     returns
-    owner-at-requires
+    owner-in-requires
     lowest-of-requires
     mul-result-2
     element-copy-out-result-2

@@ -1,23 +1,25 @@
 -- `records::numbers_before` meets its contract. Assumes nothing.
-use Rattle.records.proofs.Listing.{next-length, records-most}
-use Rattle.records.specs.Records.{recordsFrom}
+use Rattle.records.proofs.Listing.{next-length, records-most, here-is}
+use Rattle.records.specs.Records.{listAt, recordsFrom}
+use Rattle.records.specs.Tables.{numbersOf}
 use Rattle.answer.specs.Filled.{filled, filled-start, filled-step}
 use Rattle.plan.specs.Guess.{onlyPlan}
 use Rattle.plan.specs.Plan.{at}
 use lib.ListN.{length, replicate, length-replicate, set, length-set}
 use mathlib.Core.List.{List}
-use Prim.Native.Nat.{ℕ, _-_, _≤_}
+use Prim.Native.Nat.{ℕ, _+_, _-_, _≤_}
 use native.Mathlib.Omega.{arith}
 use mathlib.Core.Path.{_≡_, refl, ap, _∙_}
+use borrow.Author.Needs.{needs}
 use Rattle.records.proofs.numbers_before.Statement.{statement}
 use Rattle.records.proofs.numbers_before.Tie as tie
 
 abbrev Inv-loop : tie.InvT-loop
-Inv-loop row n before₀ sum₀ p₀ before sum p =
-    (p ≤ n) × (length before ≡ 16) × (sum ≡ length (recordsFrom (onlyPlan (at row)) (at row) p)) × (before ≡ filled (λ q. length (recordsFrom (onlyPlan (at row)) (at row) q)) p (replicate 16 0))
+Inv-loop kinds row n before₀ sum₀ p₀ before sum p =
+    (p ≤ n) × (length before ≡ 17) × (sum ≡ length (recordsFrom (onlyPlan (at row)) (at row) p)) × (before ≡ filled (λ q. length (recordsFrom (onlyPlan (at row)) (at row) q)) p (replicate 17 0))
 
 abbrev μ-loop : tie.MeasureT-loop
-μ-loop row n before₀ sum₀ p₀ before sum p = n - p
+μ-loop kinds row n before₀ sum₀ p₀ before sum p = n - p
 
 loop-holds : tie.Need-loop-holds Inv-loop μ-loop
 loop-holds c = (omega arith, refl, refl, filled-start _ _)
@@ -28,11 +30,17 @@ mul-before c = omega arith
 array-write-before : tie.Need-array-write-before Inv-loop μ-loop
 array-write-before c = omega arith
 
-listed-at-requires : tie.Need-listed-at-requires Inv-loop μ-loop
-listed-at-requires c κs = omega arith
+owner-in-requires : tie.Need-owner-in-requires Inv-loop μ-loop
+owner-in-requires c κs = (omega arith, omega arith, c .before .before .before .pre .1)
+
+value-at-requires : tie.Need-value-at-requires Inv-loop μ-loop
+value-at-requires c κs = search needs
+
+listed-of-requires : tie.Need-listed-of-requires Inv-loop μ-loop
+listed-of-requires c κs = search needs
 
 add-sum : tie.Need-add-sum Inv-loop μ-loop
-add-sum c = let r = c .before .before .before .before .args .row .now in omega (arith, records-most (onlyPlan (at r)) (at r) (c .before .before .loop .p))
+add-sum c = let r = c .before .before .before .before .before .before .args .row .now in omega (arith, records-most (onlyPlan (at r)) (at r) (c .before .before .before .before .loop .p))
 
 add-p : tie.Need-add-p Inv-loop μ-loop
 add-p c = omega arith
@@ -42,16 +50,29 @@ loop-less c = omega arith
 
 loop-again : tie.Need-loop-again Inv-loop μ-loop
 loop-again c =
-    let r = c .before .before .before .before .args .row .now in
-    let l = c .before .before .loop in (
+    let r = c .before .before .before .before .before .before .args .row .now in
+    let l = c .before .before .before .before .loop in
+    let h : c .listed-of .result ≡ length (listAt (onlyPlan (at r) (l .p)) (at r) (l .p)) = here-is (at r) _ _ _ _ (c .before .before .owner-in .ensures .0) (c .before .value-at .ensures) (c .listed-of .ensures .0) in (
       omega arith,
       length-set (l .before) (l .p) (l .sum) ∙ l .inv .1,
-      omega (arith, c .listed-at .ensures .0, next-length (onlyPlan (at r)) (at r) (l .p)),
-      ap (λ (w : List ℕ). set w (l .p) (l .sum)) (l .inv .3) ∙ filled-step _ (l .p) (l .sum) (replicate 16 0) (omega (arith, length-replicate {A = ℕ} 16 0)) (l .inv .2),
+      omega (arith, h, next-length (onlyPlan (at r)) (at r) (l .p)),
+      ap (λ (w : List ℕ). set w (l .p) (l .sum)) (l .inv .3) ∙ filled-step _ (l .p) (l .sum) (replicate 17 0) (omega (arith, length-replicate {A = ℕ} 17 0)) (l .inv .2),
     )
 
+mul-before-2 : tie.Need-mul-before-2 Inv-loop μ-loop
+mul-before-2 c = omega arith
+
+array-write-before-2 : tie.Need-array-write-before-2 Inv-loop μ-loop
+array-write-before-2 c = omega arith
+
 returns : tie.Need-returns Inv-loop μ-loop
-returns c = let e : c .before .loop .p ≡ length (c .before .before .before .args .row .now) = omega arith in rw (← e) (c .before .loop .inv .3)
+unfolding numbersOf
+returns c =
+    let r = c .before .before .before .args .row .now in
+    let l = c .before .loop in
+    let e : l .p ≡ length r = omega arith in
+    let f : ℕ → ℕ = λ q. length (recordsFrom (onlyPlan (at r)) (at r) q) in
+    ap (λ (w : List ℕ). set w (l .p) (l .sum)) (l .inv .3) ∙ filled-step f (l .p) (l .sum) (replicate 17 0) (omega (arith, length-replicate {A = ℕ} 17 0)) (l .inv .2) ∙ ap (λ (q : ℕ). filled f (q + 1) (replicate 17 0)) e
 
 pub numbers-before-spec : {M : Type 1} → statement M
 numbers-before-spec =
@@ -62,9 +83,13 @@ numbers-before-spec =
     loop-holds
     mul-before
     array-write-before
-    listed-at-requires
+    owner-in-requires
+    value-at-requires
+    listed-of-requires
     add-sum
     add-p
     loop-less
     loop-again
+    mul-before-2
+    array-write-before-2
     returns)

@@ -13,22 +13,20 @@ use Rattle.records.proofs.owners_of.Statement.{statement}
 use Rattle.records.proofs.owners_of.Tie as tie
 
 abbrev Inv-loop : tie.InvT-loop
-Inv-loop row channel n before owners₀ j₀ p₀ owners j p =
+Inv-loop kinds before row channel n owners₀ j₀ p₀ owners j p =
     (p ≤ n) × (j ≡ fieldsBefore channel (at row) p) × (owners ≡ filled (ownerOf (onlyPlan (at row)) (at row) channel (length row)) j (replicate 72 144))
 
 abbrev μ-loop : tie.MeasureT-loop
-μ-loop row channel n before owners₀ j₀ p₀ owners j p = n - p
-
-numbers-before-requires : tie.Need-numbers-before-requires Inv-loop μ-loop
-numbers-before-requires c κs = search needs
+μ-loop kinds before row channel n owners₀ j₀ p₀ owners j p = n - p
 
 loop-holds : tie.Need-loop-holds Inv-loop μ-loop
 loop-holds c = (omega arith, refl, filled-start _ _)
 
 enter-owners-requires : tie.Need-enter-owners-requires Inv-loop μ-loop
 enter-owners-requires c κs =
-    let l = c .before .before .before .loop in
-    ((c .before .before .before .before .before .before .pre, omega arith, c .before .before .before .before .numbers-before .ensures), (l .inv .1, l .inv .2))
+    let l = c .before .before .loop in
+    let q = c .before .before .before .before .pre in
+    ((q .0, omega arith, q .1, q .2), (l .inv .1, l .inv .2))
 
 add-p : tie.Need-add-p Inv-loop μ-loop
 add-p c = omega arith
@@ -41,11 +39,11 @@ loop-again c = (omega arith, c .enter-owners .ensures .0, c .enter-owners .ensur
 
 returns : tie.Need-returns Inv-loop μ-loop
 returns c =
-    let s = c .before .before .before .before .args in
+    let s = c .before .before .before .args in
     let r = s .row .now in
     let e : c .before .loop .p ≡ length r = omega arith in
     let j : c .before .loop .j ≡ fieldsBefore (s .channel) (at r) (length r) = rw (← e) (c .before .loop .inv .1) in
-    entered (onlyPlan (at r)) (at r) (s .channel) (length r) (c .before .loop .owners) (few-fields (s .channel) (at r) (length r) (c .before .before .before .before .pre)) (rw (← j) (c .before .loop .inv .2))
+    entered (onlyPlan (at r)) (at r) (s .channel) (length r) (c .before .loop .owners) (few-fields (s .channel) (at r) (length r) (c .before .before .before .pre .0)) (rw (← j) (c .before .loop .inv .2))
 
 pub owners-of-spec : {M : Type 1} → statement M
 owners-of-spec =
@@ -53,7 +51,6 @@ owners-of-spec =
     (tie.spec
     Inv-loop
     μ-loop
-    numbers-before-requires
     loop-holds
     enter-owners-requires
     add-p

@@ -1,22 +1,17 @@
 -- `records::plan_of` meets its contract. Assumes nothing.
 use Rattle.records.proofs.Filling.{Filling, start, part-most, room, put, next, done}
-use Rattle.records.proofs.Listing.{list-length, left-out}
-use Rattle.records.specs.Records.{listAt, listed, recordAt}
+use Rattle.records.proofs.Listing.{left-out, here-is}
+use Rattle.records.specs.Records.{listAt, recordAt}
 use Rattle.plan.specs.declared.Owner.{Owner}
 use Rattle.plan.specs.Guess.{onlyPlan}
 use Rattle.plan.specs.Plan.{at}
 use lib.ListN.{length}
-use mathlib.Core.Path.{_≡_, sym, ap, _∙_}
+use mathlib.Core.Path.{_≡_, ap, _∙_}
 use borrow.Author.Needs.{needs}
 use Prim.Native.Nat.{ℕ, _-_, _*_, _<_}
 use native.Mathlib.Omega.{arith}
 use Rattle.records.proofs.plan_of.Statement.{statement}
 use Rattle.records.proofs.plan_of.Tie as tie
-
--- as many as are listed at p
-here-is : (row : ℕ → ℕ) (p v h : ℕ) (o : Owner) → o ≡ onlyPlan row p → v ≡ row p → h ≡ listed o p v → h ≡ length (listAt (onlyPlan row p) row p)
-here-is row p v h o e f g =
-    g ∙ ap (λ (x : Owner). listed x p v) e ∙ ap (listed (onlyPlan row p) p) f ∙ sym (list-length (onlyPlan row p) row p)
 
 abbrev Inv-loop : tie.InvT-loop
 Inv-loop row n records₀ count₀ p₀ k₀ o₀ here₀ records count p k o here =
