@@ -8,7 +8,7 @@ ghost use Rattle.answer.specs.Filled.{filled};
 ghost use Rattle.brachymel.specs.Bytes.{byteAt, readAnswer, readBytes, wordAt, wordsIn, writeAnswer, writeChannel};
 ghost use Rattle.brachymel.specs.Early.{early};
 ghost use Rattle.writer.specs.Result.{answerOf, channelAfter};
-ghost use Rattle.listing.specs.Listing.{listAnswer, listAfter};
+ghost use Rattle.listed.specs.Listing.{listAnswer, listAfter};
 
 // The first n words as bytes, the lowest byte of each first.
 fn put_bytes(out: &mut [u8], words: &[u32], n: usize)

@@ -20,7 +20,7 @@ use Rattle.writer.specs.Candidate.{needed}
 use Rattle.writer.proofs.Exactly as writing
 use Rattle.writer.proofs.Agree as writer
 use Rattle.writer.proofs.write.Reads as write
-use Rattle.listing.specs.Listing.{listing}
+use Rattle.listed.specs.Listing.{listing}
 use Rattle.listing.proofs.Judged as listed
 use Rattle.listing.proofs.list.Reads as list
 use Rattle.listing.proofs.respond.Reads as respond

@@ -14,7 +14,7 @@ use Rattle.plan.specs.Plan.{at}
 use Rattle.plan.specs.Guess.{onlyPlan}
 use Rattle.records.specs.Owns.{ownerOf}
 use Rattle.lines.specs.Lines.{staLine}
-use Rattle.listing.specs.Listing.{ownerIn, staLineAt, staLines}
+use Rattle.listed.specs.Listing.{ownerIn, staLineAt, staLines}
 
 -- the line of field i of a channel whose bytes are s, its owner the i-th number
 abbrev pub ownedLine : ℕ → List ℕ → List ℕ → ℕ → List ℕ

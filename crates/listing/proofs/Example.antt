@@ -11,7 +11,7 @@ use Rattle.resource.specs.Runs.{offset106, wide, wideWith26, runsOf}
 use Rattle.records.specs.Records.{divides, pieceFields, listAt}
 use Rattle.records.specs.Owns.{lowest, ownerAt, ownerOf}
 use Rattle.lines.specs.Lines.{nameText, comma, tonesText, ruHead, ruLine, staLine, headText}
-use Rattle.listing.specs.Listing.{resources, ruLines, ownerIn}
+use Rattle.listed.specs.Listing.{resources, ruLines, ownerIn}
 
 abbrev theRow : List ℕ
 theRow = 50 ∷ 26 ∷ []

@@ -11,23 +11,18 @@ use lib.Dec.{ltb}
 use lib.ListN.{length, take, getD}
 use lib.Seq.{take-all, length-take-le}
 use Rattle.answer.specs.Answer.{_or_}
-use Rattle.answer.specs.Order.{after-kept, pass-left, pass-right, pass-not-refuse}
-use Rattle.answer.specs.declared.Out.{Out}
+use Rattle.answer.specs.Order.{after-kept}
 use Rattle.answer.specs.declared.Answer.{Answer}
 use Rattle.answer.specs.declared.Out.the-variants.{Pass, Refuse}
 use Rattle.text.specs.Text.{upto}
 use Rattle.channel.specs.Layout.{row, count}
-use Rattle.plan.specs.Plan.{at, Signals}
-use Rattle.plan.specs.Guess.{onlyPlan, layoutOf}
-use Rattle.plan.specs.Layout.{Laid, accepted, no-plan, over-eight}
-use Rattle.plan.proofs.Laid.{part-plan, whole-signals, layout-laid}
 use Rattle.records.specs.Records.{blank}
 use Rattle.reader.specs.Table.{readable, check12, noRoom, wordCount}
-use Rattle.reader.specs.Stages.{word-count-le, commonChecks, userChecks, readable-stages, reading-stages}
+use Rattle.reader.specs.Stages.{word-count-le, reading-stages}
 use Rattle.reader.specs.Result.{answerOf}
 use Rattle.input.specs.Parse.{parsed}
 use Rattle.lines.specs.Lines.{headText}
-use Rattle.listing.specs.Listing.{recordLine, resources, ruLines, staLineAt, staLines, listingOf, listing, check23, listable, listAnswer, listAfter, programText}
+use Rattle.listed.specs.Listing.{recordLine, resources, ruLines, staLineAt, staLines, listingOf, listing, check23, listable, listAnswer, listAfter, programText}
 use Rattle.listing.proofs.list.Reads as list
 use Rattle.listing.proofs.respond.Reads as respond
 
@@ -68,7 +63,7 @@ list-accepts bw a b room e = go (ltb room (length (listing bw a b))) refl
     go true f = inr (rw (e, f))
     go false f = inl (rw (e, f))
 
--- ---- the k-th `ru=` line is the k-th record's, the i-th `sta=` line is the i-th User field's (`Stations.antt`)
+-- ---- the k-th `ru=` line is the k-th record's, the i-th `sta=` line is the i-th User field's (`listed/proofs/Stations.antt`)
 pub listing-lines : (bw : ℕ) (a b : List ℕ)
     → listing bw a b
     ≡ headText bw (length (resources (row bw a b))) (count bw 1 a) (count bw 2 b)
@@ -76,19 +71,6 @@ pub listing-lines : (bw : ℕ) (a b : List ℕ)
     ++ upto (staLineAt bw (row bw a b) a b (count bw 1 a)) (count bw 1 a + count bw 2 b)
 unfolding listing listingOf ruLines staLines
 listing-lines bw a b = refl
-
--- ---- the plan that is listed signals the row of an accepted frame
-pub accepted-signals : (bw : ℕ) (a b : List ℕ) → readable bw a b ≡ Pass → Signals (onlyPlan (at (row bw a b))) (at (row bw a b)) 0 (length (row bw a b))
-accepted-signals bw a b e =
-    go (layout-laid r) (pass-right (commonChecks bw a b) (layoutOf r) (pass-left _ (userChecks bw a b) (sym (readable-stages bw a b) ∙ e)))
-  where
-    r : List ℕ
-    r = row bw a b
-
-    go : {o : Out} → Laid r o → o ≡ Pass → Signals (onlyPlan (at r)) (at r) 0 (length r)
-    go (accepted w) f = whole-signals r (λ s l. part-plan r (w .0, w .1) s)
-    go (no-plan s l n h) f = absurd (pass-not-refuse f refl)
-    go (over-eight s l h n k) f = absurd (pass-not-refuse f refl)
 
 -- ---- the program hands over at most 8,193 bytes, and that suffices to tell
 pub enough : (s : List ℕ) → programText (take 8193 s) ≡ programText s

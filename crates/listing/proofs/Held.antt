@@ -13,7 +13,7 @@ use Rattle.plan.specs.Guess.{onlyPlan}
 use Rattle.records.specs.declared.Record.{Record}
 use Rattle.records.specs.Records.{listAt, recordsFrom, blank}
 use Rattle.records.proofs.Listing.{records-most}
-use Rattle.listing.specs.Listing.{recordLine, resources, ruLines}
+use Rattle.listed.specs.Listing.{recordLine, resources, ruLines}
 
 -- a row of sixteen positions has at most 144 resources
 pub resources-few : (r : List ℕ) → length r ≤ 16 → length (resources r) ≤ 144

@@ -13,7 +13,7 @@ use Rattle.answer.specs.declared.Out.{Out}
 use Rattle.reader.specs.Table.{eleven, readable}
 use Rattle.reader.specs.Judged.{Judged, judged}
 use Rattle.reader.proofs.Exactly.{eleven-then}
-use Rattle.listing.specs.Listing.{listing, check23, listable, listAnswer}
+use Rattle.listed.specs.Listing.{listing, check23, listable, listAnswer}
 use Rattle.listing.proofs.Facts.{list-kept}
 use Rattle.listing.proofs.list.Reads as list
 

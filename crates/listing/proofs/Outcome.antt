@@ -1,24 +1,18 @@
 -- What each way through `list` comes to. Assumes nothing.
-use mathlib.Core.Path.{_≡_, sym, ap, _∙_}
+use mathlib.Core.Path.{_≡_, ap}
 use mathlib.Core.List.{List, [], _++_}
 use Prim.Native.Nat.{ℕ, _≤_, _<_}
 use native.Mathlib.Omega.{arith}
 use borrow.Author.Tests.{lt-ltb, le-ltb}
 use lib.ListN.{length, take}
 use Rattle.answer.specs.Answer.{no, _or_}
-use Rattle.answer.specs.Order.{pass-left}
 use Rattle.answer.specs.Filled.{build, filled, take-filled}
 use Rattle.answer.specs.declared.Answer.{Answer}
 use Rattle.answer.specs.declared.Out.the-variants.{Pass, Refuse}
 use Rattle.text.specs.Text.{Wrote}
 use Rattle.text.specs.Laws.{dry, count, front}
 use Rattle.reader.specs.Table.{readable}
-use Rattle.reader.specs.Stages.{readable-stages, common-pass}
-use Rattle.listing.specs.Listing.{listing, check23, listable, listAnswer, listAfter}
-
-pub known-code : (bw : ℕ) (a b : List ℕ) → readable bw a b ≡ Pass → bw ≤ 4
-known-code bw a b e =
-    common-pass bw a b (pass-left _ _ (pass-left _ _ (sym (readable-stages bw a b) ∙ e))) .known
+use Rattle.listed.specs.Listing.{listing, check23, listable, listAnswer, listAfter}
 
 module _ (bw : ℕ) (a b d : List ℕ) where
   pub refused-by : (x : Answer) → readable bw a b ≡ Refuse x → (x ≡ listAnswer bw a b (length d)) × (d ≡ listAfter bw a b d)

@@ -16,10 +16,10 @@ ghost use Rattle.bits.specs.Bits.{field};
 ghost use Rattle.channel.specs.Layout.{userAt};
 ghost use Rattle.input.specs.Parse.{bytesAt, secondAt};
 ghost use Rattle.lines.specs.Lines.{staLine};
-ghost use Rattle.listing.specs.Room.{roomFor};
 ghost use Rattle.records.specs.Records.{leftOut};
 ghost use Rattle.records.specs.Tables.{kindsOf, numbersOf};
-ghost use Rattle.listing.specs.Listing.{recordLine, listedAt, resources, ruLines, staLines, listingOf, listing, listAnswer, listAfter, frameText, programText};
+ghost use Rattle.longest.specs.Longest.{longestAt};
+ghost use Rattle.listed.specs.Listing.{recordLine, listedAt, resources, ruLines, staLines, listingOf, listing, listAnswer, listAfter, frameText, programText};
 
 // ---- the listing of an accepted frame
 
@@ -104,7 +104,6 @@ fn put_stations(
 ) -> usize
     requires { ⌜ (at ≤ 40000) × (m ≤ 72) × (k ≤ 72) × (length (now row) ≤ 16) × (now kinds ≡ kindsOf (now row)) × (now before ≡ numbersOf (now row)) ⌝ }
     ensures { λ r. ⌜ Wrote (now (out .entry)) at (staLines bw (now (row .entry)) (now (a .entry)) (now (b .entry)) m (m + k)) (now (out .exit)) r ⌝ }
-    ensures bounded { λ r. ⌜ r ≤ at + 55 * (m + k) ⌝ }
 {
     let first = records::owners_of(kinds, before, row, 0);
     let second = records::owners_of(kinds, before, row, 1);
@@ -126,7 +125,6 @@ fn put_tabled(
 ) -> usize
     requires { ⌜ (m ≤ 72) × (k ≤ 72) × (length (now row) ≤ 16) × (now kinds ≡ kindsOf (now row)) × (now before ≡ numbersOf (now row)) ⌝ }
     ensures { λ r. ⌜ Wrote (now (out .entry)) 0 (listingOf bw (now (row .entry)) (now (a .entry)) (now (b .entry)) m k) (now (out .exit)) r ⌝ }
-    ensures bounded { λ r. ⌜ r ≤ 200 + 240 * length (resources (now (row .entry))) + 55 * (m + k) ⌝ }
 {
     let resources = records::count_in(before, row) as usize;
     let o = put_head(out, bw, resources, m, k);
@@ -138,7 +136,6 @@ fn put_tabled(
 fn put_row(out: &mut [u8], bw: u32, a: &[u8], b: &[u8], row: &[u16], m: usize, k: usize) -> usize
     requires { ⌜ (m ≤ 72) × (k ≤ 72) × (length (now row) ≤ 16) ⌝ }
     ensures { λ r. ⌜ Wrote (now (out .entry)) 0 (listingOf bw (now (row .entry)) (now (a .entry)) (now (b .entry)) m k) (now (out .exit)) r ⌝ }
-    ensures bounded { λ r. ⌜ r ≤ 200 + 240 * length (resources (now (row .entry))) + 55 * (m + k) ⌝ }
 {
     let kinds = records::kinds_of(row);
     let before = records::numbers_before(&kinds, row);
@@ -149,7 +146,6 @@ fn put_row(out: &mut [u8], bw: u32, a: &[u8], b: &[u8], row: &[u16], m: usize, k
 fn put_listing(out: &mut [u8], bw: u32, a: &[u8], b: &[u8]) -> usize
     requires { ⌜ bw ≤ 4 ⌝ }
     ensures { λ r. ⌜ Wrote (now (out .entry)) 0 (listing bw (now (a .entry)) (now (b .entry))) (now (out .exit)) r ⌝ }
-    ensures bounded { λ r. ⌜ r ≤ roomFor bw (now (a .entry)) (now (b .entry)) ⌝ }
 {
     let row = channel::fill_row(bw, a, b);
     let n = channel::positions_of(bw);
@@ -158,13 +154,18 @@ fn put_listing(out: &mut [u8], bw: u32, a: &[u8], b: &[u8]) -> usize
     put_row(out, bw, a, b, &row[..n], m, k)
 }
 
-// Room that suffices for a frame's listing, from its positions and fields alone.
-fn room_for(bw: u32, a: &[u8], b: &[u8]) -> usize
+// The bytes of a bandwidth's longest listing.
+fn longest_of(bw: u32) -> usize
     requires { ⌜ bw ≤ 4 ⌝ }
-    ensures { λ r. ⌜ r ≡ roomFor bw (now (a .entry)) (now (b .entry)) ⌝ }
+    ensures { λ r. ⌜ r ≡ longestAt bw ⌝ }
 {
-    let fields = channel::count_of(bw, 1, a) + channel::count_of(bw, 2, b);
-    200 + 240 * channel::positions_of(bw) + 295 * fields
+    match bw {
+        0 => 649,
+        1 => 1267,
+        2 => 2513,
+        3 => 4990,
+        _ => 10131,
+    }
 }
 
 // Lists a frame: 1 to 11 as the reader, then 23. A refusal writes nothing.
@@ -176,7 +177,7 @@ pub fn list(bandwidth: u32, cc1: &[u8], cc2: &[u8], out: &mut [u8]) -> Answer
     if let Out::Refuse(x) = checked {
         return x;
     }
-    if room_for(bandwidth, cc1, cc2) <= out.len() {
+    if longest_of(bandwidth) <= out.len() {
         let place = put_listing(out, bandwidth, cc1, cc2);
         return Answer {
             number: 0,

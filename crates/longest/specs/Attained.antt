@@ -23,7 +23,7 @@ use Rattle.resource.specs.Runs.{offset26, offset52, offset106, wide, narrow, na
 use Rattle.records.specs.Records.{divides, pieceFields, listAt}
 use Rattle.records.specs.Owns.{lowest, ownerAt, ownerOf}
 use Rattle.lines.specs.Lines.{nameText, comma, tonesText, ruHead, ruLine, staLine, headText}
-use Rattle.listing.specs.Listing.{ruLines, ownerIn, staLineAt, staLines, listingOf, listing}
+use Rattle.listed.specs.Listing.{ruLines, ownerIn, staLineAt, staLines, listingOf, listing}
 use Rattle.stations.specs.Stations.{firstRepeated, stationTwice}
 use Rattle.reader.specs.Table.{check1, check2, check3, check4, check5, check6, check7, check8, check9, check10, check11, readable}
 use Rattle.plan.specs.Fields.{gives, share, fieldsIn}

@@ -14,7 +14,7 @@ use lib.Dec.{T, ltb, leb, eqb, leb→le}
 use lib.ListN.{length, getD, length-append}
 use Rattle.answer.specs.declared.Out.{Out}
 use Rattle.answer.specs.declared.Out.the-variants.{Pass, Refuse}
-use Rattle.answer.specs.Filled.{build}
+use Rattle.answer.specs.Filled.{build, getD-build}
 use Rattle.text.specs.Text.{dec, signed, upto, Wrote}
 use Rattle.text.specs.Laws.{count as written, dec-short, dec-fit, upto-short}
 use Rattle.resource.specs.declared.Size.the-variants.{S26, S52, S106, S242, S484, S996}
@@ -49,11 +49,10 @@ use Rattle.stations.specs.Stations.{stationAt}
 use Rattle.reader.specs.Table.{readable}
 use Rattle.lines.specs.Lines.{nameText, comma, spanText, tonesText, ruHead, ruLine, staLine, refusalText, headText}
 use Rattle.lines.specs.LineLaws.{span-short}
-use Rattle.listing.specs.Listing.{recordLine, resources, ruLines, ownerIn, staLineAt, staLines, listingOf, listing, outcomeText, frameText, parsedText, programText}
-use Rattle.listing.proofs.Owner.{at-small}
-use Rattle.listing.proofs.Outcome.{known-code}
-use Rattle.listing.proofs.Facts.{accepted-signals}
-use Rattle.listing.proofs.Stations.{fields-1, fields-2}
+use Rattle.listed.specs.Listing.{recordLine, resources, ruLines, ownerIn, staLineAt, staLines, listingOf, listing, outcomeText, frameText, parsedText, programText}
+use Rattle.listed.proofs.Owner.{at-small}
+use Rattle.listed.proofs.Accepted.{known-code, accepted-signals}
+use Rattle.listed.proofs.Stations.{fields-1, fields-2}
 
 -- ---- sums
 sum-front : (g : ℕ → ℕ) (n : ℕ) → sumTo g (suc n) ≡ g 0 + sumTo (λ i. g (suc i)) n
@@ -357,6 +356,17 @@ longest-most bw a b e =
 pub longest-table : build (λ b. longest (2 ^ b)) 5 ≡ 649 ∷ 1267 ∷ 2513 ∷ 4990 ∷ 10131 ∷ []
 unfolding build longest dec signed upto carried pieces fieldsOf ownPieces indexOf resourceAt positionOf placeOf offset26 offset52 offset106 wide wideWith26 narrow narrow26 narrow52 narrow106 narrowWith26 runsOf divides pieceFields nameText comma tonesText ruHead ruLine
 longest-table = refl
+
+-- the same, for the code to cite
+unfoldable pub longestAt : ℕ → ℕ
+longestAt bw = getD (649 ∷ 1267 ∷ 2513 ∷ 4990 ∷ 10131 ∷ []) bw 0
+
+pub listing-within : (bw : ℕ) (a b : List ℕ) → readable bw a b ≡ Pass → length (listing bw a b) ≤ longestAt bw
+unfolding longestAt
+listing-within bw a b e =
+    let l : bw < 5 = omega (arith, known-code bw a b e) in
+    let t : longest (2 ^ bw) ≡ getD (649 ∷ 1267 ∷ 2513 ∷ 4990 ∷ 10131 ∷ []) bw 0 = sym (getD-build (λ b. longest (2 ^ b)) 5 bw 0 l) ∙ ap (λ (w : List ℕ). getD w bw 0) longest-table in
+    omega (arith, longest-most bw a b e, t)
 
 -- so at most 10,131 bytes
 pub listing-most : (bw : ℕ) (a b : List ℕ) → readable bw a b ≡ Pass → length (listing bw a b) ≤ 10131

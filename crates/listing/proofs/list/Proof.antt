@@ -1,7 +1,10 @@
 -- `listing::list` meets its contract. Assumes nothing.
 use mathlib.Core.Path.{sym, _∙_}
 use native.Mathlib.Omega.{arith}
-use Rattle.listing.proofs.Outcome.{known-code, refused-by, too-short, at-once, listed}
+use Rattle.listing.proofs.Outcome.{refused-by, too-short, at-once, listed}
+use Rattle.listed.proofs.Accepted.{known-code}
+use Rattle.longest.specs.Longest.{listing-within}
+use Rattle.text.specs.Laws.{count}
 use borrow.Author.Needs.{needs}
 use Rattle.listing.proofs.list.Statement.{statement}
 use Rattle.listing.proofs.list.Tie as tie
@@ -20,8 +23,8 @@ returns c =
 enum-told : tie.Need-enum-told
 enum-told c = search needs
 
-room-for-requires : tie.Need-room-for-requires
-room-for-requires c κs =
+longest-of-requires : tie.Need-longest-of-requires
+longest-of-requires c κs =
     let s = c .before .before .before .before .before .before .args in
     known-code (s .bandwidth) (s .cc1 .now) (s .cc2 .now) (sym (c .before .before .check-frame .ensures) ∙ c .enum-told .given .1)
 
@@ -36,7 +39,9 @@ same-length c = search needs
 returns-2 : tie.Need-returns-2
 returns-2 c =
     let s = c .before .before .before .before .before .before .before .before .before .before .before .before .args in
-    at-once (s .bandwidth) (s .cc1 .now) (s .cc2 .now) (s .out .now) (sym (c .before .before .before .before .before .before .before .before .check-frame .ensures) ∙ c .before .before .before .before .before .before .enum-told .given .1) (c .before .before .put-listing .ensures .0) (omega arith)
+    let p = sym (c .before .before .before .before .before .before .before .before .check-frame .ensures) ∙ c .before .before .before .before .before .before .enum-told .given .1 in
+    let w = c .before .before .put-listing .ensures in
+    at-once (s .bandwidth) (s .cc1 .now) (s .cc2 .now) (s .out .now) p w (omega (arith, count w, listing-within (s .bandwidth) (s .cc1 .now) (s .cc2 .now) p, c .before .before .before .before .before .longest-of .ensures))
 
 slice-relend-prefix-put-listing : tie.Need-slice-relend-prefix-put-listing
 slice-relend-prefix-put-listing c = search needs
@@ -55,7 +60,7 @@ same-length-2 c = search needs
 returns-3 : tie.Need-returns-3
 returns-3 c =
     let s = c .before .before .before .before .before .before .before .before .before .before .before .before .before .args in
-    too-short (s .bandwidth) (s .cc1 .now) (s .cc2 .now) (s .out .now) (sym (c .before .before .before .before .before .before .before .before .before .check-frame .ensures) ∙ c .before .before .before .before .before .before .before .enum-told .given .1) (c .before .before .before .put-listing2 .ensures .0) (c .if2 .taken)
+    too-short (s .bandwidth) (s .cc1 .now) (s .cc2 .now) (s .out .now) (sym (c .before .before .before .before .before .before .before .before .before .check-frame .ensures) ∙ c .before .before .before .before .before .before .before .enum-told .given .1) (c .before .before .before .put-listing2 .ensures) (c .if2 .taken)
 
 put-listing-requires-3 : tie.Need-put-listing-requires-3
 put-listing-requires-3 c κs =
@@ -68,7 +73,7 @@ same-length-3 c = search needs
 returns-4 : tie.Need-returns-4
 returns-4 c =
     let s = c .before .before .before .before .before .before .before .before .before .before .before .before .before .before .before .before .before .args in
-    listed (s .bandwidth) (s .cc1 .now) (s .cc2 .now) (s .out .now) (sym (c .before .before .before .before .before .before .before .before .before .before .before .before .before .check-frame .ensures) ∙ c .before .before .before .before .before .before .before .before .before .before .before .enum-told .given .1) (c .before .before .before .before .before .before .before .put-listing2 .ensures .0) (c .before .before .before .before .if2 .left) (c .before .before .put-listing3 .ensures .0)
+    listed (s .bandwidth) (s .cc1 .now) (s .cc2 .now) (s .out .now) (sym (c .before .before .before .before .before .before .before .before .before .before .before .before .before .check-frame .ensures) ∙ c .before .before .before .before .before .before .before .before .before .before .before .enum-told .given .1) (c .before .before .before .before .before .before .before .put-listing2 .ensures) (c .before .before .before .before .if2 .left) (c .before .before .put-listing3 .ensures)
 
 pub list-spec : {M : Type 1} → statement M
 list-spec =
@@ -78,7 +83,7 @@ list-spec =
     enum-known-checked
     returns
     enum-told
-    room-for-requires
+    longest-of-requires
     put-listing-requires
     same-length
     returns-2

@@ -1,15 +1,9 @@
 -- `listing::put_listing` meets its contract. Assumes nothing.
-use lib.ListN.{length}
 use native.Mathlib.Omega.{arith}
 use mathlib.Core.Path.{sym, _∙_}
 use Rattle.channel.specs.Laws.{row-length}
 use Rattle.reader.proofs.Rows.{front}
-use Rattle.plan.specs.Plan.{at}
-use Rattle.plan.specs.Guess.{onlyPlan}
-use Rattle.channel.specs.Layout.{row}
-use Rattle.listing.specs.Listing.{listing}
-use Rattle.listing.specs.Room.{roomFor, resources-each}
-use Rattle.listing.proofs.Stations.{fields-1, fields-2}
+use Rattle.listed.specs.Listing.{listing}
 use borrow.Author.Needs.{needs}
 use Rattle.listing.proofs.put_listing.Statement.{statement}
 use Rattle.listing.proofs.put_listing.Tie as tie
@@ -45,14 +39,11 @@ same-length : tie.Need-same-length
 same-length c = search needs
 
 returns : tie.Need-returns
-unfolding listing roomFor
+unfolding listing
 returns c =
     let s = c .before .before .before .before .before .before .before .before .before .before .before .before .args in
     let e = front (s .bw) (s .a .now) (s .b .now) _ _ (c .before .before .before .before .before .before .before .positions-of .ensures .0) (c .before .before .before .before .before .before .before .before .fill-row .ensures) in
-    let r = row (s .bw) (s .a .now) (s .b .now) in
-    let few = resources-each (onlyPlan (at r)) (at r) (length r) in
-    let most = rw e at (c .before .before .put-row .ensures .1) in
-    (rw (← e, ← (c .before .before .before .before .before .before .count-of .ensures .0), ← (c .before .before .before .before .before .count-of2 .ensures .0)) (c .before .before .put-row .ensures .0), omega (arith, row-length (s .bw) (s .a .now) (s .b .now), fields-1 (s .bw) (s .a .now) (s .b .now) (c .before .before .before .before .before .before .before .before .before .before .before .before .pre), fields-2 (s .bw) (s .a .now) (s .b .now) (c .before .before .before .before .before .before .before .before .before .before .before .before .pre), c .before .before .before .before .before .before .count-of .ensures .0, c .before .before .before .before .before .count-of2 .ensures .0))
+    rw (← e, ← (c .before .before .before .before .before .before .count-of .ensures .0), ← (c .before .before .before .before .before .count-of2 .ensures .0)) (c .before .before .put-row .ensures)
 
 pub put-listing-spec : {M : Type 1} → statement M
 put-listing-spec =

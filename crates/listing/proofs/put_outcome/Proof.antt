@@ -1,7 +1,7 @@
 -- `listing::put_outcome` meets its contract. Assumes nothing.
 use mathlib.Core.Path.{sym, _∙_}
-use Rattle.listing.specs.Listing.{frameText}
-use Rattle.listing.proofs.Outcome.{known-code}
+use Rattle.listed.specs.Listing.{frameText}
+use Rattle.listed.proofs.Accepted.{known-code}
 use borrow.Author.Needs.{needs}
 use Rattle.listing.proofs.put_outcome.Statement.{statement}
 use Rattle.listing.proofs.put_outcome.Tie as tie
@@ -39,7 +39,7 @@ returns-2 : tie.Need-returns-2
 unfolding frameText
 returns-2 c =
     let e = sym (c .before .before .before .before .before .before .check-frame .ensures) ∙ c .before .before .before .before .enum-told .given .1 in
-    rw e (c .before .before .put-listing .ensures .0)
+    rw e (c .before .before .put-listing .ensures)
 
 pub put-outcome-spec : {M : Type 1} → statement M
 put-outcome-spec =

@@ -7,10 +7,9 @@ use lib.ListN.{length, getD}
 use Rattle.text.specs.Text.{Wrote, upto}
 use Rattle.text.specs.Laws.{no-item, item, kept}
 use Rattle.plan.specs.Plan.{at as value}
-use Rattle.records.specs.declared.Record.{Record}
 use Rattle.records.specs.Records.{blank}
 use Rattle.records.proofs.Listing.{list-length, list-at}
-use Rattle.listing.specs.Listing.{recordLine, listedAt, ruLines}
+use Rattle.listed.specs.Listing.{recordLine, listedAt, ruLines}
 use Rattle.listing.proofs.put_position.Statement.{statement}
 use Rattle.listing.proofs.put_position.Tie as tie
 

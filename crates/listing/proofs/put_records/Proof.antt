@@ -10,7 +10,7 @@ use Rattle.plan.specs.Plan.{at as value}
 use Rattle.plan.specs.Guess.{onlyPlan}
 use Rattle.records.specs.Records.{listAt, recordsFrom}
 use Rattle.records.proofs.Listing.{next-length, records-most}
-use Rattle.listing.specs.Listing.{ruLines}
+use Rattle.listed.specs.Listing.{ruLines}
 use Rattle.listing.proofs.Held.{lines-next}
 use Rattle.listing.proofs.put_records.Statement.{statement}
 use Rattle.listing.proofs.put_records.Tie as tie

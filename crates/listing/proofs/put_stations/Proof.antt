@@ -27,7 +27,7 @@ returns c =
     let s = c .before .before .before .before .before .before .before .before .before .before .before .before .before .before .before .before .args in
     let f = c .before .before .before .before .before .before .before .put-channel .ensures .0 in
     let g = c .before .before .put-channel2 .ensures .0 in
-    (rw (← both-channels (s .bw) (s .row .now) (s .a .now) (s .b .now) (s .m) (s .k) (omega arith) (omega arith)) (after {t = upto (ownedLine (s .bw) (s .a .now) (ownersIn (s .row .now) 0)) (s .m)} {u = upto (ownedLine (s .bw) (s .b .now) (ownersIn (s .row .now) 1)) (s .k)} (rw (c .before .before .before .before .before .before .before .before .before .before .before .owners-of .ensures) at f) (rw (c .before .before .before .before .before .before .before .before .before .before .owners-of2 .ensures) at g)), omega arith)
+    rw (← both-channels (s .bw) (s .row .now) (s .a .now) (s .b .now) (s .m) (s .k) (omega arith) (omega arith)) (after {t = upto (ownedLine (s .bw) (s .a .now) (ownersIn (s .row .now) 0)) (s .m)} {u = upto (ownedLine (s .bw) (s .b .now) (ownersIn (s .row .now) 1)) (s .k)} (rw (c .before .before .before .before .before .before .before .before .before .before .before .owners-of .ensures) at f) (rw (c .before .before .before .before .before .before .before .before .before .before .owners-of2 .ensures) at g))
 
 pub put-stations-spec : {M : Type 1} → statement M
 put-stations-spec =

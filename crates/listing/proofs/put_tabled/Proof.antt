@@ -1,7 +1,7 @@
 -- `listing::put_tabled` meets its contract. Assumes nothing.
 use native.Mathlib.Omega.{arith}
 use Rattle.text.specs.Laws.{after}
-use Rattle.listing.specs.Listing.{listingOf}
+use Rattle.listed.specs.Listing.{listingOf}
 use Rattle.listing.proofs.Held.{resources-few}
 use borrow.Author.Needs.{needs}
 use Rattle.listing.proofs.put_tabled.Statement.{statement}
@@ -31,7 +31,7 @@ same-length c = search needs
 returns : tie.Need-returns
 unfolding listingOf
 returns c =
-    (after (after (rw (c .before .before .before .before .before .before .before .before .before .before .before .before .count-in .ensures) at (c .before .before .before .before .before .before .before .before .before .before .put-head .ensures .0)) (c .before .before .before .before .before .before .put-records .ensures .0)) (c .before .before .put-stations .ensures .0), omega arith)
+    after (after (rw (c .before .before .before .before .before .before .before .before .before .before .before .before .count-in .ensures) at (c .before .before .before .before .before .before .before .before .before .before .put-head .ensures .0)) (c .before .before .before .before .before .before .put-records .ensures .0)) (c .before .before .put-stations .ensures)
 
 pub put-tabled-spec : {M : Type 1} → statement M
 put-tabled-spec =

@@ -2,7 +2,7 @@
 use native.Mathlib.Omega.{arith}
 use mathlib.Core.Path.{sym, _∙_}
 use Rattle.input.proofs.Exact.{few}
-use Rattle.listing.specs.Listing.{programText}
+use Rattle.listed.specs.Listing.{programText}
 use borrow.Author.Needs.{needs}
 use Rattle.listing.proofs.respond.Statement.{statement}
 use Rattle.listing.proofs.respond.Tie as tie

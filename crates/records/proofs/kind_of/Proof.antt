@@ -1,7 +1,6 @@
 -- `records::kind_of` meets its contract. Assumes nothing.
 use Rattle.records.specs.Tables.{kindOf}
 use native.Mathlib.Omega.{arith}
-use mathlib.Core.Path.{_∙_, sym, ap}
 use borrow.Author.Needs.{needs}
 use Rattle.records.proofs.kind_of.Statement.{statement}
 use Rattle.records.proofs.kind_of.Tie as tie

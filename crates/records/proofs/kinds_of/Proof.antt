@@ -9,7 +9,6 @@ use mathlib.Core.List.{List}
 use Prim.Native.Nat.{ℕ, _-_, _≤_}
 use native.Mathlib.Omega.{arith}
 use mathlib.Core.Path.{_≡_, refl, ap, _∙_}
-use borrow.Author.Needs.{needs}
 use Rattle.records.proofs.kinds_of.Statement.{statement}
 use Rattle.records.proofs.kinds_of.Tie as tie
 

@@ -1,7 +1,6 @@
 -- `records::owner_in` meets its contract. Assumes nothing.
 use Rattle.records.proofs.Tables.{from-kind, kind-at}
 use Rattle.records.proofs.Listing.{left-out}
-use Rattle.records.specs.Records.{leftOut}
 use Rattle.records.specs.Tables.{fromKind}
 use Rattle.plan.specs.Guess.{onlyPlan}
 use Rattle.plan.specs.Plan.{at}

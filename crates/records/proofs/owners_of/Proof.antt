@@ -8,7 +8,6 @@ use lib.ListN.{length, replicate}
 use mathlib.Core.Path.{_≡_, refl}
 use Prim.Native.Nat.{_-_, _≤_}
 use native.Mathlib.Omega.{arith}
-use borrow.Author.Needs.{needs}
 use Rattle.records.proofs.owners_of.Statement.{statement}
 use Rattle.records.proofs.owners_of.Tie as tie
 

@@ -8,7 +8,7 @@ use Rattle.plan.specs.Plan.{at}
 use lib.ListN.{length}
 use mathlib.Core.Path.{_≡_, ap, _∙_}
 use borrow.Author.Needs.{needs}
-use Prim.Native.Nat.{ℕ, _-_, _*_, _<_}
+use Prim.Native.Nat.{_-_, _*_, _<_}
 use native.Mathlib.Omega.{arith}
 use Rattle.records.proofs.plan_of.Statement.{statement}
 use Rattle.records.proofs.plan_of.Tie as tie

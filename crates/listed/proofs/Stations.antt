@@ -26,9 +26,8 @@ use Rattle.reader.specs.Table.{readable, wordCount}
 use Rattle.reader.specs.Words.{wordsOf}
 use Rattle.reader.specs.Determine.{words-length, user-back-1, user-back-2}
 use Rattle.lines.specs.Lines.{staLine}
-use Rattle.listing.specs.Listing.{resources, ownerIn, staLineAt}
-use Rattle.listing.proofs.Outcome.{known-code}
-use Rattle.listing.proofs.Facts.{accepted-signals}
+use Rattle.listed.specs.Listing.{resources, ownerIn, staLineAt}
+use Rattle.listed.proofs.Accepted.{known-code, accepted-signals}
 
 -- ---- how many: "the count is the sum over the row's values", in each channel
 

@@ -1,0 +1,3 @@
+pub mod Owner
+pub mod Accepted
+pub mod Stations
