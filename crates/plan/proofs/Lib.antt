@@ -3,6 +3,7 @@ pub mod Fit
 pub mod Fitting
 pub mod Only
 pub mod Turns
+pub mod Spans
 pub mod Parts
 pub mod Laid
 pub mod Demand

@@ -2,12 +2,12 @@
 use mathlib.Core.Path.{_≡_, _∙_}
 use mathlib.Core.Bool.{Bool, true, false}
 use mathlib.Core.Logic.{⊎-elim}
-use Prim.Native.Nat.{ℕ, _+_, _*_, _/_, _%_, _≤_, _<_}
+use Prim.Native.Nat.{ℕ, _+_, _*_, _/_, _%_, _<_}
 use native.Mathlib.Omega.{arith}
 use native.Mathlib.Numerals.{add-one}
 use native.Mathlib.Nat.{add-zero, zero-add, eq-or-lt-of-le}
 use lib.Dec.{leb}
-use borrow.Author.Tests.{le-leb, lt-leb}
+use borrow.Author.Tests.{lt-leb}
 use Rattle.plan.specs.declared.Owner.{Owner}
 use Rattle.plan.specs.Decides.{Decides}
 use Rattle.plan.specs.Plan.{Fits}
@@ -30,12 +30,8 @@ module _ (row : ℕ → ℕ) (s i k u : ℕ) (o : Owner) (l : i < 4) (ek : k ≡
       (fits-tested (onlyPlan row (4 * s + i)) (4 * s + i) (row (4 * s + i))))
       (rw (← only-in, ← ev) d)
 
-  module _ (n : ℕ) (en : n ≡ total o row (4 * s + i)) where
-    pub eight-turn : n ≤ 8 → leb (total (onlyPlan row (4 * s + i)) row (4 * s + i)) 8 ≡ true
-    eight-turn h = rw (← only-in, ← en) (le-leb n 8 h)
-
-    pub over-turn : 8 < n → leb (total (onlyPlan row (4 * s + i)) row (4 * s + i)) 8 ≡ false
-    over-turn h = rw (← only-in, ← en) (lt-leb n 8 h)
+  pub over-turn : (n : ℕ) → n ≡ total o row (4 * s + i) → 8 < n → leb (total (onlyPlan row (4 * s + i)) row (4 * s + i)) 8 ≡ false
+  over-turn n en h = rw (← only-in, ← en) (lt-leb n 8 h)
 
 -- each position is one channel's
 pub both-channels : (o : Owner) (p v : ℕ) → channelShare 0 o p v + channelShare 1 o p v ≡ share o p v

@@ -284,7 +284,21 @@ pub fn shared_at(row: &[u16], p: usize) -> bool
     2 <= total_of(owner_at(row, p), row, p)
 }
 
-// No resource at the first n positions of segment s is over eight.
+// The position after those that the resource of kind o at position p lies among.
+fn span_end(o: Owner, p: usize) -> usize
+    requires { ⌜ p < 4096 ⌝ }
+    ensures { λ r. ⌜ (p < r) × (r ≤ 4 * (p / 4) + 4) × (r ≡ span o * (p / span o) + span o) ⌝ }
+{
+    match o {
+        Owner::Itself => p + 1,
+        Owner::Pair => 2 * (p / 2) + 2,
+        Owner::Whole => 4 * (p / 4) + 4,
+        Owner::Three(_) => 4 * (p / 4) + 4,
+    }
+}
+
+// No resource at the first n positions of segment s is over eight. Each is counted at the first of its places only; a
+// position that a 484+242 leaves out has eight at most.
 fn segment_eight(row: &[u16], s: usize, n: usize) -> bool
     requires { ⌜ (s < 1023) × (n ≤ 4) ⌝ }
     ensures { λ r. ⌜ r ≡ withinEight (at (now (row .entry))) s n ⌝ }
@@ -294,10 +308,11 @@ fn segment_eight(row: &[u16], s: usize, n: usize) -> bool
     let u = value_at(row, b);
     let mut i: usize = 0;
     while i < n {
-        if 8 < total_of(owner_in(row, k, u, b + i), row, b + i) {
+        let o = owner_in(row, k, u, b + i);
+        if 8 < total_of(o, row, b + i) {
             return false;
         }
-        i += 1;
+        i = span_end(o, b + i) - b;
     }
     true
 }
