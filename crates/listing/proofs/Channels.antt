@@ -4,25 +4,15 @@ use mathlib.Core.List.{List, _++_}
 use Prim.Native.Nat.{ℕ, _+_, _-_, _≤_, _<_}
 use native.Mathlib.Omega.{arith}
 use borrow.Author.Tests.{lt-ltb, le-ltb}
-use lib.ListN.{length, getD}
-use Rattle.answer.specs.Filled.{build, getD-build}
+use lib.ListN.{length}
+use Rattle.answer.specs.Filled.{getD-build}
 use Rattle.text.specs.Text.{upto}
 use Rattle.text.specs.Laws.{upto-append, upto-cong}
-use Rattle.bits.specs.Bits.{field}
-use Rattle.channel.specs.Layout.{userAt}
 use Rattle.plan.specs.Plan.{at}
 use Rattle.plan.specs.Guess.{onlyPlan}
 use Rattle.records.specs.Owns.{ownerOf}
-use Rattle.lines.specs.Lines.{staLine}
+use Rattle.listing.specs.Owned.{ownedLine, ownersIn}
 use Rattle.listed.specs.Listing.{ownerIn, staLineAt, staLines}
-
--- the line of field i of a channel whose bytes are s, its owner the i-th number
-abbrev pub ownedLine : ℕ → List ℕ → List ℕ → ℕ → List ℕ
-ownedLine bw s owners i = staLine (field s (userAt bw i) 11) (getD owners i 0 + 1)
-
--- the numbers of the owners of channel c's fields, from 0
-abbrev pub ownersIn : List ℕ → ℕ → List ℕ
-ownersIn r c = build (ownerOf (onlyPlan (at r)) (at r) c (length r)) 72
 
 module _ (bw : ℕ) (r a b : List ℕ) (m : ℕ) where
   in-first : (i : ℕ) → i < 72 → i < m → staLineAt bw r a b m i ≡ ownedLine bw a (ownersIn r 0) i

@@ -12,12 +12,10 @@ ghost use mathlib.Core.Path.{_≡_};
 ghost use Prim.Native.Nat.{_+_, _*_, _≤_, _<_};
 ghost use lib.ListN.{length, getD};
 ghost use Rattle.text.specs.Text.{Wrote, upto};
-ghost use Rattle.bits.specs.Bits.{field};
-ghost use Rattle.channel.specs.Layout.{userAt};
 ghost use Rattle.input.specs.Parse.{bytesAt, secondAt};
-ghost use Rattle.lines.specs.Lines.{staLine};
 ghost use Rattle.records.specs.Records.{leftOut};
 ghost use Rattle.records.specs.Tables.{kindsOf, numbersOf};
+ghost use Rattle.listing.specs.Owned.{ownedLine, ownersIn};
 ghost use Rattle.longest.specs.Longest.{longestAt};
 ghost use Rattle.listed.specs.Listing.{recordLine, listedAt, resources, ruLines, staLines, listingOf, listing, listAnswer, listAfter, frameText, programText};
 
@@ -76,7 +74,7 @@ fn number_at(owners: &[u16; 72], i: usize) -> u16
 // A line for each of the n User fields of a channel, with the numbers of their owners, from 0.
 fn put_channel(out: &mut [u8], at: usize, bw: u32, s: &[u8], owners: &[u16; 72], n: usize) -> usize
     requires { ⌜ (at ≤ 44000) × (n ≤ 72) ⌝ }
-    ensures { λ r. ⌜ Wrote (now (out .entry)) at (upto (λ i. staLine (field (now (s .entry)) (userAt bw i) 11) (getD (now (owners .entry)) i 0 + 1)) n) (now (out .exit)) r ⌝ }
+    ensures { λ r. ⌜ Wrote (now (out .entry)) at (upto (ownedLine bw (now (s .entry)) (now (owners .entry))) n) (now (out .exit)) r ⌝ }
     ensures bounded { λ r. ⌜ r ≤ at + 55 * n ⌝ }
 {
     let mut o = at;
@@ -87,6 +85,29 @@ fn put_channel(out: &mut [u8], at: usize, bw: u32, s: &[u8], owners: &[u16; 72],
         i += 1;
     }
     o
+}
+
+// The same by the row's tables, of channel 0 or 1. One without fields asks for no owners.
+fn put_owned(
+    out: &mut [u8],
+    at: usize,
+    bw: u32,
+    s: &[u8],
+    row: &[u16],
+    kinds: &[u16; 16],
+    before: &[u16; 17],
+    channel: usize,
+    n: usize,
+) -> usize
+    requires { ⌜ (at ≤ 44000) × (n ≤ 72) × (length (now row) ≤ 16) × (now kinds ≡ kindsOf (now row)) × (now before ≡ numbersOf (now row)) ⌝ }
+    ensures { λ r. ⌜ Wrote (now (out .entry)) at (upto (ownedLine bw (now (s .entry)) (ownersIn (now (row .entry)) channel)) n) (now (out .exit)) r ⌝ }
+    ensures bounded { λ r. ⌜ r ≤ at + 55 * n ⌝ }
+{
+    if n == 0 {
+        return at;
+    }
+    let owners = records::owners_of(kinds, before, row, channel);
+    put_channel(out, at, bw, s, &owners, n)
 }
 
 // A line for each User field, of m in channel 1 and k in channel 2, by the row's tables.
@@ -105,10 +126,8 @@ fn put_stations(
     requires { ⌜ (at ≤ 40000) × (m ≤ 72) × (k ≤ 72) × (length (now row) ≤ 16) × (now kinds ≡ kindsOf (now row)) × (now before ≡ numbersOf (now row)) ⌝ }
     ensures { λ r. ⌜ Wrote (now (out .entry)) at (staLines bw (now (row .entry)) (now (a .entry)) (now (b .entry)) m (m + k)) (now (out .exit)) r ⌝ }
 {
-    let first = records::owners_of(kinds, before, row, 0);
-    let second = records::owners_of(kinds, before, row, 1);
-    let o = put_channel(out, at, bw, a, &first, m);
-    put_channel(out, o, bw, b, &second, k)
+    let o = put_owned(out, at, bw, a, row, kinds, before, 0, m);
+    put_owned(out, o, bw, b, row, kinds, before, 1, k)
 }
 
 // The listing of a frame whose row is given with its tables, with m fields in channel 1 and k in channel 2.
