@@ -1,6 +1,6 @@
 -- `brachymel::refused_early` meets its contract. Assumes nothing.
 use Rattle.brachymel.specs.Early.{early}
-use mathlib.Core.Path.{_∙_}
+use mathlib.Core.Path.{refl, _∙_}
 use borrow.Author.Needs.{needs}
 use Rattle.brachymel.proofs.refused_early.Statement.{statement}
 use Rattle.brachymel.proofs.refused_early.Tie as tie
@@ -22,7 +22,7 @@ or-else-requires-2 c κs = search needs
 
 returns : tie.Need-returns
 unfolding early
-returns c = c .or-else2 .ensures ∙ cc (c .before .or-else .ensures, c .before .before .refuse-if3 .ensures, c .before .before .before .refuse-if2 .ensures, c .before .before .before .before .refuse-if .ensures)
+returns c = c .or-else2 .ensures ∙ rw (c .before .or-else .ensures, c .before .before .refuse-if3 .ensures, c .before .before .before .refuse-if2 .ensures, c .before .before .before .before .refuse-if .ensures) refl
 
 pub refused-early-spec : {M : Type 1} → statement M
 refused-early-spec =
