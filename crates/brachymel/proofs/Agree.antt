@@ -6,8 +6,8 @@ use Prim.Native.Nat.{_*_, _/_}
 use Rattle.answer.specs.declared.Answer.{Answer}
 use Rattle.answer.specs.Order.{after-kept}
 use Rattle.answer.specs.Filled.{filled}
-use Rattle.reader.specs.Table.{reading, wordCount}
-use Rattle.reader.specs.Words.{wordsOf}
+use Rattle.frame.specs.Words.{wordCount, wordsOf}
+use Rattle.reader.specs.Table.{reading}
 use Rattle.reader.specs.Result.{answerOf}
 use Rattle.brachymel.specs.Bytes.{byteAt, readBytes}
 use Rattle.brachymel.proofs.brachymel_read.Reads as read

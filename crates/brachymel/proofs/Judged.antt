@@ -11,9 +11,9 @@ use Rattle.answer.specs.Order.{Only, only-if, only-or, firstOf, first-chain, Gi
 use Rattle.answer.specs.declared.Answer.{Answer}
 use Rattle.answer.specs.declared.Out.{Out}
 use Rattle.answer.specs.declared.Out.the-variants.{Pass, Refuse}
-use Rattle.reader.specs.Table.{check1}
-use Rattle.reader.specs.Judged.{Judged, judged}
-use Rattle.writer.specs.Candidate.{needed, candidate}
+use Rattle.table.specs.Table.{check1}
+use Rattle.table.specs.Judged.{Judged, judged}
+use Rattle.candidate.specs.Candidate.{needed, candidate}
 use Rattle.writer.specs.Result.{check13, check14, writing, front}
 use Rattle.writer.proofs.Exactly.{numbers, only-1, only-13, only-14}
 use Rattle.listing.proofs.Facts.{list-kept}

@@ -11,11 +11,11 @@ use Rattle.answer.specs.declared.Answer.{Answer}
 use Rattle.answer.specs.declared.Out.{Out}
 use Rattle.answer.specs.declared.Out.the-variants.{Pass}
 use Rattle.words.specs.Words.{nth}
-use Rattle.reader.specs.Table.{reading, wordCount}
-use Rattle.reader.specs.Words.{wordsOf}
+use Rattle.frame.specs.Words.{wordCount, wordsOf}
+use Rattle.reader.specs.Table.{reading}
 use Rattle.reader.specs.Result.{answerOf, wordsAfter}
 use Rattle.reader.specs.Stages.{reading-pass}
-use Rattle.reader.specs.Determine.{words-length}
+use Rattle.frame.specs.Determine.{words-length}
 use Rattle.reader.proofs.Exactly.{accepted-exactly}
 use Rattle.brachymel.specs.Bytes.{byteAt, readAnswer, readBytes}
 use Rattle.brachymel.specs.Rooms.{reading-room}

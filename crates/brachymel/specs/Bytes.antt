@@ -12,10 +12,11 @@ use Rattle.answer.specs.Filled.{build, filled}
 use Rattle.answer.specs.declared.Answer.{Answer}
 use Rattle.answer.specs.declared.Out.{Out}
 use Rattle.words.specs.Words.{nth}
-use Rattle.reader.specs.Table.{check1, reading, wordCount}
-use Rattle.reader.specs.Words.{wordsOf}
+use Rattle.table.specs.Table.{check1}
+use Rattle.frame.specs.Words.{wordCount, wordsOf}
+use Rattle.reader.specs.Table.{reading}
 use Rattle.reader.specs.Result.{answerOf}
-use Rattle.writer.specs.Candidate.{needed, candidate}
+use Rattle.candidate.specs.Candidate.{needed, candidate}
 use Rattle.writer.specs.Result.{writing, front}
 
 -- byte 4 i + k of the text is byte k, the lowest first, of word i

@@ -13,13 +13,13 @@ use Rattle.answer.specs.Filled.{length-build}
 use Rattle.answer.specs.declared.Answer.{Answer}
 use Rattle.answer.specs.declared.Out.{Out}
 use Rattle.answer.specs.declared.Out.the-variants.{Pass, Refuse}
-use Rattle.reader.specs.Table.{check1, readable}
-use Rattle.reader.specs.Words.{wordsOf}
-use Rattle.reader.specs.Determine.{words-length}
-use Rattle.writer.specs.Candidate.{candidate}
+use Rattle.table.specs.Table.{check1, readable}
+use Rattle.frame.specs.Words.{wordsOf}
+use Rattle.frame.specs.Determine.{words-length}
+use Rattle.candidate.specs.Candidate.{candidate}
 use Rattle.writer.specs.Result.{sameWords, readsTo, notRead, check13, check14, writing}
 use Rattle.brachymel.specs.Bytes.{wordAt, wordsIn, ragged, writingText}
-use Rattle.reader.specs.Stages.{word-count-le}
+use Rattle.frame.specs.Counted.{word-count-le}
 
 unfoldable pub early : ℕ → ℕ → ℕ → Out
 early bw bytes n =

@@ -7,8 +7,11 @@ use native.Mathlib.Omega.{arith}
 use lib.Dec.{ltb}
 use borrow.Author.Tests.{ltb-true, ltb-false, lt-ltb, le-ltb}
 use Rattle.answer.specs.Answer.{no, refuseIf, _or_}
-use Rattle.reader.specs.Table.{readable, reading, wordCount, noRoom, check12}
-use Rattle.reader.specs.Stages.{word-count-le, reading-stages}
+use Rattle.table.specs.Table.{readable}
+use Rattle.frame.specs.Words.{wordCount}
+use Rattle.reader.specs.Table.{reading, noRoom, check12}
+use Rattle.frame.specs.Counted.{word-count-le}
+use Rattle.reader.specs.Stages.{reading-stages}
 
 same-room : (need r : ℕ) → need ≤ 154 → ltb (min r 154) need ≡ ltb r need
 same-room need r l = go (ltb r need) refl

@@ -18,8 +18,12 @@ use Rattle.plan.specs.Guess.{answer7, answer8, layoutOf}
 use Rattle.plan.proofs.Laid.{layout-laid, part-signals}
 use Rattle.plan.proofs.Demand.{plan-accepted, plan-parts}
 use Rattle.channel.specs.Layout.{row}
-use Rattle.reader.specs.Table.{check7, check8, check12, noRoom, readable, reading, wordCount}
-use Rattle.reader.specs.Stages.{word-count-le, userChecks, reading-stages, readable-rest}
+use Rattle.table.specs.Table.{check7, check8, readable}
+use Rattle.frame.specs.Words.{wordCount}
+use Rattle.reader.specs.Table.{check12, noRoom, reading}
+use Rattle.table.specs.Stages.{userChecks, readable-rest}
+use Rattle.frame.specs.Counted.{word-count-le}
+use Rattle.reader.specs.Stages.{reading-stages}
 use Rattle.reader.specs.Result.{answerOf}
 use Rattle.reader.proofs.Exactly.{refused-exactly}
 use Rattle.reader.proofs.read.Reads as read

@@ -19,18 +19,18 @@ use Rattle.resource.specs.Values.{carried, fieldsOf}
 use Rattle.resource.proofs.Fields.{carried-high, fields-most}
 use Rattle.plan.specs.Plan.{at}
 use Rattle.channel.specs.Layout.{positions, present, overflow, ltfSymbols, subfields, subfieldsIn, value, rowAt, row, total, count, userAt, blocks}
-use Rattle.channel.specs.Checks.{tooLong, cutCommon, wrongCommon, notCarried, cutUsers, wrongUsers}
+use Rattle.faults.specs.Checks.{tooLong, cutCommon, wrongCommon, notCarried, cutUsers, wrongUsers}
 use Rattle.channel.specs.Laws.{present-1, absent-2, subfields-le, subfieldsIn-le, common-le, total-cong, total-le, row-length, row-at, position-subfield, end-le}
-use Rattle.channel.specs.Passing.{tooLong-pass, pass-tooLong, pass-cutCommon, pass-wrongCommon, pass-overflowDiffers, pass-notCarried, pass-cutUsers, pass-wrongUsers}
+use Rattle.faults.specs.Passing.{tooLong-pass, pass-tooLong, pass-cutCommon, pass-wrongCommon, pass-overflowDiffers, pass-notCarried, pass-cutUsers, pass-wrongUsers}
 use Rattle.stations.specs.Stations.{stationOf, repeated, firstRepeated, stationTwice}
-use Rattle.reader.specs.Table.{check1, check2, check3, check4, check5, check6, check9, check10, check11}
-use Rattle.reader.specs.Words.{positionOf}
-use Rattle.reader.specs.Stages.{commonChecks, userChecks}
-use Rattle.reader.specs.Determine.{place-1, place-2, value-1, value-2}
-use Rattle.writer.specs.Candidate.{payload, sealed}
-use Rattle.writer.specs.Carries.{Carries}
-use Rattle.writer.specs.Built.{sealed-carries, sealed-length, sealed-small}
-use Rattle.writer.specs.Inverse.{blank}
+use Rattle.table.specs.Table.{check1, check2, check3, check4, check5, check6, check9, check10, check11}
+use Rattle.frame.specs.Words.{positionOf}
+use Rattle.table.specs.Stages.{commonChecks, userChecks}
+use Rattle.frame.specs.Determine.{place-1, place-2, value-1, value-2}
+use Rattle.candidate.specs.Candidate.{payload, sealed}
+use Rattle.candidate.specs.Carries.{Carries}
+use Rattle.candidate.specs.Built.{sealed-carries, sealed-length, sealed-small}
+use Rattle.candidate.specs.Held.{blank}
 use Rattle.carried.specs.Carried.{CarriedRow, Carry}
 
 -- a carried value has nine bits, of which seven are used

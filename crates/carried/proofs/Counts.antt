@@ -11,9 +11,9 @@ use Rattle.plan.specs.Plan.{at}
 use Rattle.channel.specs.Layout.{positions, present, firsts, seconds, subfields, subfieldsIn, value, row, total, count}
 use Rattle.channel.specs.Laws.{half, subfields-wide, total-cong, row-length, row-even, row-odd}
 use Rattle.records.specs.Owns.{fieldsBefore, ComesFrom}
-use Rattle.reader.specs.Words.{before, giver, positionOf}
-use Rattle.reader.specs.Determine.{place-1, place-2}
-use Rattle.reader.proofs.Givers.{giver-is, before-next}
+use Rattle.frame.specs.Words.{before, giver, positionOf}
+use Rattle.frame.specs.Determine.{place-1, place-2}
+use Rattle.frame.proofs.Givers.{giver-is, before-next}
 
 -- channel c, from 0, has the positions 2 * k + c: of the first n, (n + 1 - c) / 2
 by-values : (c : ℕ) → c < 2 → (f : ℕ → ℕ) (n : ℕ) → fieldsBefore c f n ≡ total (λ k. fieldsOf (f (2 * k + c))) ((n + 1 - c) / 2)

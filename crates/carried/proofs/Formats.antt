@@ -30,10 +30,12 @@ use Rattle.records.proofs.Owners.{before-next, before-rise, in-own, some-pieces
 use Rattle.records.proofs.Shares.{low-share, share-fields, own-fieldsIn, home-piece, home-whole, owner-listed}
 use Rattle.channel.specs.Layout.{row, count, userAt}
 use Rattle.words.specs.Words.{nth, userWord}
-use Rattle.reader.specs.Table.{check12, readable, reading, wordCount}
-use Rattle.reader.specs.Words.{giver, positionOf, sharedAt, userWordAt, wordsOf}
-use Rattle.reader.specs.Stages.{commonChecks, userChecks, readable-stages, reading-stages, reading-pass}
-use Rattle.reader.specs.Determine.{words-length, word-1, word-2}
+use Rattle.table.specs.Table.{readable}
+use Rattle.frame.specs.Words.{wordCount, giver, positionOf, sharedAt, userWordAt, wordsOf}
+use Rattle.reader.specs.Table.{check12, reading}
+use Rattle.table.specs.Stages.{commonChecks, userChecks, readable-stages}
+use Rattle.reader.specs.Stages.{reading-stages, reading-pass}
+use Rattle.frame.specs.Determine.{words-length, word-1, word-2}
 use Rattle.reader.specs.Result.{wordsAfter}
 use Rattle.reader.proofs.Exactly.{accepted-exactly}
 use Rattle.reader.proofs.read.Reads as read

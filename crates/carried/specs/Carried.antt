@@ -14,7 +14,7 @@ use Rattle.resource.specs.Values.{carried}
 use Rattle.plan.specs.Plan.{at}
 use Rattle.plan.specs.Layout.{segments, PlanOfEight, SegmentPlan, SegmentOfEight}
 use Rattle.channel.specs.Layout.{positions, row}
-use Rattle.reader.specs.Stages.{commonChecks}
+use Rattle.table.specs.Stages.{commonChecks}
 
 -- "any bandwidth and any row of carried RU Allocation values of the number it needs" (the third demand)
 pub record CarriedRow (bw : ℕ) (r : List ℕ) : Type 0 where

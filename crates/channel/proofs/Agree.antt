@@ -12,14 +12,8 @@ use Rattle.channel.proofs.value_of.Reads as value-of
 use Rattle.channel.proofs.count_of.Reads as count-of
 use Rattle.channel.proofs.fill_row.Reads as fill-row
 use Rattle.channel.proofs.user_bit.Reads as user-bit
+use Rattle.channel.proofs.covered_bits.Reads as covered-bits
 use Rattle.channel.proofs.end_bit.Reads as end-bit
-use Rattle.channel.proofs.too_long.Reads as too-long
-use Rattle.channel.proofs.cut_common.Reads as cut-common
-use Rattle.channel.proofs.wrong_common.Reads as wrong-common
-use Rattle.channel.proofs.overflow_differs.Reads as overflow-differs
-use Rattle.channel.proofs.not_carried.Reads as not-carried
-use Rattle.channel.proofs.cut_users.Reads as cut-users
-use Rattle.channel.proofs.wrong_users.Reads as wrong-users
 
 pub is-present-agrees : (κs : _) (a : _) (r r' : _) (s s' : _) → is-present.Post κs a r s → is-present.Post κs a r' s' → r ≡ r'
 is-present-agrees κs a r r' s s' p q = p ∙ sym q
@@ -57,26 +51,8 @@ fill-row-agrees κs a r r' s s' p q = p ∙ sym q
 pub user-bit-agrees : (κs : _) (a : _) (r r' : _) (s s' : _) → user-bit.Post κs a r s → user-bit.Post κs a r' s' → r ≡ r'
 user-bit-agrees κs a r r' s s' p q = p ∙ sym q
 
+pub covered-bits-agrees : (κs : _) (a : _) (r r' : _) (s s' : _) → covered-bits.Post κs a r s → covered-bits.Post κs a r' s' → r ≡ r'
+covered-bits-agrees κs a r r' s s' p q = p .0 ∙ sym (q .0)
+
 pub end-bit-agrees : (κs : _) (a : _) (r r' : _) (s s' : _) → end-bit.Post κs a r s → end-bit.Post κs a r' s' → r ≡ r'
 end-bit-agrees κs a r r' s s' p q = p .0 ∙ sym (q .0)
-
-pub too-long-agrees : (κs : _) (a : _) (r r' : _) (s s' : _) → too-long.Post κs a r s → too-long.Post κs a r' s' → r ≡ r'
-too-long-agrees κs a r r' s s' p q = p ∙ sym q
-
-pub cut-common-agrees : (κs : _) (a : _) (r r' : _) (s s' : _) → cut-common.Post κs a r s → cut-common.Post κs a r' s' → r ≡ r'
-cut-common-agrees κs a r r' s s' p q = p ∙ sym q
-
-pub wrong-common-agrees : (κs : _) (a : _) (r r' : _) (s s' : _) → wrong-common.Post κs a r s → wrong-common.Post κs a r' s' → r ≡ r'
-wrong-common-agrees κs a r r' s s' p q = p ∙ sym q
-
-pub overflow-differs-agrees : (κs : _) (a : _) (r r' : _) (s s' : _) → overflow-differs.Post κs a r s → overflow-differs.Post κs a r' s' → r ≡ r'
-overflow-differs-agrees κs a r r' s s' p q = p ∙ sym q
-
-pub not-carried-agrees : (κs : _) (a : _) (r r' : _) (s s' : _) → not-carried.Post κs a r s → not-carried.Post κs a r' s' → r ≡ r'
-not-carried-agrees κs a r r' s s' p q = p ∙ sym q
-
-pub cut-users-agrees : (κs : _) (a : _) (r r' : _) (s s' : _) → cut-users.Post κs a r s → cut-users.Post κs a r' s' → r ≡ r'
-cut-users-agrees κs a r r' s s' p q = p ∙ sym q
-
-pub wrong-users-agrees : (κs : _) (a : _) (r r' : _) (s s' : _) → wrong-users.Post κs a r s → wrong-users.Post κs a r' s' → r ≡ r'
-wrong-users-agrees κs a r r' s s' p q = p ∙ sym q

@@ -1,12 +1,7 @@
-// Where everything lies in a channel, by bandwidth code, and the answers 2 to 6, 9 and 10.
-use answer::Out;
+// Where everything lies in a channel, by bandwidth code: its fields, its row of values, its User fields and blocks.
 ghost use mathlib.Core.Path.{_≡_};
 ghost use Prim.Native.Nat.{_+_, _*_, _≤_, _<_};
-ghost use lib.ListN.{length};
-ghost use Rattle.answer.specs.Least.{least};
-ghost use Rattle.bits.specs.Bits.{differs};
-ghost use Rattle.channel.specs.Layout.{positions, present, firsts, seconds, firstBits, secondBits, hasSecond, common, subfieldsIn, valueAt, value, rowAt, rowIn16, count, userAt, blockAt, covered, endOf};
-ghost use Rattle.channel.specs.Checks.{lent, tooLong, cutCommon, wrongFirst, wrongSecond, wrongCommon, overflowDiffers, foreign, firstForeign, notCarried, cutUsers, wrongBlock, firstWrong, wrongUsers};
+ghost use Rattle.channel.specs.Layout.{positions, present, firsts, seconds, firstBits, secondBits, hasSecond, common, subfieldsIn, valueAt, value, rowAt, rowIn16, count, userAt, covered, endOf};
 
 // Whether the bandwidth has the channel.
 pub fn is_present(bw: u32, channel: u32) -> bool
@@ -155,16 +150,8 @@ pub fn user_bit(bw: u32, i: usize) -> usize
     common_bits(bw) + 54 * (i / 2) + 22 * (i % 2)
 }
 
-// The first bit of User block b, and the bits of it that its check covers, of n fields.
-fn block_bit(bw: u32, b: usize) -> usize
-    requires { ⌜ b ≤ 36 ⌝ }
-    ensures { λ r. ⌜ r ≡ blockAt bw b ⌝ }
-    ensures { λ r. ⌜ r ≤ 2053 ⌝ }
-{
-    common_bits(bw) + 54 * b
-}
-
-fn covered_bits(n: usize, b: usize) -> usize
+// The bits of User block b that its check covers, of n fields.
+pub fn covered_bits(n: usize, b: usize) -> usize
     requires { ⌜ b ≤ 36 ⌝ }
     ensures { λ r. ⌜ r ≡ covered n b ⌝ }
     ensures { λ r. ⌜ r ≤ 44 ⌝ }
@@ -179,162 +166,4 @@ pub fn end_bit(bw: u32, n: usize) -> usize
     ensures { λ r. ⌜ r ≤ 2053 ⌝ }
 {
     common_bits(bw) + 54 * (n / 2) + 32 * (n % 2)
-}
-
-// Answer 2 for one channel.
-pub fn too_long(bw: u32, channel: u32, s: &[u8]) -> Out
-    ensures { λ r. ⌜ r ≡ tooLong bw channel (now (s .entry)) ⌝ }
-{
-    let there = is_present(bw, channel);
-    answer::refuse_if((512 < s.len()) | (!there & (0 < s.len())), 2, channel, 0)
-}
-
-// The place of 3 and of 9.
-fn lent_bits(s: &[u8]) -> usize
-    requires { ⌜ length (now s) ≤ 512 ⌝ }
-    ensures { λ r. ⌜ r ≡ lent (now (s .entry)) ⌝ }
-{
-    8 * s.len()
-}
-
-// Answer 3.
-pub fn cut_common(bw: u32, channel: u32, s: &[u8]) -> Out
-    requires { ⌜ length (now s) ≤ 512 ⌝ }
-    ensures { λ r. ⌜ r ≡ cutCommon bw channel (now (s .entry)) ⌝ }
-{
-    let there = is_present(bw, channel);
-    let needed = common_bits(bw);
-    answer::refuse_if(there & (8 * s.len() < needed), 3, channel, lent_bits(s))
-}
-
-fn is_wrong_first(bw: u32, channel: u32, s: &[u8]) -> bool
-    ensures { λ r. ⌜ r ≡ wrongFirst bw channel (now (s .entry)) ⌝ }
-{
-    if is_present(bw, channel) {
-        !check4::block_right(s, 0, first_bits(bw))
-    } else {
-        false
-    }
-}
-
-fn is_wrong_second(bw: u32, channel: u32, s: &[u8]) -> bool
-    ensures { λ r. ⌜ r ≡ wrongSecond bw channel (now (s .entry)) ⌝ }
-{
-    if is_present(bw, channel) & has_second(bw) {
-        !check4::block_right(s, first_bits(bw) + 10, second_bits(bw))
-    } else {
-        false
-    }
-}
-
-// Answer 4.
-pub fn wrong_common(bw: u32, channel: u32, s: &[u8]) -> Out
-    ensures { λ r. ⌜ r ≡ wrongCommon bw channel (now (s .entry)) ⌝ }
-{
-    let first = first_bits(bw);
-    let second = first + 10 + second_bits(bw);
-    answer::or_else(
-        answer::refuse_if(is_wrong_first(bw, channel, s), 4, channel, first),
-        answer::refuse_if(is_wrong_second(bw, channel, s), 4, channel, second),
-    )
-}
-
-// The lowest overflow bit in which the channels differ, 17 for none. Equal ones, the usual case, in one look.
-fn overflow_diff(a: &[u8], b: &[u8]) -> usize
-    ensures { λ r. ⌜ r ≡ least (differs (now (a .entry)) (now (b .entry))) 17 ⌝ }
-{
-    if bits::field_at(a, 0, 17) == bits::field_at(b, 0, 17) {
-        return 17;
-    }
-    bits::first_diff(a, b, 0, 17)
-}
-
-// Answer 5.
-pub fn overflow_differs(bw: u32, a: &[u8], b: &[u8]) -> Out
-    ensures { λ r. ⌜ r ≡ overflowDiffers bw (now (a .entry)) (now (b .entry)) ⌝ }
-{
-    let symbols = bits::field_at(a, 6, 3);
-    let there = is_present(bw, 2);
-    let k = overflow_diff(a, b);
-    answer::or_else(
-        answer::refuse_if(4 < symbols, 5, 1, 6),
-        answer::refuse_if(there & (k < 17), 5, 2, k),
-    )
-}
-
-fn is_foreign(bw: u32, s: &[u8], k: usize) -> bool
-    requires { ⌜ k ≤ 8 ⌝ }
-    ensures { λ r. ⌜ r ≡ foreign bw (now (s .entry)) k ⌝ }
-{
-    !resource::is_carried(value_of(bw, s, k))
-}
-
-fn first_foreign(bw: u32, channel: u32, s: &[u8]) -> usize
-    ensures { λ r. ⌜ r ≡ firstForeign bw channel (now (s .entry)) ⌝ }
-    ensures { λ r. ⌜ r ≤ 8 ⌝ }
-{
-    let n = subfields_of(bw, channel);
-    let mut k: usize = 0;
-    while k < n {
-        if is_foreign(bw, s, k) {
-            return k;
-        }
-        k += 1;
-    }
-    k
-}
-
-// Answer 6.
-pub fn not_carried(bw: u32, channel: u32, s: &[u8]) -> Out
-    ensures { λ r. ⌜ r ≡ notCarried bw channel (now (s .entry)) ⌝ }
-{
-    let n = subfields_of(bw, channel);
-    let k = first_foreign(bw, channel, s);
-    answer::refuse_if(k < n, 6, channel, value_bit(bw, k))
-}
-
-// Answer 9, of a channel that has n fields.
-pub fn cut_users(bw: u32, channel: u32, s: &[u8], n: usize) -> Out
-    requires { ⌜ (length (now s) ≤ 512) × (n ≤ 72) × (n ≡ count bw channel (now s)) ⌝ }
-    ensures { λ r. ⌜ r ≡ cutUsers bw channel (now (s .entry)) ⌝ }
-{
-    let needed = end_bit(bw, n);
-    answer::refuse_if((0 < n) & (8 * s.len() < needed), 9, channel, lent_bits(s))
-}
-
-fn is_wrong_block(bw: u32, s: &[u8], n: usize, b: usize) -> bool
-    requires { ⌜ b ≤ 36 ⌝ }
-    ensures { λ r. ⌜ r ≡ wrongBlock bw (now (s .entry)) n b ⌝ }
-{
-    !check4::block_right(s, block_bit(bw, b), covered_bits(n, b))
-}
-
-fn first_wrong(bw: u32, s: &[u8], n: usize) -> usize
-    requires { ⌜ n ≤ 72 ⌝ }
-    ensures { λ r. ⌜ r ≡ firstWrong bw (now (s .entry)) n ⌝ }
-    ensures { λ r. ⌜ r ≤ 36 ⌝ }
-{
-    let m = (n + 1) / 2;
-    let mut b: usize = 0;
-    while b < m {
-        if is_wrong_block(bw, s, n, b) {
-            return b;
-        }
-        b += 1;
-    }
-    b
-}
-
-// Answer 10, of a channel that has n fields.
-pub fn wrong_users(bw: u32, channel: u32, s: &[u8], n: usize) -> Out
-    requires { ⌜ (n ≤ 72) × (n ≡ count bw channel (now s)) ⌝ }
-    ensures { λ r. ⌜ r ≡ wrongUsers bw channel (now (s .entry)) ⌝ }
-{
-    let b = first_wrong(bw, s, n);
-    answer::refuse_if(
-        b < (n + 1) / 2,
-        10,
-        channel,
-        block_bit(bw, b) + covered_bits(n, b),
-    )
 }

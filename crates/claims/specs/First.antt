@@ -11,12 +11,13 @@ use mathlib.Core.Path.{_≡_}
 use Prim.Native.Nat.{_/_}
 use lib.ListN.{length}
 use denote.Ref.{now}
-use Rattle.reader.specs.Table.{table, wordCount}
-use Rattle.reader.specs.Judged.{Judged}
+use Rattle.frame.specs.Words.{wordCount}
+use Rattle.reader.specs.Table.{table}
+use Rattle.table.specs.Judged.{Judged}
 use Rattle.reader.proofs.Exactly as reading
 use Rattle.reader.proofs.Agree as reader
 use Rattle.reader.proofs.read.Reads as read
-use Rattle.writer.specs.Candidate.{needed}
+use Rattle.candidate.specs.Candidate.{needed}
 use Rattle.writer.proofs.Exactly as writing
 use Rattle.writer.proofs.Agree as writer
 use Rattle.writer.proofs.write.Reads as write

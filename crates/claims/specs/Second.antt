@@ -17,9 +17,9 @@ use Rattle.answer.specs.Answer.{no}
 use Rattle.bits.specs.Writes.{Small}
 use Rattle.channel.specs.Layout.{present, count}
 use Rattle.reader.specs.Result.{answerOf, wordsAfter}
-use Rattle.reader.specs.Determine.{SameFrame}
+use Rattle.frame.specs.Determine.{SameFrame}
 use Rattle.reader.proofs.read.Reads as read
-use Rattle.writer.specs.Candidate.{bytesFor}
+use Rattle.candidate.specs.Candidate.{bytesFor}
 use Rattle.writer.proofs.write.Reads as write
 use Rattle.writer.proofs.Inverse.{Accepts, GivenBack, write-after-read, read-after-write, thirteen-none, none-thirteen, equal-words}
 use Rattle.carried.specs.Formats.{UserWords}

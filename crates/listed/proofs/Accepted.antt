@@ -11,8 +11,8 @@ use Rattle.plan.specs.Plan.{at, Signals}
 use Rattle.plan.specs.Guess.{onlyPlan, layoutOf}
 use Rattle.plan.specs.Layout.{Laid, accepted, no-plan, over-eight}
 use Rattle.plan.proofs.Laid.{part-plan, whole-signals, layout-laid}
-use Rattle.reader.specs.Table.{readable}
-use Rattle.reader.specs.Stages.{commonChecks, userChecks, readable-stages, common-pass}
+use Rattle.table.specs.Table.{readable}
+use Rattle.table.specs.Stages.{commonChecks, userChecks, readable-stages, common-pass}
 
 pub known-code : (bw : ℕ) (a b : List ℕ) → readable bw a b ≡ Pass → bw ≤ 4
 known-code bw a b e =

@@ -22,9 +22,9 @@ use Rattle.plan.specs.Guess.{onlyPlan}
 use Rattle.records.specs.Owns.{fieldsBefore, Owns}
 use Rattle.records.proofs.Owners.{owner-owns}
 use Rattle.records.proofs.Shares.{owner-listed}
-use Rattle.reader.specs.Table.{readable, wordCount}
-use Rattle.reader.specs.Words.{wordsOf}
-use Rattle.reader.specs.Determine.{words-length, user-back-1, user-back-2}
+use Rattle.table.specs.Table.{readable}
+use Rattle.frame.specs.Words.{wordCount, wordsOf}
+use Rattle.frame.specs.Determine.{words-length, user-back-1, user-back-2}
 use Rattle.lines.specs.Lines.{staLine}
 use Rattle.listed.specs.Listing.{resources, ownerIn, staLineAt}
 use Rattle.listed.proofs.Accepted.{known-code, accepted-signals}

@@ -19,7 +19,7 @@ use Rattle.records.specs.declared.Record.{Record}
 use Rattle.records.specs.Records.{listAt, recordsOf, blank}
 use Rattle.records.specs.Owns.{ownerOf}
 use Rattle.stations.specs.Stations.{stationOf}
-use Rattle.reader.specs.Table.{readable}
+use Rattle.table.specs.Table.{readable}
 use Rattle.input.specs.declared.Parsed.{Parsed}
 use Rattle.input.specs.declared.Parsed.the-variants.{Wrong, Lines}
 use Rattle.input.specs.Parse.{parsed, bytesAt, secondAt}

@@ -17,8 +17,11 @@ use Rattle.answer.specs.declared.Out.the-variants.{Pass, Refuse}
 use Rattle.text.specs.Text.{upto}
 use Rattle.channel.specs.Layout.{row, count}
 use Rattle.records.specs.Records.{blank}
-use Rattle.reader.specs.Table.{readable, check12, noRoom, wordCount}
-use Rattle.reader.specs.Stages.{word-count-le, reading-stages}
+use Rattle.table.specs.Table.{readable}
+use Rattle.frame.specs.Words.{wordCount}
+use Rattle.reader.specs.Table.{check12, noRoom}
+use Rattle.frame.specs.Counted.{word-count-le}
+use Rattle.reader.specs.Stages.{reading-stages}
 use Rattle.reader.specs.Result.{answerOf}
 use Rattle.input.specs.Parse.{parsed}
 use Rattle.lines.specs.Lines.{headText}

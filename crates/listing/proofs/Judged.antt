@@ -10,9 +10,9 @@ use Rattle.answer.specs.Answer.{_or_}
 use Rattle.answer.specs.Order.{Only, only-if, firstOf, first-append, or-end, distinct, absent}
 use Rattle.answer.specs.declared.Answer.{Answer}
 use Rattle.answer.specs.declared.Out.{Out}
-use Rattle.reader.specs.Table.{eleven, readable}
-use Rattle.reader.specs.Judged.{Judged, judged}
-use Rattle.reader.proofs.Exactly.{eleven-then}
+use Rattle.table.specs.Table.{eleven, readable}
+use Rattle.table.specs.Judged.{Judged, judged}
+use Rattle.table.proofs.Exactly.{eleven-then}
 use Rattle.listed.specs.Listing.{listing, check23, listable, listAnswer}
 use Rattle.listing.proofs.Facts.{list-kept}
 use Rattle.listing.proofs.list.Reads as list

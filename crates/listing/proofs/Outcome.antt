@@ -11,7 +11,7 @@ use Rattle.answer.specs.declared.Answer.{Answer}
 use Rattle.answer.specs.declared.Out.the-variants.{Pass, Refuse}
 use Rattle.text.specs.Text.{Wrote}
 use Rattle.text.specs.Laws.{dry, count, front}
-use Rattle.reader.specs.Table.{readable}
+use Rattle.table.specs.Table.{readable}
 use Rattle.listed.specs.Listing.{listing, check23, listable, listAnswer, listAfter}
 
 module _ (bw : ℕ) (a b d : List ℕ) where

@@ -192,7 +192,7 @@ pub fn list(bandwidth: u32, cc1: &[u8], cc2: &[u8], out: &mut [u8]) -> Answer
     ensures { λ r. ⌜ r ≡ listAnswer bandwidth (now (cc1 .entry)) (now (cc2 .entry)) (length (now (out .entry))) ⌝ }
     ensures { λ _. ⌜ now (out .exit) ≡ listAfter bandwidth (now (cc1 .entry)) (now (cc2 .entry)) (now (out .entry)) ⌝ }
 {
-    let checked = reader::check_frame(bandwidth, cc1, cc2);
+    let checked = table::check_frame(bandwidth, cc1, cc2);
     if let Out::Refuse(x) = checked {
         return x;
     }
@@ -226,7 +226,7 @@ pub fn list(bandwidth: u32, cc1: &[u8], cc2: &[u8], out: &mut [u8]) -> Answer
 fn put_outcome(out: &mut [u8], bw: u32, a: &[u8], b: &[u8]) -> usize
     ensures { λ r. ⌜ Wrote (now (out .entry)) 0 (frameText bw (now (a .entry)) (now (b .entry))) (now (out .exit)) r ⌝ }
 {
-    let checked = reader::check_frame(bw, a, b);
+    let checked = table::check_frame(bw, a, b);
     if let Out::Refuse(x) = checked {
         return put_refusal(out, x.number, x.channel, x.place);
     }

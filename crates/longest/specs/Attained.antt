@@ -16,7 +16,7 @@ use Rattle.bits.specs.Bits.{bit, field, differs}
 use Rattle.check4.specs.Check.{step, register, sent, check, right}
 use Rattle.resource.specs.Values.{carried, pieces, fieldsOf, ownPieces}
 use Rattle.channel.specs.Layout.{positions, present, firsts, seconds, firstBits, secondAt, secondBits, hasSecond, common, subfields, subfieldsIn, valueAt, value, rowAt, row, total, count, userAt, blockAt, blocks, covered, endOf}
-use Rattle.channel.specs.Checks.{tooLong, cutCommon, wrongFirst, wrongSecond, wrongCommon, overflowDiffers, foreign, firstForeign, notCarried, cutUsers, wrongBlock, firstWrong, wrongUsersOf, wrongUsers}
+use Rattle.faults.specs.Checks.{tooLong, cutCommon, wrongFirst, wrongSecond, wrongCommon, overflowDiffers, foreign, firstForeign, notCarried, cutUsers, wrongBlock, firstWrong, wrongUsersOf, wrongUsers}
 use Rattle.text.specs.Text.{dec, signed, upto}
 use Rattle.resource.specs.Index.{indexOf, resourceAt, positionOf, placeOf}
 use Rattle.resource.specs.Runs.{offset26, offset52, offset106, wide, narrow, narrow26, narrow52, narrow106, runsOf}
@@ -25,7 +25,7 @@ use Rattle.records.specs.Owns.{lowest, ownerAt, ownerOf}
 use Rattle.lines.specs.Lines.{nameText, comma, tonesText, ruHead, ruLine, staLine, headText}
 use Rattle.listed.specs.Listing.{ruLines, ownerIn, staLineAt, staLines, listingOf, listing}
 use Rattle.stations.specs.Stations.{firstRepeated, stationTwice}
-use Rattle.reader.specs.Table.{check1, check2, check3, check4, check5, check6, check7, check8, check9, check10, check11, readable}
+use Rattle.table.specs.Table.{check1, check2, check3, check4, check5, check6, check7, check8, check9, check10, check11, readable}
 use Rattle.plan.specs.Fields.{gives, share, fieldsIn}
 use Rattle.plan.specs.Guess.{threeOf, orElse, like996, like484, choose, onlyPlan, fitting, planned, withinEight, unplanned, overEight, answer7, answer8}
 use Rattle.longest.specs.Longest.{longest, longest-most}

@@ -46,7 +46,7 @@ use Rattle.input.specs.declared.Parsed.{Parsed}
 use Rattle.input.specs.declared.Parsed.the-variants.{Wrong, Lines}
 use Rattle.input.specs.Parse.{parsed, bytesAt, secondAt}
 use Rattle.stations.specs.Stations.{stationAt}
-use Rattle.reader.specs.Table.{readable}
+use Rattle.table.specs.Table.{readable}
 use Rattle.lines.specs.Lines.{nameText, comma, spanText, tonesText, ruHead, ruLine, staLine, refusalText, headText}
 use Rattle.lines.specs.LineLaws.{span-short}
 use Rattle.listed.specs.Listing.{recordLine, resources, ruLines, ownerIn, staLineAt, staLines, listingOf, listing, outcomeText, frameText, parsedText, programText}

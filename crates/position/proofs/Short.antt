@@ -12,8 +12,8 @@ use Rattle.answer.specs.declared.Out.the-variants.{Pass}
 use Rattle.bits.specs.Bits.{field, lacks}
 use Rattle.bits.specs.Fields.{lacks-none, lacks-inside}
 use Rattle.channel.specs.Layout.{present, common, count, endOf}
-use Rattle.channel.specs.Checks.{cutCommon, cutUsers}
-use Rattle.channel.specs.Passing.{cutCommon-pass, pass-cutCommon, pass-cutUsers, reaches}
+use Rattle.faults.specs.Checks.{cutCommon, cutUsers}
+use Rattle.faults.specs.Passing.{cutCommon-pass, pass-cutCommon, pass-cutUsers, reaches}
 use Rattle.position.specs.declared.Field.the-variants.{Value, Lacks}
 use Rattle.position.specs.Walk.{readAt, firstShort, whole}
 use Rattle.position.proofs.Whole.{count-any}

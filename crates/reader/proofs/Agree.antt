@@ -5,15 +5,11 @@ use mathlib.Core.List.{_++_}
 use denote.Ref.{now}
 use Rattle.answer.specs.declared.Answer.{Answer}
 use Rattle.answer.specs.Order.{after-kept}
-use Rattle.reader.specs.Table.{reading, wordCount}
-use Rattle.reader.specs.Words.{wordsOf}
+use Rattle.frame.specs.Words.{wordCount, wordsOf}
+use Rattle.reader.specs.Table.{reading}
 use Rattle.reader.specs.Result.{answerOf, wordsAfter}
-use Rattle.reader.proofs.check_frame.Reads as check-frame
 use Rattle.reader.proofs.read.Reads as read
 use Rattle.reader.proofs.read_sealed.Reads as read-sealed
-
-pub check-frame-agrees : (κs : _) (a : _) (r r' : _) (s s' : _) → check-frame.Post κs a r s → check-frame.Post κs a r' s' → r ≡ r'
-check-frame-agrees κs a r r' s s' p q = p ∙ sym q
 
 -- any two answers, and any two states of the lent words afterwards, that `read` allows for one input
 pub read-agrees : (κs : _) (a : _) (r r' : _) (s s' : _) → read.Post κs a r s → read.Post κs a r' s'

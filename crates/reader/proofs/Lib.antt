@@ -1,5 +1,2 @@
-pub mod Rows
-pub mod Grow
-pub mod Givers
 pub mod Agree
 pub mod Exactly

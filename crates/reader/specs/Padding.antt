@@ -17,14 +17,15 @@ use Rattle.answer.specs.declared.Out.the-variants.{Pass}
 use Rattle.bits.specs.Bits.{field}
 use Rattle.resource.specs.Values.{fieldsOf}
 use Rattle.channel.specs.Layout.{present, overflow, seconds, firstBits, secondAt, secondBits, hasSecond, common, subfieldsIn, value, row, count, userAt, endOf}
-use Rattle.channel.specs.Checks.{tooLong, cutCommon, cutUsers}
+use Rattle.faults.specs.Checks.{tooLong, cutCommon, cutUsers}
 use Rattle.channel.specs.Laws.{present-1, first-inside, second-inside, common-ge, end-after, total-cong, user-end}
-use Rattle.channel.specs.Passing.{pass-tooLong, pass-cutCommon, pass-cutUsers}
-use Rattle.channel.specs.Padding.{Same, field-in, Alike, AlikeToEnd, alike-of, present-count, value-same, count-same, row-same, wrongCommon-same, notCarried-same, overflowDiffers-same, wrongUsers-same, user-same}
+use Rattle.faults.specs.Passing.{pass-tooLong, pass-cutCommon, pass-cutUsers}
+use Rattle.faults.specs.Padding.{Same, field-in, Alike, AlikeToEnd, alike-of, present-count, value-same, count-same, row-same, wrongCommon-same, notCarried-same, overflowDiffers-same, wrongUsers-same, user-same}
 use Rattle.words.specs.Words.{secondWord}
 use Rattle.stations.specs.Stations.{stationOf, stationPlace, repeated, firstRepeated, stationTwice}
-use Rattle.reader.specs.Table.{check1, check2, check3, check4, check5, check6, check7, check8, check9, check10, check11, noRoom, check12, eleven, readable, reading, wordCount}
-use Rattle.reader.specs.Words.{before, giver, userWordAt, userWords, headerOf, wordsIn, wordsOf}
+use Rattle.table.specs.Table.{check1, check2, check3, check4, check5, check6, check7, check8, check9, check10, check11, eleven, readable}
+use Rattle.frame.specs.Words.{wordCount, before, giver, userWordAt, userWords, headerOf, wordsIn, wordsOf}
+use Rattle.reader.specs.Table.{noRoom, check12, reading}
 use Rattle.reader.specs.Stages.{reading-stages}
 use Rattle.reader.specs.Result.{answerOf, wordsAfter}
 

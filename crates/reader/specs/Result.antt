@@ -4,8 +4,8 @@ use Prim.Native.Nat.{ℕ}
 use lib.ListN.{length, drop}
 use Rattle.answer.specs.Answer.{answerAt, after}
 use Rattle.answer.specs.declared.Answer.{Answer}
-use Rattle.reader.specs.Table.{reading, wordCount}
-use Rattle.reader.specs.Words.{wordsOf}
+use Rattle.frame.specs.Words.{wordCount, wordsOf}
+use Rattle.reader.specs.Table.{reading}
 
 -- "0 | accepted | 0, count of words", or the refusal
 unfoldable pub answerOf : ℕ → List ℕ → List ℕ → ℕ → Answer

@@ -5,7 +5,7 @@ use denote.Ref.{now}
 use Rattle.answer.specs.Answer.{answerAt}
 use Rattle.answer.specs.declared.Answer.{Answer}
 use Rattle.answer.specs.Order.{after-kept}
-use Rattle.writer.specs.Candidate.{needed, candidate}
+use Rattle.candidate.specs.Candidate.{needed, candidate}
 use Rattle.writer.specs.Result.{writing, front, answerOf, channelAfter}
 use Rattle.writer.proofs.write.Reads as write
 

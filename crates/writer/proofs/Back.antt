@@ -11,10 +11,12 @@ use borrow.Author.Tests.{le-ltb}
 use Rattle.answer.specs.Order.{pass-left, or-pass, if-pass, pass-or-refuse, after-passed}
 use Rattle.answer.specs.declared.Answer.{Answer}
 use Rattle.answer.specs.declared.Out.the-variants.{Pass, Refuse}
-use Rattle.reader.specs.Table.{check12, noRoom, readable, reading, wordCount}
-use Rattle.reader.specs.Stages.{word-count-le, reading-stages}
-use Rattle.reader.specs.Words.{wordsOf}
-use Rattle.reader.specs.Determine.{words-length}
+use Rattle.table.specs.Table.{readable}
+use Rattle.frame.specs.Words.{wordCount, wordsOf}
+use Rattle.reader.specs.Table.{check12, noRoom, reading}
+use Rattle.frame.specs.Counted.{word-count-le}
+use Rattle.reader.specs.Stages.{reading-stages}
+use Rattle.frame.specs.Determine.{words-length}
 use Rattle.reader.specs.Result.{answerOf, wordsAfter}
 use Rattle.reader.proofs.Exactly.{accepted-exactly}
 use Rattle.writer.specs.Result.{readsTo}

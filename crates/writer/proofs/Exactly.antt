@@ -12,9 +12,9 @@ use Rattle.answer.specs.declared.Answer.{Answer}
 use Rattle.answer.specs.declared.Out.{Out}
 use Rattle.answer.specs.declared.Out.the-variants.{Pass}
 use Rattle.channel.specs.Layout.{present}
-use Rattle.reader.specs.Table.{check1}
-use Rattle.reader.specs.Judged.{Judged, judged}
-use Rattle.writer.specs.Candidate.{needed, candidate}
+use Rattle.table.specs.Table.{check1}
+use Rattle.table.specs.Judged.{Judged, judged}
+use Rattle.candidate.specs.Candidate.{needed, candidate}
 use Rattle.writer.specs.Result.{readsTo, notRead, check13, tooShort, check14, writing, answerOf}
 
 abbrev pub numbers : List ℕ

@@ -22,18 +22,20 @@ use Rattle.bits.specs.Bits.{bit}
 use Rattle.bits.specs.Writes.{Small}
 use Rattle.channel.specs.Layout.{present, count, endOf}
 use Rattle.channel.specs.Laws.{present-1}
-use Rattle.channel.specs.Padding.{Same}
-use Rattle.reader.specs.Table.{check1, check12, noRoom, readable, reading, wordCount}
-use Rattle.reader.specs.Words.{wordsOf}
+use Rattle.faults.specs.Padding.{Same}
+use Rattle.table.specs.Table.{check1, readable}
+use Rattle.frame.specs.Words.{wordCount, wordsOf}
+use Rattle.reader.specs.Table.{check12, noRoom, reading}
 use Rattle.reader.specs.Result as R
 use Rattle.reader.specs.Stages.{reading-stages}
-use Rattle.reader.specs.Determine.{words-length, SameFrame, words-determine}
+use Rattle.frame.specs.Determine.{words-length, SameFrame, words-determine}
 use Rattle.reader.proofs.Exactly as E
 use Rattle.reader.proofs.read.Reads as read
-use Rattle.writer.specs.Candidate.{countIn, channelIn, needed, bytesFor, candidate}
-use Rattle.writer.specs.Built.{sealed-small}
+use Rattle.candidate.specs.Candidate.{countIn, channelIn, needed, bytesFor, candidate}
+use Rattle.candidate.specs.Built.{sealed-small}
 use Rattle.writer.specs.Result.{readsTo, notRead, check13, tooShort, check14, writing, front, answerOf, channelAfter}
-use Rattle.writer.specs.Inverse.{ReadsTo, reads-to-says, says-reads-to, candidate-reads, present-length, absent-length, accepted-known, same-1, same-2, zero-1, zero-2, reach-1, reach-2, needed-of}
+use Rattle.candidate.specs.Held.{present-length, absent-length}
+use Rattle.writer.specs.Inverse.{ReadsTo, reads-to-says, says-reads-to, candidate-reads, accepted-known, same-1, same-2, zero-1, zero-2, reach-1, reach-2, needed-of}
 use Rattle.writer.proofs.Exactly as W
 use Rattle.writer.proofs.write.Reads as write
 

@@ -10,9 +10,9 @@ use Rattle.answer.specs.declared.Answer.{Answer}
 use Rattle.answer.specs.declared.Out.{Out}
 use Rattle.channel.specs.Layout.{present}
 use Rattle.words.specs.Words.{nth}
-use Rattle.reader.specs.Table.{check1, readable}
-use Rattle.reader.specs.Words.{wordsOf}
-use Rattle.writer.specs.Candidate.{needed, candidate}
+use Rattle.table.specs.Table.{check1, readable}
+use Rattle.frame.specs.Words.{wordsOf}
+use Rattle.candidate.specs.Candidate.{needed, candidate}
 
 -- whether two lists are the same: as long, and different nowhere
 unfoldable pub unlike : List ℕ → List ℕ → ℕ → Bool

@@ -10,16 +10,16 @@ use Rattle.answer.specs.declared.Out.the-variants.{Pass}
 use Rattle.check4.specs.Checks.{Right}
 use Rattle.resource.specs.Values.{fieldsOf}
 use Rattle.channel.specs.Layout.{present, subfieldsIn, value, count, blockAt, blocks, covered}
-use Rattle.channel.specs.Checks.{wrongCommon, wrongUsers}
+use Rattle.faults.specs.Checks.{wrongCommon, wrongUsers}
 use Rattle.channel.specs.Laws.{total-cong}
-use Rattle.channel.specs.Passing.{pass-wrongCommon, pass-wrongUsers}
-use Rattle.channel.specs.Padding.{present-count}
-use Rattle.reader.specs.Table.{check4, check10}
-use Rattle.reader.specs.Stages.{Sealed}
-use Rattle.reader.specs.Words.{positionOf}
-use Rattle.writer.specs.Candidate.{valueIn, countIn, candidate}
-use Rattle.writer.specs.Inverse.{Holds, all-subfields, candidate-carries, holds-1, holds-2}
-use Rattle.writer.specs.Steps.{value-of-lt}
+use Rattle.faults.specs.Passing.{pass-wrongCommon, pass-wrongUsers}
+use Rattle.faults.specs.Padding.{present-count}
+use Rattle.table.specs.Table.{check4, check10}
+use Rattle.table.specs.Stages.{Sealed}
+use Rattle.frame.specs.Words.{positionOf}
+use Rattle.candidate.specs.Candidate.{valueIn, countIn, candidate}
+use Rattle.candidate.specs.Held.{Holds, all-subfields, candidate-carries, holds-1, holds-2}
+use Rattle.candidate.specs.Steps.{value-of-lt}
 
 module _ (bw : ℕ) (w : List ℕ) (c : ℕ) (h : present bw c ≡ true → Holds bw w c) where
   abbrev s : List ℕ

@@ -1,13 +1,12 @@
--- What each turn of a writing loop adds, for the code. Assumes nothing.
-use Prim.Native.Nat.{ℕ, zero, suc, _+_, _-_, _*_, _/_, _%_, _^_, _≤_, _<_}
+-- The steps of judging and writing, for the code. Assumes nothing.
+use Prim.Native.Nat.{ℕ, zero, suc, _+_, _-_, _≤_}
 use mathlib.Core.Path.{_≡_, refl, sym, _∙_, ap}
 use mathlib.Core.Bool.{Bool, true, false, cond, not, _&&_}
 use mathlib.Core.List.{List, _∷_, _++_}
-use native.Mathlib.Numerals.{add-one}
 use native.Mathlib.Omega.{arith}
-use lib.Dec.{eqb, ltb}
+use lib.Dec.{ltb}
 use lib.ListN.{length, take, drop, replicate, length-replicate}
-use lib.Seq.{take-at, ext-getD}
+use lib.Seq.{take-at}
 use borrow.Author.Tests.{eq-eqb, ne-eqb, ltb-false}
 use Rattle.answer.specs.Answer as A
 use Rattle.answer.specs.Answer.{refuseIf, _or_}
@@ -16,44 +15,15 @@ use Rattle.answer.specs.declared.Answer.{Answer}
 use Rattle.answer.specs.declared.Out.{Out}
 use Rattle.answer.specs.declared.Out.the-variants.{Pass, Refuse}
 use Rattle.answer.specs.Filled.{filled, build-is}
-use Rattle.bits.specs.Bits.{put}
-use Rattle.channel.specs.Layout.{present, firstBits, subfieldsIn, valueAt, userAt, blockAt, blocks, covered}
+use Rattle.channel.specs.Layout.{present}
 use Rattle.channel.specs.Laws.{present-1}
 use Rattle.words.specs.Words.{nth}
-use Rattle.words.specs.Back.{overflowOf, valueOf, userField}
-use Rattle.writer.specs.Candidate.{puts, seal, sealSecond, sealBlocks, payload, sealed, overflowIn, valueIn, countIn, firstIn, fieldIn, bytesFor, needed, bytesIn, channelIn, candidate}
-use Rattle.reader.specs.Table.{check1, readable, wordCount}
-use Rattle.reader.specs.Words.{wordsOf}
-use Rattle.reader.specs.Determine.{words-length}
+use Rattle.candidate.specs.Candidate.{countIn, bytesFor, needed, bytesIn, channelIn, candidate}
+use Rattle.table.specs.Table.{check1, readable}
+use Rattle.frame.specs.Words.{wordCount, wordsOf}
+use Rattle.frame.specs.Determine.{words-length}
 use Rattle.writer.specs.Result.{unlike, sameWords, readsTo, notRead, check13, tooShort, check14, writing, front}
-use Rattle.writer.specs.Built.{sealed-length}
-use Rattle.writer.specs.Inverse.{present-length, absent-length}
-
-module _ (at : ℕ → ℕ) (w : ℕ) (v : ℕ → ℕ) (d : List ℕ) where
-  pub puts-none : d ≡ puts at w v 0 d
-  unfolding puts
-  puts-none = refl
-
-  pub puts-next : (n : ℕ) → put (puts at w v n d) (at n) w (v n) ≡ puts at w v (n + 1) d
-  unfolding puts
-  puts-next n = rw add-one refl
-
-module _ (bw n : ℕ) (d : List ℕ) where
-  pub blocks-none : d ≡ sealBlocks bw n 0 d
-  unfolding sealBlocks
-  blocks-none = refl
-
-  pub blocks-next : (b : ℕ) → seal (blockAt bw b) (covered n b) (sealBlocks bw n b d) ≡ sealBlocks bw n (b + 1) d
-  unfolding sealBlocks
-  blocks-next b = rw add-one refl
-
-pub value-of-lt : (w : List ℕ) (p : ℕ) → valueOf w p < 512
-unfolding valueOf
-value-of-lt w p = go (eqb p 0)
-  where
-    go : (t : Bool) → cond t (nth w 2 / 2 ^ 13 % 2 ^ 9) (nth w (3 + (p - 1) / 3) / 2 ^ (10 * ((p - 1) % 3)) % 2 ^ 9) < 512
-    go true = native.Mathlib.Nat.mod-lt (nth w 2 / 2 ^ 13) (omega arith)
-    go false = native.Mathlib.Nat.mod-lt (nth w (3 + (p - 1) / 3) / 2 ^ (10 * ((p - 1) % 3))) (omega arith)
+use Rattle.candidate.specs.Held.{present-length, absent-length}
 
 -- a channel's bytes at the front of the lent ones, one by one
 pub front-filled : (s d : List ℕ) → filled (nth s) (length s) d ≡ front s d
@@ -68,28 +38,6 @@ unlike-yes v w i d = ap not (ne-eqb (nth v i) (nth w i) d)
 pub unlike-no : (v w : List ℕ) (i : ℕ) → nth v i ≡ nth w i → unlike v w i ≡ false
 unfolding unlike
 unlike-no v w i e = ap not (eq-eqb (nth v i) (nth w i) e)
-
--- the whole of a channel, step by step
-pub channel-steps : (bw : ℕ) (w : List ℕ) (c : ℕ) (d : List ℕ) (first n v b : ℕ) (d₁ d₂ d₃ d₄ d₅ d₆ : List ℕ)
-    → first ≡ firstIn bw w c → n ≡ countIn bw w c → v ≡ overflowOf (nth w 1) → b ≡ firstBits bw
-    → d₁ ≡ put d 0 17 v
-    → d₂ ≡ puts (valueAt bw) 9 (valueIn w c) (subfieldsIn bw c) d₁
-    → d₃ ≡ puts (userAt bw) 22 (λ i. userField (nth w (first + i))) n d₂
-    → d₄ ≡ seal 0 b d₃
-    → d₅ ≡ sealSecond bw d₄
-    → d₆ ≡ sealBlocks bw n (blocks n) d₅
-    → d₆ ≡ channelIn bw w c d
-unfolding channelIn sealed payload overflowIn fieldIn
-channel-steps bw w c d first n v b d₁ d₂ d₃ d₄ d₅ d₆ ef en ev eb e₁ e₂ e₃ e₄ e₅ e₆ =
-    rw (e₆, e₅, e₄, e₃, e₂, e₁, ev, eb, ef, en)
-
--- a channel of no bytes stays so
-pub channel-none : (bw : ℕ) (w : List ℕ) (c : ℕ) (d : List ℕ) → length d ≡ 0 → d ≡ channelIn bw w c d
-unfolding channelIn
-channel-none bw w c d e =
-    ext-getD 0 d _
-    (sym (sealed-length bw (countIn bw w c) (overflowIn w) (valueIn w c) (subfieldsIn bw c) (fieldIn bw w c) d))
-    (λ k l. absurd (omega arith))
 
 -- ---- the read-back
 

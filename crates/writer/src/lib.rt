@@ -8,153 +8,13 @@ ghost use lib.ListN.{length, replicate};
 ghost use Rattle.answer.specs.Answer.{_or_};
 ghost use Rattle.answer.specs.Least.{least};
 ghost use mathlib.Core.Bool.{cond};
-ghost use Rattle.channel.specs.Layout.{present, subfieldsIn, valueAt, userAt, blocks, covered};
-ghost use Rattle.words.specs.Words.{nth};
-ghost use Rattle.words.specs.Back.{userField};
-ghost use Rattle.reader.specs.Table.{check1};
-ghost use Rattle.reader.specs.Stages.{Sealed};
-ghost use Rattle.writer.specs.Candidate.{puts, seal, sealSecond, sealBlocks, valueIn, countIn, firstIn, bytesFor, needed, bytesIn, channelIn};
+ghost use Rattle.channel.specs.Layout.{present};
+ghost use Rattle.table.specs.Table.{check1};
+ghost use Rattle.table.specs.Stages.{Sealed};
+ghost use Rattle.candidate.specs.Candidate.{countIn, needed, bytesIn};
 ghost use Rattle.writer.specs.Result.{unlike, sameWords, readsTo, notRead, tooShort, front, answerOf, channelAfter};
 
-// ---- what the words say
-
-// Word i, and 0 past the end.
-fn word_at(words: &[u32], i: usize) -> u32
-    ensures { λ r. ⌜ r ≡ nth (now (words .entry)) i ⌝ }
-{
-    if i < words.len() { words[i] } else { 0 }
-}
-
-// The k-th RU Allocation value of a channel.
-fn value_in(words: &[u32], channel: u32, k: usize) -> u16
-    requires { ⌜ (1 ≤ channel) × (channel ≤ 2) × (k ≤ 8) ⌝ }
-    ensures { λ r. ⌜ r ≡ valueIn (now (words .entry)) channel k ⌝ }
-{
-    words::value_of(words, 2 * k + (channel as usize - 1)) as u16
-}
-
-// How many User fields a channel has.
-fn count_in(bw: u32, words: &[u32], channel: u32) -> usize
-    requires { ⌜ (1 ≤ channel) × (channel ≤ 2) ⌝ }
-    ensures { λ r. ⌜ r ≡ countIn bw (now (words .entry)) channel ⌝ }
-    ensures { λ r. ⌜ r ≤ 72 ⌝ }
-{
-    let n = channel::subfields_of(bw, channel);
-    let mut sum: usize = 0;
-    let mut k: usize = 0;
-    while k < n {
-        sum += resource::fields_of(value_in(words, channel, k)) as usize;
-        k += 1;
-    }
-    sum
-}
-
-// ---- a channel from what it carries
-
-fn put_values(d: &mut [u8], bw: u32, words: &[u32], channel: u32)
-    requires { ⌜ (1 ≤ channel) × (channel ≤ 2) ⌝ }
-    ensures { λ _. ⌜ now (d .exit) ≡ puts (valueAt bw) 9 (valueIn (now (words .entry)) channel) (subfieldsIn bw channel) (now (d .entry)) ⌝ }
-{
-    let n = channel::subfields_of(bw, channel);
-    let mut k: usize = 0;
-    while k < n {
-        bits::put_field(
-            d,
-            channel::value_bit(bw, k),
-            9,
-            value_in(words, channel, k) as u32,
-        );
-        k += 1;
-    }
-}
-
-// n User fields, of the words from `first` on.
-fn put_users(d: &mut [u8], bw: u32, words: &[u32], first: usize, n: usize)
-    requires { ⌜ (first ≤ 82) × (n ≤ 72) ⌝ }
-    ensures { λ _. ⌜ now (d .exit) ≡ puts (userAt bw) 22 (λ i. userField (nth (now (words .entry)) (first + i))) n (now (d .entry)) ⌝ }
-{
-    let mut i: usize = 0;
-    while i < n {
-        let f = words::user_field(word_at(words, first + i));
-        bits::put_field(d, channel::user_bit(bw, i), 22, f);
-        i += 1;
-    }
-}
-
-// The check of the n bits from `at`, after them.
-fn put_check(d: &mut [u8], at: usize, n: usize)
-    requires { ⌜ (at ≤ 2053) × (n ≤ 54) ⌝ }
-    ensures { λ _. ⌜ now (d .exit) ≡ seal at n (now (d .entry)) ⌝ }
-{
-    let c = check4::check_at(d, at, n);
-    bits::put_field(d, at + n, 4, c);
-}
-
-fn put_second_check(d: &mut [u8], bw: u32)
-    ensures { λ _. ⌜ now (d .exit) ≡ sealSecond bw (now (d .entry)) ⌝ }
-{
-    if channel::has_second(bw) {
-        put_check(d, channel::first_bits(bw) + 10, channel::second_bits(bw));
-    }
-}
-
-// The bits of User block b that its check covers, of n fields.
-fn covered_bits(n: usize, b: usize) -> usize
-    requires { ⌜ b ≤ 36 ⌝ }
-    ensures { λ r. ⌜ r ≡ covered n b ⌝ }
-    ensures { λ r. ⌜ r ≤ 44 ⌝ }
-{
-    if 2 * b + 1 < n { 44 } else { 22 }
-}
-
-fn put_block_checks(d: &mut [u8], bw: u32, n: usize)
-    requires { ⌜ n ≤ 72 ⌝ }
-    ensures { λ _. ⌜ now (d .exit) ≡ sealBlocks bw n (blocks n) (now (d .entry)) ⌝ }
-{
-    let m = (n + 1) / 2;
-    let mut b: usize = 0;
-    while b < m {
-        put_check(d, channel::user_bit(bw, 2 * b), covered_bits(n, b));
-        b += 1;
-    }
-}
-
-// A channel that has n User fields, whose words start at `first`.
-fn fill_bytes(d: &mut [u8], bw: u32, words: &[u32], channel: u32, first: usize, n: usize)
-    requires { ⌜ (1 ≤ channel) × (channel ≤ 2) × (first ≤ 82) × (n ≤ 72) × (first ≡ firstIn bw (now words) channel) × (n ≡ countIn bw (now words) channel) ⌝ }
-    ensures { λ _. ⌜ now (d .exit) ≡ channelIn bw (now (words .entry)) channel (now (d .entry)) ⌝ }
-{
-    bits::put_field(d, 0, 17, words::overflow_of(word_at(words, 1)));
-    put_values(d, bw, words, channel);
-    put_users(d, bw, words, first, n);
-    put_check(d, 0, channel::first_bits(bw));
-    put_second_check(d, bw);
-    put_block_checks(d, bw, n);
-}
-
-// The same, with no work for the channel that the bandwidth lacks: it has no bytes.
-fn fill(d: &mut [u8], bw: u32, words: &[u32], channel: u32, first: usize, n: usize)
-    requires { ⌜ (1 ≤ channel) × (channel ≤ 2) × (first ≤ 82) × (n ≤ 72) × (first ≡ firstIn bw (now words) channel) × (n ≡ countIn bw (now words) channel) ⌝ }
-    ensures { λ _. ⌜ now (d .exit) ≡ channelIn bw (now (words .entry)) channel (now (d .entry)) ⌝ }
-{
-    if d.len() == 0 {
-        return;
-    }
-    fill_bytes(d, bw, words, channel, first, n);
-}
-
-// Bytes for the longer channel, of n and m User fields.
-fn bytes_for(bw: u32, n: usize, m: usize) -> usize
-    requires { ⌜ (n ≤ 72) × (m ≤ 72) ⌝ }
-    ensures { λ r. ⌜ r ≡ bytesFor bw n m ⌝ }
-    ensures { λ r. ⌜ r ≤ 257 ⌝ }
-{
-    let x = channel::end_bit(bw, n);
-    let y = channel::end_bit(bw, m);
-    if x < y { (y + 7) / 8 } else { (x + 7) / 8 }
-}
-
-// ---- whether they read back
+// ---- whether the channels that were built read back
 
 // The first place where two equally long lists of words differ.
 fn first_unlike(v: &[u32], w: &[u32]) -> usize
@@ -270,8 +130,8 @@ fn write_in(
     ensures { λ _. ⌜ now (cc1 .exit) ≡ channelAfter bw (now (words .entry)) (length (now (cc1 .entry))) (length (now (cc2 .entry))) 1 (now (cc1 .entry)) ⌝ }
     ensures { λ _. ⌜ now (cc2 .exit) ≡ channelAfter bw (now (words .entry)) (length (now (cc1 .entry))) (length (now (cc2 .entry))) 2 (now (cc2 .entry)) ⌝ }
 {
-    fill(a, bw, words, 1, 10, n);
-    fill(b, bw, words, 2, 10 + n, m);
+    candidate::fill(a, bw, words, 1, 10, n);
+    candidate::fill(b, bw, words, 2, 10 + n, m);
     let out = judge(bw, words, a, b, need, cc1.len(), cc2.len());
     if let Out::Refuse(x) = out {
         return x;
@@ -292,9 +152,9 @@ pub fn write(bandwidth: u32, words: &[u32], cc1: &mut [u8], cc2: &mut [u8]) -> A
     ensures { λ _. ⌜ now (cc1 .exit) ≡ channelAfter bandwidth (now (words .entry)) (length (now (cc1 .entry))) (length (now (cc2 .entry))) 1 (now (cc1 .entry)) ⌝ }
     ensures { λ _. ⌜ now (cc2 .exit) ≡ channelAfter bandwidth (now (words .entry)) (length (now (cc1 .entry))) (length (now (cc2 .entry))) 2 (now (cc2 .entry)) ⌝ }
 {
-    let n = count_in(bandwidth, words, 1);
-    let m = count_in(bandwidth, words, 2);
-    let need = bytes_for(bandwidth, n, m);
+    let n = candidate::count_in(bandwidth, words, 1);
+    let m = candidate::count_in(bandwidth, words, 2);
+    let need = candidate::bytes_for(bandwidth, n, m);
     let need2 = bytes_in(bandwidth, 2, need);
     let mut a = [0u8; 257];
     let mut b = [0u8; 257];

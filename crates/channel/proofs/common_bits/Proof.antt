@@ -2,8 +2,7 @@
 use mathlib.Core.Path.{_≡_, sym, _∙_}
 use native.Mathlib.Omega.{arith}
 use mathlib.Core.Bool.{true, false}
-use Rattle.channel.specs.Layout.{hasSecond}
-use Rattle.channel.specs.Layout.{common, secondAt}
+use Rattle.channel.specs.Layout.{hasSecond, common, secondAt}
 use borrow.Author.Needs.{needs}
 use Rattle.channel.proofs.common_bits.Statement.{statement}
 use Rattle.channel.proofs.common_bits.Tie as tie

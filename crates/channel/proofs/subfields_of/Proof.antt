@@ -2,8 +2,7 @@
 use mathlib.Core.Path.{_≡_, sym, _∙_}
 use native.Mathlib.Omega.{arith}
 use mathlib.Core.Bool.{true, false}
-use Rattle.channel.specs.Layout.{present}
-use Rattle.channel.specs.Layout.{subfieldsIn, subfields}
+use Rattle.channel.specs.Layout.{present, subfieldsIn, subfields}
 use borrow.Author.Needs.{needs}
 use Rattle.channel.proofs.subfields_of.Statement.{statement}
 use Rattle.channel.proofs.subfields_of.Tie as tie

@@ -1,8 +1,7 @@
 -- `channel::value_bit` meets its contract. Assumes nothing.
 use native.Mathlib.Omega.{arith}
 use borrow.Author.Tests.{lt-ltb, le-ltb}
-use Rattle.channel.specs.Layout.{firsts}
-use Rattle.channel.specs.Layout.{valueAt, secondAt}
+use Rattle.channel.specs.Layout.{firsts, valueAt, secondAt}
 use borrow.Author.Needs.{needs}
 use Rattle.channel.proofs.value_bit.Statement.{statement}
 use Rattle.channel.proofs.value_bit.Tie as tie

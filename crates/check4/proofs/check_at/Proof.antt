@@ -1,11 +1,11 @@
 -- `check4::check_at` meets its contract. Assumes nothing.
 use borrow.Author.Needs.{needs}
-use Prim.Native.Nat.{ℕ, _+_, _-_, _%_, _≤_}
+use Prim.Native.Nat.{ℕ, _-_, _%_, _≤_}
 use mathlib.Core.Path.{_≡_, sym, _∙_, ap}
 use native.Mathlib.Omega.{arith}
 use Rattle.check4.specs.Check.{register, check}
 use Rattle.check4.specs.Checks.{register-lt}
-use Rattle.check4.specs.Mirror.{mirror, shifts, mirror-start, mirror-part, sent-mirror}
+use Rattle.check4.specs.Mirror.{mirror, mirror-start, mirror-part, sent-mirror}
 use Rattle.check4.proofs.check_at.Statement.{statement}
 use Rattle.check4.proofs.check_at.Tie as tie
 

@@ -2,7 +2,7 @@
 use native.Mathlib.Omega.{arith}
 use mathlib.Core.Path.{sym, _∙_}
 use Rattle.channel.specs.Laws.{row-length}
-use Rattle.reader.proofs.Rows.{front}
+use Rattle.table.proofs.Rows.{front}
 use Rattle.listed.specs.Listing.{listing}
 use borrow.Author.Needs.{needs}
 use Rattle.listing.proofs.put_listing.Statement.{statement}

@@ -1,6 +1,7 @@
 -- `reader::read_as` meets its contract. Assumes nothing.
-use Rattle.reader.proofs.Rows.{front}
-use Rattle.reader.specs.Stages.{common-pass, reading-stopped}
+use Rattle.table.proofs.Rows.{front}
+use Rattle.table.specs.Stages.{common-pass}
+use Rattle.reader.specs.Stages.{reading-stopped}
 use Rattle.reader.specs.Result.{answerOf, wordsAfter}
 use Rattle.channel.specs.Laws.{row-length}
 use lib.ListN.{length}

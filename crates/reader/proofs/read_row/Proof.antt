@@ -4,9 +4,11 @@ use mathlib.Core.Path.{_∙_}
 use lib.ListN.{length}
 use Rattle.plan.proofs.Laid.{laid-is}
 use Rattle.channel.specs.Laws.{row-length, positions-le}
-use Rattle.reader.specs.Words.{wordsOf}
+use Rattle.frame.specs.Words.{wordsOf}
 use Rattle.reader.specs.Result.{answerOf, wordsAfter}
-use Rattle.reader.specs.Stages.{common-pass, counted, reading-rest, reading-pass}
+use Rattle.table.specs.Stages.{common-pass}
+use Rattle.frame.specs.Counted.{counted}
+use Rattle.reader.specs.Stages.{reading-rest, reading-pass}
 use Rattle.reader.proofs.read_row.Statement.{statement}
 use Rattle.reader.proofs.read_row.Tie as tie
 

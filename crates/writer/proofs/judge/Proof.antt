@@ -1,5 +1,5 @@
 -- `writer::judge` meets its contract. Assumes nothing.
-use Rattle.reader.specs.Table.{check1}
+use Rattle.table.specs.Table.{check1}
 use borrow.Author.Needs.{needs}
 use Rattle.writer.proofs.judge.Statement.{statement}
 use Rattle.writer.proofs.judge.Tie as tie

@@ -2,7 +2,7 @@
 use Rattle.writer.specs.Steps.{candidate-is, writing-is, writing-room}
 use Rattle.writer.specs.Sealed.{candidate-sealed}
 use Rattle.writer.specs.Result.{front, answerOf, channelAfter}
-use Rattle.writer.specs.Candidate.{firstIn}
+use Rattle.candidate.specs.Candidate.{firstIn}
 use lib.ListN.{length}
 use mathlib.Core.List.{List}
 use mathlib.Core.Path.{refl, _∙_, ap}

@@ -1,0 +1,52 @@
+-- `candidate::put_second_check` meets its contract. Assumes nothing.
+use Rattle.candidate.specs.Candidate.{sealSecond}
+use Rattle.channel.specs.Layout.{secondAt}
+use mathlib.Core.Path.{sym, _∙_}
+use borrow.Author.Needs.{needs}
+use Rattle.candidate.proofs.put_second_check.Statement.{statement}
+use Rattle.candidate.proofs.put_second_check.Tie as tie
+
+has-second-requires : tie.Need-has-second-requires
+has-second-requires c κs = search needs
+
+first-bits-requires : tie.Need-first-bits-requires
+first-bits-requires c κs = search needs
+
+add-put-check : tie.Need-add-put-check
+add-put-check c = search needs
+
+second-bits-requires : tie.Need-second-bits-requires
+second-bits-requires c κs = search needs
+
+put-check-requires : tie.Need-put-check-requires
+put-check-requires c κs = search needs
+
+same-length : tie.Need-same-length
+same-length c = search needs
+
+returns : tie.Need-returns
+unfolding sealSecond secondAt
+returns c =
+    let f = c .before .before .before .before .first-bits in
+    let s = c .before .before .before .second-bits in
+    let h = sym (c .before .before .before .before .before .before .before .has-second .ensures) ∙ c .before .before .before .before .before .before .if1 .taken in
+    c .before .before .put-check .ensures ∙ rw (h, f .ensures .0, s .ensures .0)
+
+returns-2 : tie.Need-returns-2
+unfolding sealSecond
+returns-2 c =
+    let h = sym (c .before .has-second .ensures) ∙ c .if1 .left in
+    rw h
+
+pub put-second-check-spec : {M : Type 1} → statement M
+put-second-check-spec =
+    tie.close
+    (tie.spec
+    has-second-requires
+    first-bits-requires
+    add-put-check
+    second-bits-requires
+    put-check-requires
+    same-length
+    returns
+    returns-2)

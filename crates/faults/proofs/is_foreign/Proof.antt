@@ -1,0 +1,18 @@
+-- `faults::is_foreign` meets its contract. Assumes nothing.
+use Rattle.faults.specs.Checks.{foreign}
+use borrow.Author.Needs.{needs}
+use Rattle.faults.proofs.is_foreign.Statement.{statement}
+use Rattle.faults.proofs.is_foreign.Tie as tie
+
+value-of-requires : tie.Need-value-of-requires
+value-of-requires c κs = search needs
+
+is-carried-requires : tie.Need-is-carried-requires
+is-carried-requires c κs = search needs
+
+returns : tie.Need-returns
+unfolding foreign
+returns c = cc
+
+pub is-foreign-spec : {M : Type 1} → statement M
+is-foreign-spec = tie.close (tie.spec value-of-requires is-carried-requires returns)

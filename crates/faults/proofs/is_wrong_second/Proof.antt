@@ -1,0 +1,61 @@
+-- `faults::is_wrong_second` meets its contract. Assumes nothing.
+use mathlib.Core.Path.{_≡_, sym, _∙_, ap}
+use mathlib.Core.Bool.{true, false, _&&_}
+use Rattle.channel.specs.Layout.{present, hasSecond, secondAt}
+use Rattle.faults.specs.Checks.{wrongSecond}
+use borrow.Author.Needs.{needs}
+use Rattle.faults.proofs.is_wrong_second.Statement.{statement}
+use Rattle.faults.proofs.is_wrong_second.Tie as tie
+
+is-present-requires : tie.Need-is-present-requires
+is-present-requires c κs = search needs
+
+has-second-requires : tie.Need-has-second-requires
+has-second-requires c κs = search needs
+
+first-bits-requires : tie.Need-first-bits-requires
+first-bits-requires c κs = search needs
+
+add-block-right : tie.Need-add-block-right
+add-block-right c = search needs
+
+second-bits-requires : tie.Need-second-bits-requires
+second-bits-requires c κs = search needs
+
+block-right-requires : tie.Need-block-right-requires
+block-right-requires c κs = search needs
+
+returns : tie.Need-returns
+unfolding wrongSecond secondAt
+returns c =
+    let h = c .before .before .before .before in
+    let a = h .before .before .before .args in
+    let e : present (a .bw) (a .channel) && hasSecond (a .bw) ≡ true =
+    ap (λ t. t && hasSecond (a .bw)) (sym (h .before .is-present .ensures))
+    ∙ ap (λ t. h .before .is-present .result && t) (sym (h .has-second .ensures))
+    ∙ c .before .before .before .if1 .taken in
+    rw e (cc)
+
+returns-2 : tie.Need-returns-2
+unfolding wrongSecond secondAt
+returns-2 c =
+    let h = c .before in
+    let a = h .before .before .before .args in
+    let e : present (a .bw) (a .channel) && hasSecond (a .bw) ≡ false =
+    ap (λ t. t && hasSecond (a .bw)) (sym (h .before .is-present .ensures))
+    ∙ ap (λ t. h .before .is-present .result && t) (sym (h .has-second .ensures))
+    ∙ c .if1 .left in
+    rw e
+
+pub is-wrong-second-spec : {M : Type 1} → statement M
+is-wrong-second-spec =
+    tie.close
+    (tie.spec
+    is-present-requires
+    has-second-requires
+    first-bits-requires
+    add-block-right
+    second-bits-requires
+    block-right-requires
+    returns
+    returns-2)

@@ -1,0 +1,31 @@
+-- `faults::not_carried` meets its contract. Assumes nothing.
+use Rattle.faults.specs.Checks.{notCarried}
+use borrow.Author.Needs.{needs}
+use Rattle.faults.proofs.not_carried.Statement.{statement}
+use Rattle.faults.proofs.not_carried.Tie as tie
+
+subfields-of-requires : tie.Need-subfields-of-requires
+subfields-of-requires c κs = search needs
+
+first-foreign-requires : tie.Need-first-foreign-requires
+first-foreign-requires c κs = search needs
+
+value-bit-requires : tie.Need-value-bit-requires
+value-bit-requires c κs = search needs
+
+refuse-if-requires : tie.Need-refuse-if-requires
+refuse-if-requires c κs = search needs
+
+returns : tie.Need-returns
+unfolding notCarried
+returns c = cc
+
+pub not-carried-spec : {M : Type 1} → statement M
+not-carried-spec =
+    tie.close
+    (tie.spec
+    subfields-of-requires
+    first-foreign-requires
+    value-bit-requires
+    refuse-if-requires
+    returns)

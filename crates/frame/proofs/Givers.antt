@@ -1,0 +1,52 @@
+-- Which value of a channel gives a User field. Assumes nothing.
+use mathlib.Core.Path.{_≡_, refl}
+use mathlib.Core.List.{List}
+use mathlib.Core.Logic.{⊎-elim}
+use Prim.Native.Nat.{ℕ, zero, suc, _+_, _≤_, _<_}
+use native.Mathlib.Omega.{arith}
+use native.Mathlib.Nat.{eq-or-lt-of-le}
+use lib.Dec.{ltb}
+use borrow.Author.Tests.{lt-ltb, le-ltb}
+use Rattle.answer.specs.Least.{least-is}
+use Rattle.resource.specs.Values.{fieldsOf}
+use Rattle.channel.specs.Layout.{subfieldsIn, value, total, count}
+use Rattle.channel.specs.Laws.{total-next}
+use Rattle.frame.specs.Words.{before, giver, sharedAt, positionOf, runWord, userWordAt}
+
+total-rises : (f : ℕ → ℕ) (m n : ℕ) → m ≤ n → total f m ≤ total f n
+unfolding total
+total-rises f m zero l = let e : m ≡ 0 = omega arith in rw e (omega arith)
+total-rises f m (suc n) l =
+    ⊎-elim (λ (e : m ≡ suc n). rw e (unfold total in omega arith)) (λ (h : m < suc n). let r = total-rises f m n (omega arith) in omega arith)
+    (eq-or-lt-of-le {n = m} {m = suc n} l)
+
+module _ (bw c : ℕ) (s : List ℕ) (k : ℕ) (l : k < subfieldsIn bw c) where
+  pub before-next : before bw s k + fieldsOf (value bw s k) ≡ before bw s (k + 1)
+  before-next = total-next (λ i. fieldsOf (value bw s i)) k
+
+  -- a value's fields are some of the channel's
+  pub before-count : before bw s (k + 1) ≤ count bw c s
+  unfolding count
+  before-count = total-rises (λ i. fieldsOf (value bw s i)) (k + 1) (subfieldsIn bw c) (omega arith)
+
+  -- the k-th value gives the fields from those before it up to those before the next
+  pub giver-is : (j : ℕ) → before bw s k ≤ j → j < before bw s (k + 1) → giver bw c s j ≡ k
+  unfolding giver
+  giver-is j a z =
+      least-is (λ i. ltb j (before bw s (i + 1))) (subfieldsIn bw c) k (omega arith)
+      (λ h. lt-ltb j (before bw s (k + 1)) z)
+      (λ i h. le-ltb j (before bw s (i + 1)) (omega (arith, total-rises (λ q. fieldsOf (value bw s q)) (i + 1) k (omega arith))))
+
+  -- so its run of words is the channel's from there on
+  pub run-words : (row : List ℕ) (i : ℕ) → i < fieldsOf (value bw s k)
+      → runWord bw s (before bw s k) (sharedAt row (positionOf c k)) i ≡ userWordAt bw row c s (before bw s k + i)
+  unfolding userWordAt
+  run-words row i h = rw (giver-is (before bw s k + i) (omega arith) (omega (arith, before-next)))
+
+pub count-before : (bw c : ℕ) (s : List ℕ) → before bw s (subfieldsIn bw c) ≡ count bw c s
+unfolding count
+count-before bw c s = refl
+
+pub before-none : (bw : ℕ) (s : List ℕ) → 0 ≡ before bw s 0
+unfolding total
+before-none bw s = refl

@@ -1,0 +1,3 @@
+pub mod Grow
+pub mod Givers
+pub mod Agree

@@ -1,0 +1,118 @@
+-- `frame::put_frame` meets its contract. Assumes nothing.
+use Rattle.frame.proofs.Grow.{part-tail, head-length, filled-put-length, laid-out}
+use Rattle.frame.specs.Words.{headerOf, userWordAt, wordsIn, wordCount}
+use Rattle.channel.specs.Layout.{count}
+use borrow.Rule.Slice.PartMut.{putMid}
+use lib.ListN.{length, length-drop}
+use native.Mathlib.Omega.{arith}
+use Prim.Native.Nat.{_+_, _-_}
+use mathlib.Core.Path.{refl, ap}
+use borrow.Author.Needs.{needs}
+use Rattle.frame.proofs.put_frame.Statement.{statement}
+use Rattle.frame.proofs.put_frame.Tie as tie
+
+put-head-requires : tie.Need-put-head-requires
+unfolding wordCount
+put-head-requires c κs = omega arith
+
+add-at : tie.Need-add-at
+add-at c = search needs
+
+sub-put-users : tie.Need-sub-put-users
+unfolding wordCount
+sub-put-users c =
+    let s = c .before .before .before .before .before .before .before .before .args in
+    let w₁ = c .before .before .put-head .last .0 in
+    let l₁ = head-length (headerOf (s .bw) (s .row .now) (s .a .now)) (s .words .now) w₁ refl (omega arith) (c .before .before .put-head .ensures) in
+    omega arith
+
+part-put-users-start : tie.Need-part-put-users-start
+unfolding wordCount
+part-put-users-start c =
+    let s = c .before .before .before .before .before .before .before .before .args in
+    let w₁ = c .before .before .put-head .last .0 in
+    let l₁ = head-length (headerOf (s .bw) (s .row .now) (s .a .now)) (s .words .now) w₁ refl (omega arith) (c .before .before .put-head .ensures) in
+    omega arith
+
+part-put-users-end : tie.Need-part-put-users-end
+part-put-users-end c = search needs
+
+put-users-requires : tie.Need-put-users-requires
+unfolding wordCount
+put-users-requires c κs =
+    let s = c .before .before .before .before .before .before .before .before .before .args in
+    let w₁ = c .before .before .before .put-head .last .0 in
+    let l₁ = head-length (headerOf (s .bw) (s .row .now) (s .a .now)) (s .words .now) w₁ refl (omega arith) (c .before .before .before .put-head .ensures) in
+    (omega arith, omega arith, rw (part-tail w₁ 10 (omega arith)) (omega (arith, length-drop 10 w₁)))
+
+mul-put-users : tie.Need-mul-put-users
+mul-put-users c = search needs
+
+sub-put-users-2 : tie.Need-sub-put-users-2
+unfolding wordCount
+sub-put-users-2 c =
+    let s = c .before .before .before .before .before .before .before .before .before .before .before .before .args in
+    let w₁ = c .before .before .before .before .before .before .put-head .last .0 in
+    let l₁ = head-length (headerOf (s .bw) (s .row .now) (s .a .now)) (s .words .now) w₁ refl (omega arith) (c .before .before .before .before .before .before .put-head .ensures) in
+    let n = c .before .before .before .before .before .before .before .before .before .before .before .before .pre .2 in
+    let l₂ = filled-put-length (userWordAt (s .bw) (s .row .now) 1 (s .a .now)) (count (s .bw) 1 (s .a .now)) w₁ 10 (c .before .before .put-users .last .0) (omega arith) (c .before .before .put-users .ensures) in
+    omega arith
+
+part-put-users-start-2 : tie.Need-part-put-users-start-2
+unfolding wordCount
+part-put-users-start-2 c =
+    let s = c .before .before .before .before .before .before .before .before .before .before .before .before .args in
+    let w₁ = c .before .before .before .before .before .before .put-head .last .0 in
+    let l₁ = head-length (headerOf (s .bw) (s .row .now) (s .a .now)) (s .words .now) w₁ refl (omega arith) (c .before .before .before .before .before .before .put-head .ensures) in
+    let n = c .before .before .before .before .before .before .before .before .before .before .before .before .pre .2 in
+    let l₂ = filled-put-length (userWordAt (s .bw) (s .row .now) 1 (s .a .now)) (count (s .bw) 1 (s .a .now)) w₁ 10 (c .before .before .put-users .last .0) (omega arith) (c .before .before .put-users .ensures) in
+    omega arith
+
+part-put-users-end-2 : tie.Need-part-put-users-end-2
+part-put-users-end-2 c = search needs
+
+put-users-requires-2 : tie.Need-put-users-requires-2
+unfolding wordCount
+put-users-requires-2 c κs =
+    let s = c .before .before .before .before .before .before .before .before .before .before .before .before .before .args in
+    let w₁ = c .before .before .before .before .before .before .before .put-head .last .0 in
+    let l₁ = head-length (headerOf (s .bw) (s .row .now) (s .a .now)) (s .words .now) w₁ refl (omega arith) (c .before .before .before .before .before .before .before .put-head .ensures) in
+    let n = c .before .before .before .before .before .before .before .before .before .before .before .before .before .pre .2 in
+    let l₂ = filled-put-length (userWordAt (s .bw) (s .row .now) 1 (s .a .now)) (count (s .bw) 1 (s .a .now)) w₁ 10 (c .before .before .before .put-users .last .0) (omega arith) (c .before .before .before .put-users .ensures) in
+    let w₂ = putMid 10 (length w₁ - 10) w₁ (c .before .before .before .put-users .last .0) in
+    (omega arith, omega arith, rw (part-tail w₂ (10 + s .n) (omega arith)) (omega (arith, length-drop (10 + s .n) w₂)))
+
+same-length : tie.Need-same-length
+same-length c = search needs
+
+returns : tie.Need-returns
+unfolding wordCount wordsIn
+returns c =
+    let s = c .before .before .before .before .before .before .before .before .before .before .before .before .before .before .before .before .args in
+    let w₁ = c .before .before .before .before .before .before .before .before .before .before .put-head .last .0 in
+    let n = c .before .before .before .before .before .before .before .before .before .before .before .before .before .before .before .before .pre .2 in
+    let w₂ = putMid 10 (length w₁ - 10) w₁ (c .before .before .before .before .before .before .put-users .last .0) in
+    let f = userWordAt (s .bw) (s .row .now) 1 (s .a .now) in
+    let g = userWordAt (s .bw) (s .row .now) 2 (s .b .now) in
+    laid-out (headerOf (s .bw) (s .row .now) (s .a .now)) f g (count (s .bw) 1 (s .a .now)) (count (s .bw) 2 (s .b .now)) (s .words .now) w₁ w₂ _ refl (omega arith)
+    (c .before .before .before .before .before .before .before .before .before .before .put-head .ensures)
+    (ap (putMid 10 (length w₁ - 10) w₁) (c .before .before .before .before .before .before .put-users .ensures))
+    (rw (← n) (ap (putMid (10 + s .n) (length w₂ - (10 + s .n)) w₂) (c .before .before .put-users2 .ensures)))
+
+pub put-frame-spec : {M : Type 1} → statement M
+put-frame-spec =
+    tie.close
+    (tie.spec
+    put-head-requires
+    add-at
+    sub-put-users
+    part-put-users-start
+    part-put-users-end
+    put-users-requires
+    mul-put-users
+    sub-put-users-2
+    part-put-users-start-2
+    part-put-users-end-2
+    put-users-requires-2
+    same-length
+    returns)

@@ -1,0 +1,3 @@
+pub mod Table
+pub mod Stages
+pub mod Judged
