@@ -2,17 +2,19 @@
 -- nothing.
 use mathlib.Core.Path.{_≡_, refl}
 use mathlib.Core.List.{List, [], _∷_, _++_}
-use mathlib.Core.Bool.{cond}
+use mathlib.Core.Bool.{Bool, true, false, cond, _&&_}
 use Prim.Native.Nat.{ℕ, zero, suc, _^_, _≤_, _<_}
 use native.Mathlib.Omega.{arith}
 use lib.Dec.{ltb}
 use lib.ListN.{length, getD}
+use borrow.Author.Tests.{ltb-true}
 use Rattle.answer.specs.Answer.{_or_}
 use Rattle.answer.specs.Order.{firstOf}
 use Rattle.answer.specs.Least.{least}
 use Rattle.answer.specs.Filled.{build}
 use Rattle.answer.specs.declared.Out.the-variants.{Pass}
 use Rattle.bits.specs.Bits.{bit, field, differs}
+use Rattle.bits.specs.Writes.{Small}
 use Rattle.check4.specs.Check.{step, register, sent, check, right}
 use Rattle.resource.specs.Values.{carried, pieces, fieldsOf, ownPieces}
 use Rattle.channel.specs.Layout.{positions, present, firsts, seconds, firstBits, secondAt, secondBits, hasSecond, common, subfields, subfieldsIn, valueAt, value, rowAt, row, total, count, userAt, blockAt, blocks, covered, endOf}
@@ -71,13 +73,40 @@ as-long (suc (suc (suc zero))) l = refl
 as-long (suc (suc (suc (suc zero)))) l = refl
 as-long (suc (suc (suc (suc (suc bw))))) l = absurd (omega arith)
 
+both-true : (a b : Bool) → (a && b) ≡ true → (a ≡ true) × (b ≡ true)
+both-true true b e = (refl, e)
+both-true false b e = absurd (let z : _≡_ {A = ℕ} 0 1 = cc in omega arith)
+
+-- every element is a byte
+are-bytes : List ℕ → Bool
+are-bytes [] = true
+are-bytes (x ∷ s) = ltb x 256 && are-bytes s
+
+small-of : (s : List ℕ) → are-bytes s ≡ true → Small s
+unfolding are-bytes
+small-of s e = record { small = go s e }
+  where
+    go : (s : List ℕ) → are-bytes s ≡ true → (k : ℕ) → getD s k 0 < 256
+    go [] e k = omega arith
+    go (x ∷ s) e zero = ltb-true x 256 (both-true (ltb x 256) (are-bytes s) e .0)
+    go (x ∷ s) e (suc k) = go s (both-true (ltb x 256) (are-bytes s) e .1) k
+
+of-bytes : (bw : ℕ) → bw < 5 → (are-bytes (channel bw) ≡ true) × (are-bytes (second bw) ≡ true)
+unfolding times channel second are-bytes
+of-bytes zero l = (refl, refl)
+of-bytes (suc zero) l = (refl, refl)
+of-bytes (suc (suc zero)) l = (refl, refl)
+of-bytes (suc (suc (suc zero))) l = (refl, refl)
+of-bytes (suc (suc (suc (suc zero)))) l = (refl, refl)
+of-bytes (suc (suc (suc (suc (suc bw))))) l = absurd (omega arith)
+
 -- n is the length of the longest listing of all accepted frames of a bandwidth
 pub record Longest (bw n : ℕ) : Type 0 where
   pub most : (a b : List ℕ) → readable bw a b ≡ Pass → length (listing bw a b) ≤ n
-  pub attained : (a : List ℕ) × (b : List ℕ) × (readable bw a b ≡ Pass) × (length (listing bw a b) ≡ n)
+  pub attained : (a : List ℕ) × (b : List ℕ) × Small a × Small b × (readable bw a b ≡ Pass) × (length (listing bw a b) ≡ n)
 
 pub longest-listing : (bw : ℕ) → bw < 5 → Longest bw (longest (2 ^ bw))
 longest-listing bw l = record {
   most = longest-most bw;
-  attained = (channel bw, second bw, is-accepted bw l, as-long bw l);
+  attained = (channel bw, second bw, small-of (channel bw) (of-bytes bw l .0), small-of (second bw) (of-bytes bw l .1), is-accepted bw l, as-long bw l);
 }
