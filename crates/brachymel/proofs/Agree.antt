@@ -9,7 +9,8 @@ use Rattle.answer.specs.Filled.{filled}
 use Rattle.frame.specs.Words.{wordCount, wordsOf}
 use Rattle.reader.specs.Table.{reading}
 use Rattle.reader.specs.Result.{answerOf}
-use Rattle.brachymel.specs.Bytes.{byteAt, readBytes}
+use Rattle.octets.specs.Octets.{byteAt}
+use Rattle.brachymel.specs.Bytes.{readBytes}
 use Rattle.brachymel.proofs.brachymel_read.Reads as read
 use Rattle.brachymel.proofs.brachymel_write.Reads as write
 use Rattle.brachymel.proofs.brachymel_list.Reads as list

@@ -17,7 +17,8 @@ use Rattle.candidate.specs.Candidate.{needed, candidate}
 use Rattle.writer.specs.Result.{check13, check14, writing, front}
 use Rattle.writer.proofs.Exactly.{numbers, only-1, only-13, only-14}
 use Rattle.listing.proofs.Facts.{list-kept}
-use Rattle.brachymel.specs.Bytes.{wordsIn, ragged, writingText, writeAnswer, writeChannel}
+use Rattle.octets.specs.Octets.{wordsIn}
+use Rattle.brachymel.specs.Bytes.{ragged, writingText, writeAnswer, writeChannel}
 use Rattle.brachymel.proofs.brachymel_write.Reads as write
 use Rattle.brachymel.proofs.brachymel_list.Reads as list
 

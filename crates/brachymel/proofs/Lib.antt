@@ -1,4 +1,3 @@
-pub mod Four
 pub mod Through
 pub mod Agree
 pub mod Judged

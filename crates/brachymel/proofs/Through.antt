@@ -17,7 +17,8 @@ use Rattle.reader.specs.Result.{answerOf, wordsAfter}
 use Rattle.reader.specs.Stages.{reading-pass}
 use Rattle.frame.specs.Determine.{words-length}
 use Rattle.reader.proofs.Exactly.{accepted-exactly}
-use Rattle.brachymel.specs.Bytes.{byteAt, readAnswer, readBytes}
+use Rattle.octets.specs.Octets.{byteAt}
+use Rattle.brachymel.specs.Bytes.{readAnswer, readBytes}
 use Rattle.brachymel.specs.Rooms.{reading-room}
 
 module _ (bw : ℕ) (a b w p p′ : List ℕ) (x : Answer) (er : length p ≡ min (length w / 4) 154) (ex : x ≡ answerOf bw a b (length p)) (ep : p′ ≡ wordsAfter bw a b p) where

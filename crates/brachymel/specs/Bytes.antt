@@ -4,24 +4,20 @@
 -- little-endian. For the reader's room only whole words count".
 use mathlib.Core.Bool.{not}
 use mathlib.Core.List.{List}
-use Prim.Native.Nat.{ℕ, _+_, _*_, _/_, _%_, _^_}
+use Prim.Native.Nat.{ℕ, _*_, _/_, _%_}
 use lib.Dec.{eqb}
 use lib.ListN.{length}
 use Rattle.answer.specs.Answer.{no, refuseIf, _or_, answerAt, after}
-use Rattle.answer.specs.Filled.{build, filled}
+use Rattle.answer.specs.Filled.{filled}
 use Rattle.answer.specs.declared.Answer.{Answer}
 use Rattle.answer.specs.declared.Out.{Out}
-use Rattle.words.specs.Words.{nth}
+use Rattle.octets.specs.Octets.{byteAt, wordsIn}
 use Rattle.table.specs.Table.{check1}
 use Rattle.frame.specs.Words.{wordCount, wordsOf}
 use Rattle.reader.specs.Table.{reading}
 use Rattle.reader.specs.Result.{answerOf}
 use Rattle.candidate.specs.Candidate.{needed, candidate}
 use Rattle.writer.specs.Result.{writing, front}
-
--- byte 4 i + k of the text is byte k, the lowest first, of word i
-unfoldable pub byteAt : List ℕ → ℕ → ℕ
-byteAt ws j = nth ws (j / 4) / 256 ^ (j % 4) % 256
 
 -- "0 and 12 give places in words"
 abbrev pub readAnswer : ℕ → List ℕ → List ℕ → List ℕ → Answer
@@ -32,13 +28,6 @@ unfoldable pub readBytes : ℕ → List ℕ → List ℕ → List ℕ → List �
 readBytes bw a b w = after (reading bw a b (length w / 4)) (filled (byteAt (wordsOf bw a b)) (4 * wordCount bw a b) w) w
 
 -- ---- the writer's words
-
--- word i of a text of bytes
-unfoldable pub wordAt : List ℕ → ℕ → ℕ
-wordAt t i = nth t (4 * i) + 256 * (nth t (4 * i + 1) + 256 * (nth t (4 * i + 2) + 256 * nth t (4 * i + 3)))
-
-abbrev pub wordsIn : List ℕ → List ℕ
-wordsIn t = build (wordAt t) (length t / 4)
 
 -- "a word text not divisible by four gives the writer's 13"
 unfoldable pub ragged : List ℕ → Out

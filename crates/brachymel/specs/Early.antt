@@ -18,7 +18,8 @@ use Rattle.frame.specs.Words.{wordsOf}
 use Rattle.frame.specs.Determine.{words-length}
 use Rattle.candidate.specs.Candidate.{candidate}
 use Rattle.writer.specs.Result.{sameWords, readsTo, notRead, check13, check14, writing}
-use Rattle.brachymel.specs.Bytes.{wordAt, wordsIn, ragged, writingText}
+use Rattle.octets.specs.Octets.{wordAt, wordsIn}
+use Rattle.brachymel.specs.Bytes.{ragged, writingText}
 use Rattle.frame.specs.Counted.{word-count-le}
 
 unfoldable pub early : ℕ → ℕ → ℕ → Out

@@ -2,37 +2,13 @@
 use answer::Answer;
 use answer::Out;
 ghost use mathlib.Core.Path.{_≡_};
-ghost use Prim.Native.Nat.{_+_, _*_, _/_, _%_, _≤_, _<_, min};
+ghost use Prim.Native.Nat.{_/_, _%_, _≤_, _<_};
 ghost use lib.ListN.{length};
-ghost use Rattle.answer.specs.Filled.{filled};
-ghost use Rattle.brachymel.specs.Bytes.{byteAt, readAnswer, readBytes, wordAt, wordsIn, writeAnswer, writeChannel};
+ghost use Rattle.octets.specs.Octets.{wordsIn};
+ghost use Rattle.brachymel.specs.Bytes.{readAnswer, readBytes, writeAnswer, writeChannel};
 ghost use Rattle.brachymel.specs.Early.{early};
 ghost use Rattle.writer.specs.Result.{answerOf, channelAfter};
 ghost use Rattle.listed.specs.Listing.{listAnswer, listAfter};
-
-// The first n words as bytes, the lowest byte of each first.
-fn put_bytes(out: &mut [u8], words: &[u32], n: usize)
-    requires { ⌜ (n ≤ length (now words)) × (n ≤ 154) × (4 * n ≤ length (now out)) ⌝ }
-    ensures { λ _. ⌜ now (out .exit) ≡ filled (byteAt (now (words .entry))) (4 * n) (now (out .entry)) ⌝ }
-{
-    let mut i = 0;
-    while i < n {
-        let w = words[i];
-        out[4 * i] = (w % 256) as u8;
-        out[4 * i + 1] = (w / 256 % 256) as u8;
-        out[4 * i + 2] = (w / 65536 % 256) as u8;
-        out[4 * i + 3] = (w / 16777216 % 256) as u8;
-        i += 1;
-    }
-}
-
-// How many whole words the bytes have room for; 154 is as good as more.
-fn room_of(bytes: usize) -> usize
-    ensures { λ r. ⌜ (r ≤ 154) × (r ≡ min (bytes / 4) 154) ⌝ }
-{
-    let n = bytes / 4;
-    if n < 154 { n } else { 154 }
-}
 
 // The reading, through words of its own.
 fn read_through(
@@ -46,12 +22,12 @@ fn read_through(
     ensures { λ r. ⌜ r ≡ readAnswer bandwidth (now (cc1 .entry)) (now (cc2 .entry)) (now (words .entry)) ⌝ }
     ensures { λ _. ⌜ now (words .exit) ≡ readBytes bandwidth (now (cc1 .entry)) (now (cc2 .entry)) (now (words .entry)) ⌝ }
 {
-    let room = room_of(words.len());
+    let room = octets::room_of(words.len());
     let x = reader::read(bandwidth, cc1, cc2, &mut local[..room]);
     if x.number != 0 {
         return x;
     }
-    put_bytes(words, local, x.place);
+    octets::put_bytes(words, local, x.place);
     x
 }
 
@@ -62,34 +38,6 @@ pub extern "C" fn brachymel_read(bandwidth: u32, cc1: &[u8], cc2: &[u8], words: 
 {
     let mut local = [0u32; 154];
     read_through(bandwidth, cc1, cc2, words, &mut local)
-}
-
-// Word i of the bytes.
-fn word_in(bytes: &[u8], i: usize) -> u32
-    requires { ⌜ 4 * i + 4 ≤ length (now bytes) ⌝ }
-    ensures { λ r. ⌜ r ≡ wordAt (now (bytes .entry)) i ⌝ }
-{
-    let at = 4 * i;
-    wide(bytes[at])
-        + 256 * (wide(bytes[at + 1]) + 256 * (wide(bytes[at + 2]) + 256 * wide(bytes[at + 3])))
-}
-
-fn wide(x: u8) -> u32
-    ensures { λ r. ⌜ (r < 256) × (r ≡ x) ⌝ }
-{
-    x as u32
-}
-
-// The first n words of the bytes.
-fn get_words(local: &mut [u32], bytes: &[u8], n: usize)
-    requires { ⌜ (n ≤ length (now local)) × (4 * n ≤ length (now bytes)) ⌝ }
-    ensures { λ _. ⌜ now (local .exit) ≡ filled (wordAt (now (bytes .entry))) n (now (local .entry)) ⌝ }
-{
-    let mut i = 0;
-    while i < n {
-        local[i] = word_in(bytes, i);
-        i += 1;
-    }
 }
 
 // The writing, of n words and through words of its own.
@@ -106,7 +54,7 @@ fn write_through(
     ensures { λ _. ⌜ now (cc1 .exit) ≡ channelAfter bandwidth (wordsIn (now (words .entry))) (length (now (cc1 .entry))) (length (now (cc2 .entry))) 1 (now (cc1 .entry)) ⌝ }
     ensures { λ _. ⌜ now (cc2 .exit) ≡ channelAfter bandwidth (wordsIn (now (words .entry))) (length (now (cc1 .entry))) (length (now (cc2 .entry))) 2 (now (cc2 .entry)) ⌝ }
 {
-    get_words(local, words, n);
+    octets::get_words(local, words, n);
     writer::write(bandwidth, &local[..n], cc1, cc2)
 }
 

@@ -25,7 +25,7 @@ use Rattle.listed.specs.Listing.{listing}
 use Rattle.listing.proofs.Judged as listed
 use Rattle.listing.proofs.list.Reads as list
 use Rattle.listing.proofs.respond.Reads as respond
-use Rattle.brachymel.specs.Bytes.{wordsIn}
+use Rattle.octets.specs.Octets.{wordsIn}
 use Rattle.brachymel.proofs.Judged as entries
 use Rattle.brachymel.proofs.Agree as library
 use Rattle.brachymel.proofs.brachymel_read.Reads as c-read

@@ -1,5 +1,5 @@
 -- `brachymel::write_through` meets its contract. Assumes nothing.
-use Rattle.brachymel.specs.Bytes.{wordAt}
+use Rattle.octets.specs.Octets.{wordAt}
 use Rattle.answer.specs.Filled.{build, filled-length, take-filled}
 use lib.Seq.{length-take-le}
 use lib.ListN.{length, take}

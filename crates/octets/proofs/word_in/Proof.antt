@@ -1,8 +1,8 @@
--- `brachymel::word_in` meets its contract. Assumes nothing.
-use Rattle.brachymel.specs.Bytes.{wordAt}
+-- `octets::word_in` meets its contract. Assumes nothing.
+use Rattle.octets.specs.Octets.{wordAt}
 use borrow.Author.Needs.{needs}
-use Rattle.brachymel.proofs.word_in.Statement.{statement}
-use Rattle.brachymel.proofs.word_in.Tie as tie
+use Rattle.octets.proofs.word_in.Statement.{statement}
+use Rattle.octets.proofs.word_in.Tie as tie
 
 mul-at : tie.Need-mul-at
 mul-at c = search needs

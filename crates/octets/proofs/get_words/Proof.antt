@@ -1,13 +1,13 @@
--- `brachymel::get_words` meets its contract. Assumes nothing.
-use Rattle.brachymel.specs.Bytes.{wordAt}
+-- `octets::get_words` meets its contract. Assumes nothing.
+use Rattle.octets.specs.Octets.{wordAt}
 use Rattle.answer.specs.Filled.{filled, filled-start, filled-step}
 use lib.ListN.{length, set, length-set}
 use Prim.Native.Nat.{_+_, _-_, _≤_}
 use mathlib.Core.Path.{_≡_, refl}
 use native.Mathlib.Omega.{arith}
 use borrow.Author.Needs.{needs}
-use Rattle.brachymel.proofs.get_words.Statement.{statement}
-use Rattle.brachymel.proofs.get_words.Tie as tie
+use Rattle.octets.proofs.get_words.Statement.{statement}
+use Rattle.octets.proofs.get_words.Tie as tie
 
 abbrev Inv-loop : tie.InvT-loop
 Inv-loop local₀ bytes n i₀ local i = (i ≤ n) × (local ≡ filled (wordAt bytes) i local₀) × (length local ≡ length local₀)

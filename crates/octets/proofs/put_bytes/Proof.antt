@@ -1,14 +1,14 @@
--- `brachymel::put_bytes` meets its contract. Assumes nothing.
-use Rattle.brachymel.proofs.Four.{four}
-use Rattle.brachymel.specs.Bytes.{byteAt}
+-- `octets::put_bytes` meets its contract. Assumes nothing.
+use Rattle.octets.proofs.Four.{four}
+use Rattle.octets.specs.Octets.{byteAt}
 use Rattle.answer.specs.Filled.{filled, filled-start}
 use lib.ListN.{length, length-set}
 use Prim.Native.Nat.{_*_, _-_, _≤_}
 use mathlib.Core.Path.{_≡_, refl}
 use native.Mathlib.Omega.{arith}
 use borrow.Author.Needs.{needs}
-use Rattle.brachymel.proofs.put_bytes.Statement.{statement}
-use Rattle.brachymel.proofs.put_bytes.Tie as tie
+use Rattle.octets.proofs.put_bytes.Statement.{statement}
+use Rattle.octets.proofs.put_bytes.Tie as tie
 
 abbrev Inv-loop : tie.InvT-loop
 Inv-loop out₀ words n i₀ out i = (i ≤ n) × (out ≡ filled (byteAt words) (4 * i) out₀) × (length out ≡ length out₀)

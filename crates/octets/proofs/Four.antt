@@ -7,7 +7,7 @@ use native.Mathlib.Nat.{add-zero, div-one}
 use lib.ListN.{length, set}
 use Rattle.answer.specs.Filled.{filled, filled-step}
 use Rattle.words.specs.Words.{nth}
-use Rattle.brachymel.specs.Bytes.{byteAt}
+use Rattle.octets.specs.Octets.{byteAt}
 
 -- byte k of word i
 pub byte-of : (ws : List ℕ) (i k : ℕ) → k < 4 → byteAt ws (4 * i + k) ≡ nth ws i / 256 ^ k % 256
