@@ -8,8 +8,6 @@ use native.Mathlib.Omega.{arith}
 use lib.Dec.{eqb}
 use lib.ListN.{length}
 use lib.Seq.{ext-getD}
-use Rattle.answer.specs.Answer as A
-use Rattle.answer.specs.Answer.{_or_}
 use Rattle.bits.specs.Bits.{put}
 use Rattle.channel.specs.Layout.{firstBits, subfieldsIn, valueAt, userAt, blockAt, blocks, covered}
 use Rattle.words.specs.Words.{nth}

@@ -1,7 +1,6 @@
 // The only channels that given words can come from.
 ghost use mathlib.Core.Path.{_≡_};
 ghost use Prim.Native.Nat.{_+_, _<_, _≤_};
-ghost use Rattle.answer.specs.Answer.{_or_};
 ghost use Rattle.channel.specs.Layout.{subfieldsIn, valueAt, userAt, blocks};
 ghost use Rattle.words.specs.Words.{nth};
 ghost use Rattle.words.specs.Back.{userField};

@@ -40,7 +40,7 @@ use Rattle.reader.specs.Result.{wordsAfter}
 use Rattle.reader.proofs.Exactly.{accepted-exactly}
 use Rattle.reader.proofs.read.Reads as read
 use Rattle.carried.specs.Formats.{together, WordOn, OwnsIn, OneOwner, Formatted, UserWords}
-use Rattle.carried.proofs.Counts.{row-count-1, row-count-2, given-1, given-2}
+use Rattle.frame.proofs.Counts.{row-count-1, row-count-2, given-1, given-2}
 
 -- a position is one channel's
 one-channel : (p f : ℕ) → inChannel 0 p f + inChannel 1 p f ≡ f

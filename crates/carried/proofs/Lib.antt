@@ -1,4 +1,3 @@
 pub mod Channels
 pub mod Answers
-pub mod Counts
 pub mod Formats

@@ -1,3 +1,4 @@
 pub mod Grow
 pub mod Givers
+pub mod Counts
 pub mod Agree

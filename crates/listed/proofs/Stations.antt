@@ -3,10 +3,9 @@
 use mathlib.Core.Path.{_≡_, refl, sym, ap, _∙_}
 use mathlib.Core.Bool.{Bool, true, false, cond}
 use mathlib.Core.List.{List}
-use Prim.Native.Nat.{ℕ, zero, suc, _+_, _-_, _*_, _/_, _%_, _≤_, _<_}
-use native.Mathlib.Decide.{decLt}
+use Prim.Native.Nat.{ℕ, _+_, _-_, _*_, _/_, _%_, _≤_, _<_}
 use native.Mathlib.Omega.{arith}
-use borrow.Author.Tests.{lt-ltb, le-ltb, ltb-true, ltb-false, eq-eqb, ne-eqb}
+use borrow.Author.Tests.{lt-ltb, le-ltb, ltb-true, ltb-false}
 use lib.Dec.{ltb, eqb}
 use lib.ListN.{length}
 use Rattle.answer.specs.declared.Out.the-variants.{Pass}
@@ -14,9 +13,7 @@ use Rattle.bits.specs.Bits.{field}
 use Rattle.bits.specs.Fields.{field-lt, field-split}
 use Rattle.words.specs.Words.{nth}
 use Rattle.words.specs.Back.{fieldIn, userField}
-use Rattle.resource.specs.Values.{fieldsOf}
-use Rattle.channel.specs.Layout.{positions, present, firsts, seconds, subfields, subfieldsIn, value, row, total, count, userAt}
-use Rattle.channel.specs.Laws.{half, subfields-wide, row-length, row-even, row-odd, total-cong}
+use Rattle.channel.specs.Layout.{row, count, userAt}
 use Rattle.plan.specs.Plan.{at}
 use Rattle.plan.specs.Guess.{onlyPlan}
 use Rattle.records.specs.Owns.{fieldsBefore, Owns}
@@ -25,66 +22,21 @@ use Rattle.records.proofs.Shares.{owner-listed}
 use Rattle.table.specs.Table.{readable}
 use Rattle.frame.specs.Words.{wordCount, wordsOf}
 use Rattle.frame.specs.Determine.{words-length, user-back-1, user-back-2}
+use Rattle.frame.proofs.Counts.{row-count-1, row-count-2}
 use Rattle.lines.specs.Lines.{staLine}
 use Rattle.listed.specs.Listing.{resources, ownerIn, staLineAt}
 use Rattle.listed.proofs.Accepted.{known-code, accepted-signals}
 
 -- ---- how many: "the count is the sum over the row's values", in each channel
 
--- of whole pairs of positions
-even-fields : (row : ℕ → ℕ) (n : ℕ) → fieldsBefore 0 row (2 * n) ≡ total (λ k. fieldsOf (row (2 * k))) n
-unfolding total
-even-fields row zero = refl
-even-fields row (suc n) =
-    let e : 2 * suc n ≡ suc (suc (2 * n)) = omega arith in
-    let z : 2 * n % 2 ≡ 0 = omega arith in
-    rw (e, eq-eqb (2 * n % 2) 0 z, ne-eqb (suc (2 * n) % 2) 0 (λ f. omega arith)) (omega (arith, even-fields row n))
-
-odd-fields : (row : ℕ → ℕ) (n : ℕ) → fieldsBefore 1 row (2 * n) ≡ total (λ k. fieldsOf (row (2 * k + 1))) n
-unfolding total
-odd-fields row zero = refl
-odd-fields row (suc n) =
-    let e : 2 * suc n ≡ suc (suc (2 * n)) = omega arith in
-    let z : suc (2 * n) % 2 ≡ 1 = omega arith in
-    let s : 2 * n + 1 ≡ suc (2 * n) = omega arith in
-    rw (e, s, ne-eqb (2 * n % 2) 1 (λ f. omega arith), eq-eqb (suc (2 * n) % 2) 1 z) (omega (arith, odd-fields row n))
-
 module _ (bw : ℕ) (a b : List ℕ) (l : bw ≤ 4) where
-  abbrev at-p : ℕ → ℕ
-  at-p = at (row bw a b)
-
-  -- at 20 MHz there is one position, and no channel 2
-  lone : bw ≡ 0 → (fieldsBefore 0 at-p (positions bw) ≡ count bw 1 a) × (fieldsBefore 1 at-p (positions bw) ≡ count bw 2 b)
-  unfolding count total positions subfieldsIn present subfields firsts seconds
-  lone e =
-      let v : at-p 0 ≡ value bw a 0 = row-even bw a b 0 (rw e (omega arith)) in
-      (rw e (ap (λ (x : ℕ). 0 + fieldsOf x) (rw e at v)), rw e)
-
-  in-each : (fieldsBefore 0 at-p (positions bw) ≡ count bw 1 a) × (fieldsBefore 1 at-p (positions bw) ≡ count bw 2 b)
-  unfolding count
-  in-each = go (decLt 0 bw)
-    where
-      go : Dec (0 < bw) → (fieldsBefore 0 at-p (positions bw) ≡ count bw 1 a) × (fieldsBefore 1 at-p (positions bw) ≡ count bw 2 b)
-      go (yes h) =
-          let n : 2 * subfields bw ≡ positions bw = half bw h l in (
-            ap (fieldsBefore 0 at-p) (sym n)
-                ∙ even-fields at-p (subfields bw)
-                ∙ total-cong (λ k. fieldsOf (at-p (2 * k))) (λ k. fieldsOf (value bw a k)) (subfields bw) (λ k m. ap fieldsOf (row-even bw a b k (omega arith)))
-                ∙ ap (total (λ k. fieldsOf (value bw a k))) (sym (subfields-wide bw 1 h)),
-            ap (fieldsBefore 1 at-p) (sym n)
-                ∙ odd-fields at-p (subfields bw)
-                ∙ total-cong (λ k. fieldsOf (at-p (2 * k + 1))) (λ k. fieldsOf (value bw b k)) (subfields bw) (λ k m. ap fieldsOf (row-odd bw a b k (omega arith)))
-                ∙ ap (total (λ k. fieldsOf (value bw b k))) (sym (subfields-wide bw 2 h)),
-          )
-      go (no h) = lone (omega arith)
-
   -- fields1=
   pub fields-1 : fieldsBefore 0 (at (row bw a b)) (length (row bw a b)) ≡ count bw 1 a
-  fields-1 = ap (fieldsBefore 0 at-p) (row-length bw a b) ∙ in-each .0
+  fields-1 = row-count-1 bw a b l
 
   -- fields2=
   pub fields-2 : fieldsBefore 1 (at (row bw a b)) (length (row bw a b)) ≡ count bw 2 b
-  fields-2 = ap (fieldsBefore 1 at-p) (row-length bw a b) ∙ in-each .1
+  fields-2 = row-count-2 bw a b l
 
 -- stations=: their sum, as many as there are words past the first ten
 pub stations-words : (bw : ℕ) (a b : List ℕ) → count bw 1 a + count bw 2 b ≡ length (wordsOf bw a b) - 10

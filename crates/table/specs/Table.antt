@@ -1,7 +1,7 @@
 -- 01's table, "What comes back", up to 11. Assumes nothing.
 --
 -- "Checks run in number order"; "inside one, channel 1 first, lowest bit first". The tests of 2 to 6, 9 and 10 are
--- `channel`'s, that of 11 is `stations`'. Those of 7 and 8 are `plan`'s: it works out the answer that 01's plan allows, and
+-- `faults`', that of 11 is `stations`'. Those of 7 and 8 are `plan`'s: it works out the answer that 01's plan allows, and
 -- no other (`plan/proofs/Laid.antt`: `layout-laid`, `laid-is`). a and b are the bytes of channel 1 and channel 2.
 use mathlib.Core.List.{List, [], _∷_}
 use Prim.Native.Nat.{ℕ}

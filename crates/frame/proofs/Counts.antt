@@ -1,4 +1,5 @@
--- The User fields of a channel, counted by its own values and by the row's, are the same. Assumes nothing.
+-- The User fields of a channel, counted by its own values and by the row's, are the same, and so is the position that gives one. Assumes
+-- nothing.
 use mathlib.Core.Path.{_≡_, sym, _∙_, ap}
 use mathlib.Core.List.{List}
 use Prim.Native.Nat.{ℕ, zero, suc, _+_, _-_, _*_, _/_, _%_, _≤_, _<_}
