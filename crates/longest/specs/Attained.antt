@@ -2,12 +2,11 @@
 -- nothing.
 use mathlib.Core.Path.{_≡_, refl}
 use mathlib.Core.List.{List, [], _∷_, _++_}
-use mathlib.Core.Bool.{Bool, true, false, cond, _&&_}
+use mathlib.Core.Bool.{Bool, cond}
 use Prim.Native.Nat.{ℕ, zero, suc, _^_, _≤_, _<_}
 use native.Mathlib.Omega.{arith}
-use lib.Dec.{ltb}
+use lib.Dec.{T, ltb, ltb→lt}
 use lib.ListN.{length, getD}
-use borrow.Author.Tests.{ltb-true}
 use Rattle.answer.specs.Answer.{_or_}
 use Rattle.answer.specs.Order.{firstOf}
 use Rattle.answer.specs.Least.{least}
@@ -16,6 +15,7 @@ use Rattle.answer.specs.declared.Out.the-variants.{Pass}
 use Rattle.bits.specs.Bits.{bit, field, differs}
 use Rattle.bits.specs.Writes.{Small}
 use Rattle.check4.specs.Check.{step, register, sent, check, right}
+use Rattle.resource.proofs.Test.{both-left, both-right, at-each}
 use Rattle.resource.specs.Values.{carried, pieces, fieldsOf, ownPieces}
 use Rattle.channel.specs.Layout.{positions, present, firsts, seconds, firstBits, secondAt, secondBits, hasSecond, common, subfields, subfieldsIn, valueAt, value, rowAt, row, total, count, userAt, blockAt, blocks, covered, endOf}
 use Rattle.faults.specs.Checks.{tooLong, cutCommon, wrongFirst, wrongSecond, wrongCommon, overflowDiffers, foreign, firstForeign, notCarried, cutUsers, wrongBlock, firstWrong, wrongUsersOf, wrongUsers}
@@ -73,31 +73,25 @@ as-long (suc (suc (suc zero))) l = refl
 as-long (suc (suc (suc (suc zero)))) l = refl
 as-long (suc (suc (suc (suc (suc bw))))) l = absurd (omega arith)
 
-both-true : (a b : Bool) → (a && b) ≡ true → (a ≡ true) × (b ≡ true)
-both-true true b e = (refl, e)
-both-true false b e = absurd (let z : _≡_ {A = ℕ} 0 1 = cc in omega arith)
-
 -- every element is a byte
-are-bytes : List ℕ → Bool
-are-bytes [] = true
-are-bytes (x ∷ s) = ltb x 256 && are-bytes s
+abbrev are-bytes : List ℕ → Bool
+are-bytes = at-each (λ x. ltb x 256)
 
-small-of : (s : List ℕ) → are-bytes s ≡ true → Small s
-unfolding are-bytes
-small-of s e = record { small = go s e }
+small-of : (s : List ℕ) → T (are-bytes s) → Small s
+small-of s t = record { small = go s t }
   where
-    go : (s : List ℕ) → are-bytes s ≡ true → (k : ℕ) → getD s k 0 < 256
-    go [] e k = omega arith
-    go (x ∷ s) e zero = ltb-true x 256 (both-true (ltb x 256) (are-bytes s) e .0)
-    go (x ∷ s) e (suc k) = go s (both-true (ltb x 256) (are-bytes s) e .1) k
+    go : (s : List ℕ) → T (are-bytes s) → (k : ℕ) → getD s k 0 < 256
+    go [] t k = omega arith
+    go (x ∷ s) t zero = ltb→lt x 256 (both-left (ltb x 256) (are-bytes s) t)
+    go (x ∷ s) t (suc k) = go s (both-right (ltb x 256) (are-bytes s) t) k
 
-of-bytes : (bw : ℕ) → bw < 5 → (are-bytes (channel bw) ≡ true) × (are-bytes (second bw) ≡ true)
-unfolding times channel second are-bytes
-of-bytes zero l = (refl, refl)
-of-bytes (suc zero) l = (refl, refl)
-of-bytes (suc (suc zero)) l = (refl, refl)
-of-bytes (suc (suc (suc zero))) l = (refl, refl)
-of-bytes (suc (suc (suc (suc zero)))) l = (refl, refl)
+of-bytes : (bw : ℕ) → bw < 5 → T (are-bytes (channel bw)) × T (are-bytes (second bw))
+unfolding times channel second
+of-bytes zero l = (tt, tt)
+of-bytes (suc zero) l = (tt, tt)
+of-bytes (suc (suc zero)) l = (tt, tt)
+of-bytes (suc (suc (suc zero))) l = (tt, tt)
+of-bytes (suc (suc (suc (suc zero)))) l = (tt, tt)
 of-bytes (suc (suc (suc (suc (suc bw))))) l = absurd (omega arith)
 
 -- n is the length of the longest listing of all accepted frames of a bandwidth
