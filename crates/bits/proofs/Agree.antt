@@ -4,6 +4,7 @@ use denote.Ref.{now}
 use Rattle.bits.proofs.byte_at.Reads as byte-at
 use Rattle.bits.proofs.bit_at.Reads as bit-at
 use Rattle.bits.proofs.field_at.Reads as field-at
+use Rattle.bits.proofs.wide_from.Reads as wide-from
 use Rattle.bits.proofs.lacks_at.Reads as lacks-at
 use Rattle.bits.proofs.first_diff.Reads as first-diff
 use Rattle.bits.proofs.set_bit.Reads as set-bit
@@ -17,6 +18,9 @@ bit-at-agrees κs a r r' s s' p q = p ∙ sym q
 
 pub field-at-agrees : (κs : _) (a : _) (r r' : _) (s s' : _) → field-at.Post κs a r s → field-at.Post κs a r' s' → r ≡ r'
 field-at-agrees κs a r r' s s' p q = p ∙ sym q
+
+pub wide-from-agrees : (κs : _) (a : _) (r r' : _) (s s' : _) → wide-from.Post κs a r s → wide-from.Post κs a r' s' → r ≡ r'
+wide-from-agrees κs a r r' s s' p q = p ∙ sym q
 
 pub lacks-at-agrees : (κs : _) (a : _) (r r' : _) (s s' : _) → lacks-at.Post κs a r s → lacks-at.Post κs a r' s' → r ≡ r'
 lacks-at-agrees κs a r r' s s' p q = p ∙ sym q

@@ -28,13 +28,21 @@ fn join4(a: u8, b: u8, c: u8, d: u8) -> u32
     a as u32 + b as u32 * 256 + c as u32 * 65536 + d as u32 * 16777216
 }
 
-// The 32 bits from the start of byte i. The first form compiles to one load.
+// The 32 bits from the start of byte i, which are there: one load.
+fn four(s: &[u8], i: usize) -> u32
+    requires { ⌜ i + 3 < length (now s) ⌝ }
+    ensures { λ r. ⌜ r ≡ field (now (s .entry)) (8 * i) 32 ⌝ }
+{
+    join4(s[i], s[i + 1], s[i + 2], s[i + 3])
+}
+
+// The 32 bits from the start of byte i.
 fn window(s: &[u8], i: usize) -> u32
     requires { ⌜ i < 2 ^ 61 ⌝ }
     ensures { λ r. ⌜ r ≡ field (now (s .entry)) (8 * i) 32 ⌝ }
 {
     if i + 3 < s.len() {
-        return join4(s[i], s[i + 1], s[i + 2], s[i + 3]);
+        return four(s, i);
     }
     join4(
         byte_at(s, i),
@@ -50,6 +58,47 @@ pub fn field_at(s: &[u8], at: usize, n: usize) -> u32
     ensures { λ r. ⌜ r ≡ field (now (s .entry)) at n ⌝ }
 {
     (window(s, at / 8) >> (at % 8)) % (1 << n)
+}
+
+// Two numbers of 32 bits as one, the lower first.
+fn join2(a: u32, b: u32) -> u64
+    ensures { λ r. ⌜ r ≡ a + b * 4294967296 ⌝ }
+{
+    a as u64 + b as u64 * 4294967296
+}
+
+// The 64 bits from the start of byte i, which are there: one load.
+fn eight(s: &[u8], i: usize) -> u64
+    requires { ⌜ i + 7 < length (now s) ⌝ }
+    ensures { λ r. ⌜ r ≡ field (now (s .entry)) (8 * i) 64 ⌝ }
+{
+    join2(four(s, i), four(s, i + 4))
+}
+
+// The same where some of them lie past the end. The last eight bytes, moved down, have zeros in their place.
+fn eight_past(s: &[u8], i: usize) -> u64
+    requires { ⌜ length (now s) ≤ i + 7 ⌝ }
+    ensures { λ r. ⌜ r ≡ field (now (s .entry)) (8 * i) 64 ⌝ }
+{
+    let n = s.len();
+    if n <= i {
+        return 0;
+    }
+    if n < 8 {
+        return join2(window(s, i), window(s, i + 4));
+    }
+    eight(s, n - 8) >> (8 * (i - (n - 8)))
+}
+
+// The bits from `at`, as many as one window of 64 holds: 57 from any place in its first byte.
+pub fn wide_from(s: &[u8], at: usize) -> u64
+    ensures { λ r. ⌜ r ≡ field (now (s .entry)) at (64 - at % 8) ⌝ }
+{
+    let i = at / 8;
+    if i + 7 < s.len() {
+        return eight(s, i) >> (at % 8);
+    }
+    eight_past(s, i) >> (at % 8)
 }
 
 // How many of the n bits from `at` lie past the end.

@@ -1,6 +1,5 @@
 -- `bits::window` meets its contract. Assumes nothing.
-use Prim.Native.Nat.{_+_}
-use mathlib.Core.Path.{_∙_, refl}
+use mathlib.Core.Path.{_∙_}
 use native.Mathlib.Omega.{arith}
 use Rattle.bits.specs.Fields.{field-word}
 use borrow.Author.Needs.{needs}
@@ -10,37 +9,11 @@ use Rattle.bits.proofs.window.Tie as tie
 add-if1 : tie.Need-add-if1
 add-if1 c = search needs
 
-shared-slice-read-join4 : tie.Need-shared-slice-read-join4
-shared-slice-read-join4 c = search needs
-
-add-join4 : tie.Need-add-join4
-add-join4 c = search needs
-
-shared-slice-read-join4-2 : tie.Need-shared-slice-read-join4-2
-shared-slice-read-join4-2 c = search needs
-
-add-join4-2 : tie.Need-add-join4-2
-add-join4-2 c = search needs
-
-shared-slice-read-join4-3 : tie.Need-shared-slice-read-join4-3
-shared-slice-read-join4-3 c = search needs
-
-add-join4-3 : tie.Need-add-join4-3
-add-join4-3 c = search needs
-
-shared-slice-read-join4-4 : tie.Need-shared-slice-read-join4-4
-shared-slice-read-join4-4 c = search needs
-
-join4-requires : tie.Need-join4-requires
-join4-requires c κs = search needs
+four-requires : tie.Need-four-requires
+four-requires c κs = search needs
 
 returns : tie.Need-returns
-returns c =
-    let k = c .before .before .before .before .before .before in
-    let i = k .before .args .i in
-    let g = k .shared-slice-known .given in
-    c .join4 .ensures
-    ∙ field-word (k .before .args .s .now) i _ _ _ _ (g i .fits) (g (i + 1) .fits) (g (i + 2) .fits) (g (i + 3) .fits) refl refl refl refl
+returns c = search needs
 
 byte-at-requires : tie.Need-byte-at-requires
 byte-at-requires c κs = search needs
@@ -63,8 +36,8 @@ add-byte-at-3 c = search needs
 byte-at-requires-4 : tie.Need-byte-at-requires-4
 byte-at-requires-4 c κs = search needs
 
-join4-requires-2 : tie.Need-join4-requires-2
-join4-requires-2 c κs = search needs
+join4-requires : tie.Need-join4-requires
+join4-requires c κs = search needs
 
 returns-2 : tie.Need-returns-2
 returns-2 c =
@@ -73,7 +46,7 @@ returns-2 c =
     let b1 = b2 .before in
     let b0 = b1 .before in
     let k = b0 .before .before .before in
-    c .join42 .ensures
+    c .join4 .ensures
     ∙ field-word (k .args .s .now) (k .args .i) _ _ _ _
     (omega arith) (omega arith) (omega arith) (omega arith)
     (b0 .byte-at .ensures) (b1 .byte-at2 .ensures) (b2 .byte-at3 .ensures) (b3 .byte-at4 .ensures)
@@ -83,14 +56,7 @@ window-spec =
     tie.close
     (tie.spec
     add-if1
-    shared-slice-read-join4
-    add-join4
-    shared-slice-read-join4-2
-    add-join4-2
-    shared-slice-read-join4-3
-    add-join4-3
-    shared-slice-read-join4-4
-    join4-requires
+    four-requires
     returns
     byte-at-requires
     add-byte-at
@@ -99,5 +65,5 @@ window-spec =
     byte-at-requires-3
     add-byte-at-3
     byte-at-requires-4
-    join4-requires-2
+    join4-requires
     returns-2)
