@@ -1,4 +1,3 @@
 pub mod Check
 pub mod Checks
-pub mod Parts
-pub mod Mirror
+pub mod Engine
