@@ -5,17 +5,14 @@
  * each position, so that a segment's plan is found by a few ANDs. Repeated stations are found in a bitmap.
  * The writer judges the words as they stand, with no reading back.
  *
- * Compiled with BITWISE, the check is worked out bit by bit; with AS_LIBRARY, the functions have the
- * library's names.
+ * Compiled with AS_LIBRARY, the functions have the library's names.
  */
 #include "fast.h"
 
 #include <string.h>
 
-#if defined AS_LIBRARY
+#ifdef AS_LIBRARY
 #define NAME(x) brachymel_##x
-#elif defined BITWISE
-#define NAME(x) bitwise_##x
 #else
 #define NAME(x) fast_##x
 #endif
@@ -67,19 +64,6 @@ static inline uint64_t low(uint64_t w, unsigned bits)
 
 /* ---- the check: of `bits` bits (8 to 54), the first sent lowest */
 
-#ifdef BITWISE
-static void prepare_check(void)
-{
-}
-
-static unsigned check(uint64_t covered, unsigned bits)
-{
-    uint64_t r = covered ^ 0xFF; /* the register, and the bits that are to come in */
-    for (unsigned k = 0; k < bits; k++)
-        r = r >> 1 ^ (0xE0 & -(r & 1));
-    return ~r & 0xF;
-}
-#else
 static uint8_t share[7][256];  /* of the register, by a byte and how many bytes follow it */
 
 static void prepare_check(void)
@@ -104,7 +88,6 @@ static inline unsigned check(uint64_t covered, unsigned bits)
         r ^= share[bytes - 1 - k][v >> 8 * k & 0xFF];
     return ~r & 0xF;
 }
-#endif
 
 __attribute__((constructor)) static void prepare(void)
 {
