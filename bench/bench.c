@@ -5,30 +5,27 @@
  * For each kind of frame the library and the baseline are timed in turn, round by round, in one process; the best
  * round of each counts: nanoseconds per frame, and the library's ratio to the baseline. Before that both are held to
  * the reference on every frame. The frames: of each bandwidth with few User fields, drawn at random, and all 0, with
- * the geometric mean of their ratios and the worst of them; and of each refusal.
+ * the geometric mean of their ratios and the worst of them; and of each refusal. Then the check alone (check.c).
  */
-#define _POSIX_C_SOURCE 200809L
 #include "cases/cases.h"
+#include "check.h"
 #include "fast.h"
 #include "reference/reference.h"
+#include "rounds.h"
 
 #include <math.h>
 #include <stdio.h>
 #include <stdlib.h>
 #include <string.h>
-#include <time.h>
 
 #define FRAMES 64
-#define ROUNDS 30
 
 typedef brachymel_answer reads(uint32_t, const uint8_t *, size_t, const uint8_t *, size_t, uint8_t *, size_t);
 typedef brachymel_answer writes(uint32_t, const uint8_t *, size_t, uint8_t *, size_t, uint8_t *, size_t);
 
-enum { PROVED, FAST, SIDES };
 static reads *const read_of[SIDES] = {brachymel_read, fast_read};
 static writes *const write_of[SIDES] = {brachymel_write, fast_write};
 static reads *const list_of[SIDES] = {brachymel_list, fast_list};
-static const char *const side_name[SIDES] = {"the library", "the baseline"};
 
 enum { READ, WRITE, LIST };
 static int entry;
@@ -36,15 +33,7 @@ static frame frames[FRAMES];                    /* to read and list */
 static words_case words[FRAMES];                /* to write */
 static size_t room[FRAMES];                     /* of words (bytes) or text */
 static uint8_t buffer[2][BRACHYMEL_LISTING_SIZE];
-static double round_ns = 1e6;
 static unsigned used = FRAMES;                  /* how many of the frames are in use */
-
-static double now(void)
-{
-    struct timespec t;
-    clock_gettime(CLOCK_MONOTONIC, &t);
-    return 1e9 * (double)t.tv_sec + (double)t.tv_nsec;
-}
 
 static brachymel_answer call(int side, unsigned k)
 {
@@ -66,15 +55,11 @@ static answer should_be(unsigned k)
                                                                    f->length[1], buffer[0], room[k]);
 }
 
-/* Nanoseconds for one frame, over a round of `times` passes. */
-static double round_of(int side, unsigned times)
+static void call_all(int side, unsigned times)
 {
-    static volatile uint64_t kept;
-    double began = now();
     for (unsigned n = 0; n < times; n++)
         for (unsigned k = 0; k < used; k++)
             kept += call(side, k).place;
-    return (now() - began) / times / FRAMES;
 }
 
 static void hold_to_reference(int side)
@@ -96,35 +81,12 @@ static void hold_to_reference(int side)
     }
 }
 
-/* The best round of each side, the two taking turns. */
-static void best_of(double best[SIDES])
-{
-    double one;
-    unsigned times = 1;
-    for (int side = 0; side < SIDES; side++) {
-        hold_to_reference(side);
-        best[side] = 1e18;
-    }
-    one = round_of(PROVED, 1) * FRAMES;
-    if (one < round_ns)
-        times = (unsigned)(round_ns / one) + 1;
-    for (int r = 0; r < ROUNDS; r++)
-        for (int s = 0; s < SIDES; s++) {
-            int side = (r + s) % SIDES;
-            double ns = round_of(side, times);
-            best[side] = ns < best[side] ? ns : best[side];
-        }
-}
-
 /* Returns the ratio. */
 static double print_kind(const char *name)
 {
-    double best[SIDES], ratio;
-    best_of(best);
-    ratio = best[PROVED] / best[FAST];
-    printf("%-34s %10.1f %10.1f %7.2f\n", name, best[PROVED], best[FAST], ratio);
-    fflush(stdout);
-    return ratio;
+    for (int side = 0; side < SIDES; side++)
+        hold_to_reference(side);
+    return print_line(name, call_all, used);
 }
 
 /* ---- the frames */
@@ -205,11 +167,6 @@ static void of_one_station(void)
 }
 
 /* ---- the tables */
-
-static void print_head(const char *what)
-{
-    printf("\n%-34s %10s %10s %7s\n", what, "proved, ns", "in C, ns", "ratio");
-}
 
 static const char *const kind_name[] = {"few fields", "random", "all 0"};
 
@@ -310,5 +267,6 @@ int main(int argc, char **argv)
     entry = LIST;
     print_accepted(&c, "listing");
     print_refusals(&c, 23, 23);
+    print_check_alone();
     return 0;
 }

@@ -62,9 +62,9 @@ static inline uint64_t low(uint64_t w, unsigned bits)
     return w & ((UINT64_C(1) << bits) - 1);
 }
 
-/* ---- the check: of `bits` bits (8 to 54), the first sent lowest */
+/* ---- the check: of `bits` bits (8 to 64), the first sent lowest */
 
-static uint8_t share[7][256];  /* of the register, by a byte and how many bytes follow it */
+static uint8_t share[8][256];  /* of the register, by a byte and how many bytes follow it */
 
 static void prepare_check(void)
 {
@@ -74,7 +74,7 @@ static void prepare_check(void)
             r = r & 1 ? r >> 1 ^ 0xE0 : r >> 1; /* x^8+x^2+x+1, its first sent bit lowest */
         share[0][b] = (uint8_t)r;
     }
-    for (unsigned k = 1; k < 7; k++)
+    for (unsigned k = 1; k < 8; k++)
         for (unsigned b = 0; b < 256; b++)
             share[k][b] = share[0][share[k - 1][b]];
 }
@@ -112,6 +112,66 @@ static inline uint64_t window(const uint8_t *s, size_t length, size_t at)
     else if (byte < length)
         memcpy(&w, s + byte, length - byte);
     return w >> at % 8;
+}
+
+/* ---- the check alone: blocks one after the other, of 0 to 64 bits each */
+
+/* Fewer than 8 bits leave some of the register's ones where they were put. */
+static inline unsigned any_check(uint64_t covered, unsigned bits)
+{
+    return bits < 8 ? check(covered, bits) ^ (0xFFu >> bits & 0xF) : check(covered, bits);
+}
+
+static inline uint64_t covered_at(const uint8_t *s, size_t length, size_t at, unsigned bits)
+{
+    if (bits <= 57)
+        return low(window(s, length, at), bits);
+    return low(window(s, length, at), 32) | low(window(s, length, at + 32), bits - 32) << 32;
+}
+
+static inline int right_at(const uint8_t *s, size_t length, size_t at, unsigned bits)
+{
+    if (bits >= 8 && bits <= 47)
+        return right(window(s, length, at), bits);
+    return low(window(s, length, at + bits), 10) == any_check(covered_at(s, length, at, bits), bits);
+}
+
+static inline uint64_t sum_of_checks(const uint8_t *s, size_t length, unsigned bits, uint32_t count)
+{
+    uint64_t sum = 0;
+    for (size_t k = 0; k < count; k++)
+        sum += any_check(covered_at(s, length, k * (bits + 10), bits), bits);
+    return sum;
+}
+
+static inline uint64_t right_blocks(const uint8_t *s, size_t length, unsigned bits, uint32_t count)
+{
+    uint64_t sum = 0;
+    for (size_t k = 0; k < count; k++)
+        sum += (unsigned)right_at(s, length, k * (bits + 10), bits);
+    return sum;
+}
+
+/* The widths that frames have get a loop of their own, in which the width is known. */
+#define BY_WIDTH(loop)                                                                                                 \
+    switch (n) {                                                                                                       \
+    case 18: return loop(s, s_len, 18, count);                                                                         \
+    case 22: return loop(s, s_len, 22, count);                                                                         \
+    case 26: return loop(s, s_len, 26, count);                                                                         \
+    case 35: return loop(s, s_len, 35, count);                                                                         \
+    case 44: return loop(s, s_len, 44, count);                                                                         \
+    case 54: return loop(s, s_len, 54, count);                                                                         \
+    default: return loop(s, s_len, n, count);                                                                          \
+    }
+
+uint64_t fast_checks(const uint8_t *s, size_t s_len, uint8_t n, uint32_t count)
+{
+    BY_WIDTH(sum_of_checks)
+}
+
+uint64_t fast_blocks(const uint8_t *s, size_t s_len, uint8_t n, uint32_t count)
+{
+    BY_WIDTH(right_blocks)
 }
 
 static inline brachymel_answer say(uint32_t number, uint32_t channel, uint64_t place)

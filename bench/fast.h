@@ -1,4 +1,4 @@
-/* The baseline: the promises of the C entries kept by plain, fast C (fast.c). */
+/* The baseline: the promises of the C entries, and of timed.h, kept by plain, fast C (fast.c). */
 #ifndef FAST_H
 #define FAST_H
 
@@ -10,5 +10,9 @@ brachymel_answer fast_write(uint32_t bandwidth, const uint8_t *words, size_t wor
                             uint8_t *cc2, size_t cc2_len);
 brachymel_answer fast_list(uint32_t bandwidth, const uint8_t *cc1, size_t cc1_len, const uint8_t *cc2, size_t cc2_len,
                            uint8_t *text, size_t text_len);
+
+/* As timed_checks and timed_blocks, of blocks of at most 64 bits. */
+uint64_t fast_checks(const uint8_t *s, size_t s_len, uint8_t n, uint32_t count);
+uint64_t fast_blocks(const uint8_t *s, size_t s_len, uint8_t n, uint32_t count);
 
 #endif

@@ -1,4 +1,4 @@
-# Read by bench/run where the machine is not x86-64. The library's code is for x86-64 and would run there only under an
+# Read by bench/run where the machine is not x86-64. A library's code is for x86-64 and would run there only under an
 # emulator, whose times are no machine's. So the module that the kit's compiler is given for the library is kept, and the
 # same compiler makes this machine's code of it too: the library's twin, the same program by the same optimiser.
 
@@ -21,11 +21,11 @@ link_but() { # NAME FROM TO
     done
 }
 
-# Builds the library, and its twin beside it.
-twin() { # OBJECT
-    module=$(pwd)/$out/module.bc
+# Builds a crate's library, and its twin beside it.
+twin() { # CRATE OBJECT
+    module=$(pwd)/$out/$1.bc
     keeping_kit "$(pwd)/$out/kit" "$module"
-    RATTLE_HOME=$(pwd)/$out/kit rt staticlib brachymel
+    RATTLE_HOME=$(pwd)/$out/kit rt staticlib "$1"
     "$kit/bin/clang" "--target=$machine-unknown-linux-gnu" --no-default-config -Wno-override-module -fPIC -O3 \
-        -c -x ir "$module" -o "$1" 2>"$out/twin.log" || { cat "$out/twin.log"; exit 2; }
+        -c -x ir "$module" -o "$2" 2>"$out/twin.log" || { cat "$out/twin.log"; exit 2; }
 }
