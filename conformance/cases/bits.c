@@ -119,25 +119,48 @@ void print_put(chance *c, unsigned long k)
     print_end();
 }
 
-/* A string that holds a right block of `covered` bits from `at`. */
+/* The first cases cover every number of bits from 0 to 130, which is past any block and past two machine words, from
+ * every bit of a byte; those after them are drawn. */
+static const unsigned long in_turn = 131 * 8;
+
+static uint64_t block_at(chance *c, unsigned long k)
+{
+    return k < in_turn ? k % 8 : below(c, 40);
+}
+
+static uint64_t block_bits(chance *c, unsigned long k)
+{
+    return k < in_turn ? k / 8 : draw_covered(c);
+}
+
+#define MORE 8
+
+/* A string that ends with a right block of `covered` bits from `at`, and MORE bytes after it. */
 static size_t draw_block(chance *c, uint8_t *s, uint64_t at, uint64_t covered)
 {
-    size_t length = (size_t)((at + covered + 10 + 7) / 8) + (size_t)below(c, 2);
-    for (size_t k = 0; k < length; k++)
+    size_t length = (size_t)((at + covered + 10 + 7) / 8);
+    for (size_t k = 0; k < length + MORE; k++)
         s[k] = draw_byte(c);
     put_field(s, length, at + covered, 4, check_of(s, length, at, covered));
     put_field(s, length, at + covered + 4, 6, 0);
     return length;
 }
 
+/* Where the string ends: with its block, some bytes after it, or some bytes short. */
+static size_t draw_end(chance *c, size_t length)
+{
+    switch (below(c, 4)) {
+    case 0: return length + 1 + (size_t)below(c, MORE);
+    case 1: return length - (size_t)below(c, (length < 8 ? length : 8) + 1);
+    default: return length;
+    }
+}
+
 void print_check(chance *c, unsigned long k)
 {
     uint8_t s[64];
-    uint64_t at = below(c, 40), covered = draw_covered(c);
-    size_t length = draw_block(c, s, at, covered);
-    (void)k;
-    if (one_in(c, 4) && length > 0)
-        length -= (size_t)below(c, length < 9 ? length : 9);
+    uint64_t at = block_at(c, k), covered = block_bits(c, k);
+    size_t length = draw_end(c, draw_block(c, s, at, covered));
     print_letter('c');
     print_string(s, length);
     print_number(at);
@@ -145,20 +168,18 @@ void print_check(chance *c, unsigned long k)
     print_end();
 }
 
-/* A right block; else one bit of its covered bits, its check, its tail or beside it changed, or the
- * block cut short. */
+/* A right block; else one bit of its covered bits, its check, its tail or beside it changed; or any of
+ * these cut short. */
 void print_block(chance *c, unsigned long k)
 {
     uint8_t s[64];
-    uint64_t at = below(c, 40), covered = draw_covered(c), i;
-    size_t length = draw_block(c, s, at, covered);
-    (void)k;
+    uint64_t at = block_at(c, k), covered = block_bits(c, k), i;
+    size_t length = draw_end(c, draw_block(c, s, at, covered));
     switch (below(c, 7)) {
     case 0: i = at + below(c, covered + 1); break;
     case 1: i = at + covered + below(c, 4); break;
     case 2: i = at + covered + 4 + below(c, 6); break;
     case 3: i = at + covered + 10; break;
-    case 4: length -= (size_t)below(c, length < 3 ? length : 3); i = 8 * sizeof s; break;
     default: i = 8 * sizeof s;
     }
     if (i / 8 < length)
