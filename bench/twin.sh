@@ -21,11 +21,11 @@ link_but() { # NAME FROM TO
     done
 }
 
-# Builds a crate's library, and its twin beside it.
-twin() { # CRATE OBJECT
-    module=$(pwd)/$out/$1.bc
+# Builds the library, or another crate's, and its twin beside it.
+twin() { # OBJECT [CRATE]
+    crate=${2:-brachymel} module=$(pwd)/$out/${2:-brachymel}.bc
     keeping_kit "$(pwd)/$out/kit" "$module"
-    RATTLE_HOME=$(pwd)/$out/kit rt staticlib "$1"
+    RATTLE_HOME=$(pwd)/$out/kit rt staticlib "$crate"
     "$kit/bin/clang" "--target=$machine-unknown-linux-gnu" --no-default-config -Wno-override-module -fPIC -O3 \
-        -c -x ir "$module" -o "$2" 2>"$out/twin.log" || { cat "$out/twin.log"; exit 2; }
+        -c -x ir "$module" -o "$1" 2>"$out/twin.log" || { cat "$out/twin.log"; exit 2; }
 }

@@ -4,10 +4,10 @@ use mathlib.Core.Path.{_≡_, refl, sym, _∙_, ap, ap₂, subst}
 use mathlib.Core.List.{List}
 use native.Mathlib.Nat.{add-zero, div-one}
 use native.Mathlib.Omega.{arith}
-use lib.ListN.{length}
+use lib.ListN.{getD, length}
 use lib.Pow as P
 use Rattle.bits.specs.Bits.{field, lacks}
-use Rattle.bits.specs.Fields.{field-lt, field-part, field-split, field-lacks}
+use Rattle.bits.specs.Fields.{field-lt, field-part, field-split, field-byte, field-lacks}
 
 -- a field's low end is the shorter field
 pub field-low : (s : List ℕ) (at n m : ℕ) → m ≤ n → field s at n % 2 ^ m ≡ field s at m
@@ -38,12 +38,30 @@ field-past s at n h =
     let e : n - (n - (8 * length s - at)) ≡ 0 = omega arith in
     field-lacks s at n ∙ ap (λ (k : ℕ). field s at k) e
 
+-- and what lies there adds nothing to a field
+pub field-short : (s : List ℕ) (at n m : ℕ) → 8 * length s ≤ at + n → n ≤ m → field s at m ≡ field s at n
+field-short s at n m h l =
+    let e : m ≡ n + (m - n) = omega arith in
+    ap (λ (k : ℕ). field s at k) e
+    ∙ field-split s at n (m - n)
+    ∙ ap (λ (x : ℕ). field s at n + x * 2 ^ n) (field-past s (at + n) (m - n) h)
+    ∙ omega arith
+
 -- k bits up in the last n bits there are k zeros to come
 pub field-end : (s : List ℕ) (at n k : ℕ) → at + n ≡ 8 * length s → k ≤ n → field s at n / 2 ^ k ≡ field s (at + k) n
-unfolding lacks
-field-end s at n k e h =
-    let f : n - (n - (8 * length s - (at + k))) ≡ n - k = omega arith in
-    field-rest s at n k h ∙ sym (field-lacks s (at + k) n ∙ ap (λ (m : ℕ). field s (at + k) m) f)
+field-end s at n k e h = field-rest s at n k h ∙ sym (field-short s (at + k) (n - k) n (omega arith) (omega arith))
+
+-- where fewer than eight bytes follow, they are fewer than 57 bits, the first of them and those after it
+pub field-few : (s : List ℕ) (i : ℕ) → length s ≤ i + 7 → field s (8 * i) 64 < 2 ^ 56
+field-few s i h = rw (field-short s (8 * i) 56 64 (omega arith) (omega arith)) (field-lt s (8 * i) 56)
+
+pub field-first : (s : List ℕ) (i a : ℕ) → a < 256 → a ≡ getD s i 0 → length s ≤ i + 7
+    → a + field s (8 * (i + 1)) 64 * 256 ≡ field s (8 * i) 64
+field-first s i a l e h =
+    let f : 8 * (i + 1) ≡ 8 * i + 8 = omega arith in
+    let g : a ≡ field s (8 * i) 8 = sym (field-byte s i ∙ omega arith) in
+    ap₂ (λ (x y : ℕ). x + y * 256) g (field-short s (8 * (i + 1)) 56 64 (omega arith) (omega arith) ∙ ap (λ (k : ℕ). field s k 56) f)
+    ∙ sym (field-split s (8 * i) 8 56)
 
 -- what is left of a window from a bit in its first byte
 pub field-from : (s : List ℕ) (at : ℕ) → field s (8 * (at / 8)) 64 / 2 ^ (at % 8) ≡ field s at (64 - at % 8)

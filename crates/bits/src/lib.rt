@@ -67,6 +67,12 @@ fn join2(a: u32, b: u32) -> u64
     a as u64 + b as u64 * 4294967296
 }
 
+fn wide(x: u8) -> u64
+    ensures { λ r. ⌜ (r < 256) × (r ≡ x) ⌝ }
+{
+    x as u64
+}
+
 // The 64 bits from the start of byte i, which are there: one load.
 fn eight(s: &[u8], i: usize) -> u64
     requires { ⌜ i + 7 < length (now s) ⌝ }
@@ -75,7 +81,8 @@ fn eight(s: &[u8], i: usize) -> u64
     join2(four(s, i), four(s, i + 4))
 }
 
-// The same where some of them lie past the end. The last eight bytes, moved down, have zeros in their place.
+// The same where some of them lie past the end: the last eight bytes, moved down, have zeros in their place. Fewer than
+// eight are taken one by one.
 fn eight_past(s: &[u8], i: usize) -> u64
     requires { ⌜ length (now s) ≤ i + 7 ⌝ }
     ensures { λ r. ⌜ r ≡ field (now (s .entry)) (8 * i) 64 ⌝ }
@@ -85,7 +92,7 @@ fn eight_past(s: &[u8], i: usize) -> u64
         return 0;
     }
     if n < 8 {
-        return join2(window(s, i), window(s, i + 4));
+        return wide(s[i]) + eight_past(s, i + 1) * 256;
     }
     eight(s, n - 8) >> (8 * (i - (n - 8)))
 }
