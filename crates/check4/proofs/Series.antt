@@ -71,26 +71,28 @@ product-low y =
     add : (x z : ℕ) → z % 16 ≡ 0 → bitXor x z % 16 ≡ x % 16
     add x z e = xor-mod x z 4 ∙ ap (λ (k : ℕ). bitXor (x % 16) k) e ∙ xor-zero-r (x % 16)
 
--- ---- THE law of the quotient, over every number of places
+-- ---- THE law of the quotient, over every number of places and every width b that holds four bits more
 
-pub quotient-law : (y z n : ℕ) → n ≤ 60 → product y % 2 ^ 64 ≡ z → y / 2 ^ n % 16 ≡ shifts z n % 16
-quotient-law y z n l e =
-    let f : z % 2 ^ (n + 4) ≡ product y % 2 ^ (n + 4) =
-    ap (λ (x : ℕ). x % 2 ^ (n + 4)) (sym e ∙ sym (div-one (product y % 2 ^ 64)))
-    ∙ inner (product y) 0 (n + 4) 64 (omega arith)
-    ∙ ap (λ (x : ℕ). x % 2 ^ (n + 4)) (div-one (product y)) in
+pub quotient-law : (b y z n : ℕ) → n + 4 ≤ b → product y % 2 ^ b ≡ z % 2 ^ b → y / 2 ^ n % 16 ≡ shifts z n % 16
+quotient-law b y z n l e =
     sym
     (below z n 4
-    ∙ ap (λ (x : ℕ). shifts x n % 16) f
+    ∙ ap (λ (x : ℕ). shifts x n % 16) (sym (low z) ∙ ap (λ (x : ℕ). x % 2 ^ (n + 4)) (sym e) ∙ low (product y))
     ∙ sym (below (product y) n 4)
     ∙ ap (λ (x : ℕ). x % 16) (shifts-product y n)
     ∙ product-low (y / 2 ^ n))
+  where
+    low : (x : ℕ) → x % 2 ^ b % 2 ^ (n + 4) ≡ x % 2 ^ (n + 4)
+    low x =
+        ap (λ (k : ℕ). k % 2 ^ (n + 4)) (sym (div-one (x % 2 ^ b)))
+        ∙ inner x 0 (n + 4) b (omega arith)
+        ∙ ap (λ (k : ℕ). k % 2 ^ (n + 4)) (div-one x)
 
 -- ---- and of what the code makes of z: it is the quotient
 
 times-linear : (i : ℕ) → Linear (λ z. times z i)
 unfolding times
-times-linear i = both _ _ itself (up _ (6 * i) (both _ _ itself (up _ i (both _ _ itself (up _ i itself)))))
+times-linear i = both _ _ itself (up _ _ (both _ _ itself (up _ _ (both _ _ itself (up _ _ itself)))))
   where
     up : (f : ℕ → ℕ) (k : ℕ) → Linear f → Linear (λ z. f z * 2 ^ k % 2 ^ 64)
     up f k p = next (λ z. f z * 2 ^ k) _ (next f _ p (ups k)) (lows 64)

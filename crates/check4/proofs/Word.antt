@@ -58,7 +58,7 @@ right-whole s at n w e =
 leaves : (r w q n : ℕ) → n ≤ 60 → product q % 2 ^ 64 ≡ bitXor r w
     → q / 2 ^ n % 16 ≡ bitXor (w / 2 ^ n % 16) (shifts (bitXor r (w % 2 ^ n)) n % 16)
 leaves r w q n l e =
-    quotient-law q (bitXor r w) n l e
+    quotient-law 64 q (bitXor r w) n (omega arith) (omega arith)
     ∙ ap (λ (x : ℕ). x % 16) (above r w n)
     ∙ xor-mod (w / 2 ^ n) (shifts (bitXor r (w % 2 ^ n)) n) 4
 

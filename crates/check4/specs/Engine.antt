@@ -23,7 +23,7 @@ product y = bitXor (bitXor (bitXor y (y * 2 ^ 6)) (y * 2 ^ 7)) (y * 2 ^ 8)
 -- z times p with t^i for t, at 64 bits
 unfoldable pub times : ℕ → ℕ → ℕ
 times z i =
-    bitXor z (bitXor z (bitXor z (z * 2 ^ i % 18446744073709551616) * 2 ^ i % 18446744073709551616) * 2 ^ (6 * i) % 18446744073709551616)
+    bitXor z (bitXor z (bitXor z (z * 2 ^ i % 2 ^ 64) * 2 ^ i % 2 ^ 64) * 2 ^ (6 * i) % 2 ^ 64)
 
 -- the check of a mirrored register r after the n lowest bits of w
 unfoldable pub checkFrom : ℕ → ℕ → ℕ → ℕ
