@@ -73,16 +73,12 @@ pub fn check_at(s: &[u8], at: usize, n: usize) -> u32
     check_long(s, at, n)
 }
 
-// Whether the check after the n bits from `at` is right and the tail after it zero. Two User fields, the usual block,
-// have code of their own, with no place to be worked out. Where one window is too short for block, check and tail, the
-// ten bits are compared in one look: with a zero tail they are the check itself.
+// Whether the check after the n bits from `at` is right and the tail after it zero. Where one window is too short for
+// block, check and tail, the ten bits are compared in one look: with a zero tail they are the check itself.
 pub fn block_right(s: &[u8], at: usize, n: usize) -> bool
     requires { ⌜ at + n < 2 ^ 64 ⌝ }
     ensures { λ r. ⌜ r ≡ right (now (s .entry)) at n ⌝ }
 {
-    if n == 44 {
-        return right_of(bits::wide_from(s, at), 44);
-    }
     if n <= 47 {
         return right_of(bits::wide_from(s, at), n);
     }

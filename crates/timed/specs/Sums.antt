@@ -1,7 +1,7 @@
 -- What the timed entries give. Assumes nothing.
 --
 -- Blocks of n bits stand one after the other from bit 0, each with its check of four bits and its tail of six.
-use Prim.Native.Nat.{ℕ, zero, suc, _+_, _*_, _≤_}
+use Prim.Native.Nat.{ℕ, zero, suc, _+_, _*_}
 use mathlib.Core.Bool.{cond}
 use mathlib.Core.List.{List}
 use Rattle.check4.specs.Check.{check, right}

@@ -1,9 +1,8 @@
 -- `check4::block_right` meets its contract. Assumes nothing.
-use Prim.Native.Nat.{ℕ, _+_}
-use mathlib.Core.Path.{_≡_, sym, _∙_, ap}
+use Prim.Native.Nat.{_+_}
+use mathlib.Core.Path.{_∙_}
 use native.Mathlib.Omega.{arith}
 use Rattle.bits.proofs.Windows.{window-low}
-use Rattle.check4.specs.Check.{right}
 use Rattle.check4.specs.Checks.{right-ten}
 use Rattle.check4.proofs.Word.{right-whole}
 use borrow.Author.Needs.{needs}
@@ -20,23 +19,8 @@ returns : tie.Need-returns
 returns c =
     let a = c .before .before .before .before .args in
     let w = c .before .wide-from .result in
-    let e : 44 ≡ a .n = omega arith in
     c .right-of .ensures
-    ∙ right-whole (a .s .now) (a .at) 44 w (window-low (a .s .now) (a .at) w 54 (c .before .wide-from .ensures) (omega arith))
-    ∙ ap (λ (n : ℕ). right (a .s .now) (a .at) n) e
-
-wide-from-requires-2 : tie.Need-wide-from-requires-2
-wide-from-requires-2 c κs = search needs
-
-right-of-requires-2 : tie.Need-right-of-requires-2
-right-of-requires-2 c κs = search needs
-
-returns-2 : tie.Need-returns-2
-returns-2 c =
-    let a = c .before .before .before .before .before .args in
-    let w = c .before .wide-from2 .result in
-    c .right-of2 .ensures
-    ∙ right-whole (a .s .now) (a .at) (a .n) w (window-low (a .s .now) (a .at) w (a .n + 10) (c .before .wide-from2 .ensures) (omega arith))
+    ∙ right-whole (a .s .now) (a .at) (a .n) w (window-low (a .s .now) (a .at) w (a .n + 10) (c .before .wide-from .ensures) (omega arith))
 
 add-field-at : tie.Need-add-field-at
 add-field-at c = search needs
@@ -47,22 +31,12 @@ field-at-requires c κs = search needs
 check-at-requires : tie.Need-check-at-requires
 check-at-requires c κs = search needs
 
-returns-3 : tie.Need-returns-3
-returns-3 c =
-    let a = c .before .before .before .before .before .args in
+returns-2 : tie.Need-returns-2
+returns-2 c =
+    let a = c .before .before .before .before .args in
     rw (c .before .field-at .ensures, c .check-at .ensures) (right-ten (a .s .now) (a .at) (a .n))
 
 pub block-right-spec : {M : Type 1} → statement M
 block-right-spec =
     tie.close
-    (tie.spec
-    wide-from-requires
-    right-of-requires
-    returns
-    wide-from-requires-2
-    right-of-requires-2
-    returns-2
-    add-field-at
-    field-at-requires
-    check-at-requires
-    returns-3)
+    (tie.spec wide-from-requires right-of-requires returns add-field-at field-at-requires check-at-requires returns-2)

@@ -1,6 +1,6 @@
 -- `check4::byte_step` meets its contract. Assumes nothing.
-use Prim.Native.Nat.{ℕ, _*_, _/_, _%_, _^_}
-use mathlib.Core.Path.{_≡_, _∙_, ap₂}
+use Prim.Native.Nat.{ℕ, _/_, _%_}
+use mathlib.Core.Path.{_∙_, ap₂}
 use native.Mathlib.Omega.{arith}
 use lib.Bits.{bitXor}
 use lib.Pow as P
