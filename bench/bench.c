@@ -2,10 +2,11 @@
  * bench --calls ENTRY BANDWIDTH KIND SIDE TIMES: only makes so many calls on one such frame, for counting what they
  * execute.
  *
- * For each kind of frame the library and the baseline are timed in turn, round by round, in one process; the best
- * round of each counts: nanoseconds per frame, and the library's ratio to the baseline. Before that both are held to
- * the reference on every frame. The frames: of each bandwidth with few User fields, drawn at random, and all 0, with
- * the geometric mean of their ratios and the worst of them; and of each refusal. Then the check alone (check.c).
+ * For each kind of frame the library and the baseline are timed in turn, round by round, in one process: nanoseconds
+ * per frame in the best round of each, and the library's ratio to the baseline, the median over the rounds. Before
+ * that both are held to the reference on every frame. The frames: of each bandwidth with few User fields, drawn at
+ * random, and all 0, with the geometric mean of their ratios and the worst of them; and of each refusal. Then the
+ * check alone (check.c).
  */
 #include "cases/cases.h"
 #include "check.h"

@@ -2,7 +2,7 @@
  *
  * A buffer holds 72 blocks: of 44 bits, they are the User blocks of a full frame of 320 MHz. Before anything is timed,
  * both sides are held to the reference at every width and count, on right blocks and damaged ones, whole and cut short.
- * At the widths of frames, and only there, the baseline's loop is compiled for its width.
+ * At the widths of frames, and only there, the loops of both sides are compiled for their width.
  */
 #include "check.h"
 
@@ -114,28 +114,28 @@ static void pass(int side, unsigned times)
         kept += timed[side](blocks, length, (uint8_t)width, BLOCKS);
 }
 
-static void print_width(const char *what, counts *const *sides)
+static void print_widths(const char *what, counts *const *sides, const unsigned *widths, unsigned n)
 {
     char name[60];
-    sprintf(name, "%u bits%s", width, what);
+    chance c = chance_from(1, 'K');
     timed = sides;
-    print_line(name, pass, BLOCKS);
+    print_head(what);
+    for (unsigned k = 0; k < n; k++) {
+        of_width(&c, widths[k]);
+        sprintf(name, "%u bits", width);
+        print_line(name, pass, BLOCKS);
+    }
 }
 
 void print_check_alone(void)
 {
     static const unsigned of_frames[] = {18, 22, 26, 35, 44, 54};
-    chance c = chance_from(1, 'K');
+    unsigned rising[64 - 16];
+    chance c = chance_from(1, 'k');
     hold_to_reference(&c);
-    print_head("the check alone, for a block");
-    for (unsigned k = 0; k < sizeof of_frames / sizeof of_frames[0]; k++) {
-        of_width(&c, of_frames[k]);
-        print_width(", the check", checks_of);
-        print_width(", check and tail compared", blocks_of);
-    }
-    print_head("the check alone, by bits");
-    for (unsigned bits = 17; bits <= 64; bits++) {
-        of_width(&c, bits);
-        print_width("", checks_of);
-    }
+    for (unsigned k = 0; k < 64 - 16; k++)
+        rising[k] = 17 + k;
+    print_widths("a block's check and tail tested", blocks_of, of_frames, sizeof of_frames / sizeof of_frames[0]);
+    print_widths("a block's check made", checks_of, of_frames, sizeof of_frames / sizeof of_frames[0]);
+    print_widths("check and tail tested, by bits", blocks_of, rising, 64 - 16);
 }

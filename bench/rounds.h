@@ -16,8 +16,8 @@ extern double round_ns;
 
 void print_head(const char *what);
 
-/* A line of a table: the best round of each side, in nanoseconds for one of the `items` of a pass, and their ratio,
- * which is returned. */
+/* A line of a table: the best round of each side, in nanoseconds for one of the `items` of a pass, and the ratio of the
+ * two, the median over the rounds, which is returned. */
 double print_line(const char *name, passes *work, unsigned items);
 
 #endif

@@ -39,7 +39,8 @@ next f g p q = record { adds = λ x y. ap g (p .adds x y) ∙ q .adds (f x) (f y
 none : (f : ℕ → ℕ) → Linear f → f 0 ≡ 0
 none f p = p .adds 0 0 ∙ xor-self (f 0)
 
-agree : (f g : ℕ → ℕ) → Linear f → Linear g → (n : ℕ) → ((k : ℕ) → k < n → f (2 ^ k) ≡ g (2 ^ k)) → (z : ℕ) → z < 2 ^ n → f z ≡ g z
+agree : (f g : ℕ → ℕ) → Linear f → Linear g → (n : ℕ) → ((k : ℕ) → k < n → f (2 ^ k) ≡ g (2 ^ k))
+    → (z : ℕ) → z < 2 ^ n → f z ≡ g z
 agree f g p q zero h z l = rw (lt-one l) (none f p ∙ sym (none g q))
 agree f g p q (suc n) h z l =
     let e = xor-split z n in
