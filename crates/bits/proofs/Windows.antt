@@ -9,6 +9,12 @@ use lib.Pow as P
 use Rattle.bits.specs.Bits.{field, lacks}
 use Rattle.bits.specs.Fields.{field-lt, field-part, field-split, field-byte, field-lacks}
 
+-- the low end of a low end
+pub low-low : (x n m : ℕ) → m ≤ n → x % 2 ^ n % 2 ^ m ≡ x % 2 ^ m
+low-low x n m h =
+    let e : n ≡ (n - m) + m = omega arith in
+    subst (λ (k : ℕ). x % 2 ^ k % 2 ^ m ≡ x % 2 ^ m) (sym e) (P.mod-mod-pow x (n - m) m)
+
 -- a field's low end is the shorter field
 pub field-low : (s : List ℕ) (at n m : ℕ) → m ≤ n → field s at n % 2 ^ m ≡ field s at m
 field-low s at n m h =

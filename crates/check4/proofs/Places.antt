@@ -1,7 +1,7 @@
 -- Places of the mirrored register, over any number of them and numbers of any width. Assumes nothing.
 use Prim.Native.Nat.{ℕ, zero, suc, _+_, _*_, _/_, _%_, _^_, _<_}
 use mathlib.Core.Path.{_≡_, refl, sym, _∙_, ap, ap₂}
-use native.Mathlib.Nat.{add-zero, zero-add, suc-add, mul-one, mul-assoc, mul-comm, pow-suc}
+use native.Mathlib.Nat.{add-zero, mul-one, mul-assoc, mul-comm, pow-suc}
 use native.Mathlib.Omega.{arith}
 use lib.Bits.{bitXor, xor-mod, xor-comm, xor-zero-r}
 use lib.Pow as P
@@ -36,10 +36,7 @@ unfolding shifts
 shifts-xor a b zero = refl
 shifts-xor a b (suc m) = ap shift (shifts-xor a b m) ∙ shift-linear .adds (shifts a m) (shifts b m)
 
-pub shifts-linear : (m : ℕ) → Linear (λ z. shifts z m)
-shifts-linear m = record { adds = λ x y. shifts-xor x y m }
-
--- ---- a number k places up is moved out by k places more
+-- ---- a number n places up is moved down by n places, and nothing leaves
 
 pub shift-even : (x : ℕ) → shift (x * 2) ≡ x
 unfolding shift
@@ -53,17 +50,14 @@ unfolding shifts
 shifts-first x zero = refl
 shifts-first x (suc m) = ap shift (shifts-first x m)
 
-shifts-up : (x k m : ℕ) → shifts (x * 2 ^ k) (k + m) ≡ shifts x m
-shifts-up x zero m = ap₂ shifts (mul-one x) (zero-add m)
-shifts-up x (suc k) m =
-    ap₂ shifts (ap (λ (y : ℕ). x * y) (pow-suc 2 k) ∙ sym (mul-assoc x (2 ^ k) 2)) (suc-add k m)
-    ∙ shifts-first (x * 2 ^ k * 2) (k + m)
-    ∙ ap (λ (y : ℕ). shifts y (k + m)) (shift-even (x * 2 ^ k))
-    ∙ shifts-up x k m
-
 shifts-out : (x n : ℕ) → shifts (x * 2 ^ n) n ≡ x
 unfolding shifts
-shifts-out x n = ap (λ (k : ℕ). shifts (x * 2 ^ n) k) (sym (add-zero n)) ∙ shifts-up x n 0
+shifts-out x zero = mul-one x
+shifts-out x (suc n) =
+    ap (λ (y : ℕ). shifts y (suc n)) (ap (λ (y : ℕ). x * y) (pow-suc 2 n) ∙ sym (mul-assoc x (2 ^ n) 2))
+    ∙ shifts-first (x * 2 ^ n * 2) n
+    ∙ ap (λ (y : ℕ). shifts y n) (shift-even (x * 2 ^ n))
+    ∙ shifts-out x n
 
 -- what stands above the n lowest bits of w moves down by n places, and that is all
 pub above : (r w n : ℕ) → shifts (bitXor r w) n ≡ bitXor (w / 2 ^ n) (shifts (bitXor r (w % 2 ^ n)) n)
@@ -78,10 +72,10 @@ above r w n =
     ∙ shifts-xor x (bitXor r y) n
     ∙ ap (λ (z : ℕ). bitXor z (shifts (bitXor r y) n)) (shifts-out (w / 2 ^ n) n)
 
--- and the m lowest bits after n places come from the n + m lowest before
 multiple : (x m : ℕ) → x * 2 ^ m % 2 ^ m ≡ 0
 multiple x m = ap (λ (y : ℕ). y % 2 ^ m) (sym (add-zero (x * 2 ^ m))) ∙ P.low x m (P.pow-pos m)
 
+-- and the m lowest bits after n places come from the n + m lowest before
 pub below : (z n m : ℕ) → shifts z n % 2 ^ m ≡ shifts (z % 2 ^ (n + m)) n % 2 ^ m
 below z n m =
     let x = z / 2 ^ (n + m) in

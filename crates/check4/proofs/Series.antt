@@ -10,7 +10,7 @@ use native.Mathlib.Omega.{arith}
 use lib.Bits.{bitXor, xor-mod, xor-zero-r}
 use lib.Pow as P
 use Rattle.answer.specs.Least.{least}
-use Rattle.bits.specs.Fields.{inner}
+use Rattle.bits.proofs.Windows.{low-low}
 use Rattle.check4.specs.Engine.{shift, shifts, product, times}
 use Rattle.check4.proofs.Xor.{xor-shl, xor-split}
 use Rattle.check4.proofs.Linear.{Linear, itself, ups, lows, both, next, agree-tested}
@@ -83,10 +83,7 @@ quotient-law b y z n l e =
     ∙ product-low (y / 2 ^ n))
   where
     low : (x : ℕ) → x % 2 ^ b % 2 ^ (n + 4) ≡ x % 2 ^ (n + 4)
-    low x =
-        ap (λ (k : ℕ). k % 2 ^ (n + 4)) (sym (div-one (x % 2 ^ b)))
-        ∙ inner x 0 (n + 4) b (omega arith)
-        ∙ ap (λ (k : ℕ). k % 2 ^ (n + 4)) (div-one x)
+    low x = low-low x b (n + 4) l
 
 -- ---- and of what the code makes of z: it is the quotient
 

@@ -3,7 +3,7 @@ use Prim.Native.Nat.{ℕ, _+_, _-_, _*_, _/_, _%_, _^_, _≤_, _<_}
 use mathlib.Core.Path.{_≡_, refl, sym, _∙_, ap, ap₂}
 use mathlib.Core.Bool.{Bool, true, false, not, _&&_}
 use mathlib.Core.List.{List}
-use native.Mathlib.Nat.{add-zero, zero-add, div-one}
+use native.Mathlib.Nat.{add-zero, zero-add}
 use native.Mathlib.Decide.{ℕ-discrete}
 use native.Mathlib.Omega.{arith}
 use lib.Bits.{bitXor, xor-mod, xor-shr}
@@ -13,14 +13,14 @@ use borrow.Author.Tests.{eq-eqb, ne-eqb, not-false}
 use Rattle.answer.specs.Least.{least, least-all}
 use Rattle.bits.specs.Bits.{field}
 use Rattle.bits.specs.Fields.{inner, field-part}
-use Rattle.bits.proofs.Windows.{field-low}
+use Rattle.bits.proofs.Windows.{low-low, field-low}
 use Rattle.check4.specs.Check.{register, check, right}
 use Rattle.check4.specs.Checks.{register-lt, right-ten}
 use Rattle.check4.specs.Engine.{shifts, product, checkFrom, rightOf}
 use Rattle.check4.proofs.Xor.{xor-again}
 use Rattle.check4.proofs.Places.{above}
 use Rattle.check4.proofs.Series.{quotient-law}
-use Rattle.check4.proofs.Mirror.{mirror, mirror-start, mirror-part, sent-mirror}
+use Rattle.check4.proofs.Mirror.{steps, mirror, all-out, mirror-start, mirror-part, sent-mirror}
 
 -- ---- of a list
 
@@ -46,13 +46,16 @@ right-whole s at n w e =
     let f : w / 2 ^ n % 1024 ≡ field s (at + n) 10 =
     sym (inner w n 10 (n + 10) (omega arith)) ∙ ap (λ (x : ℕ). x / 2 ^ n % 1024) e ∙ field-part s at (n + 10) n 10 (omega arith) in
     let g : w % 2 ^ n ≡ field s at n =
-    ap (λ (x : ℕ). x % 2 ^ n) (sym (div-one w))
-    ∙ sym (inner w 0 n (n + 10) (omega arith))
-    ∙ ap (λ (x : ℕ). x % 2 ^ n) (div-one (w % 2 ^ (n + 10)) ∙ e)
-    ∙ field-low s at (n + 10) n (omega arith) in
+    sym (low-low w (n + 10) n (omega arith)) ∙ ap (λ (x : ℕ). x % 2 ^ n) e ∙ field-low s at (n + 10) n (omega arith) in
     ap₂ eqb f (check-whole s at n w g) ∙ right-ten s at n
 
 -- ---- of the quotient
+
+-- a law of `step`, over every number of bits: after the n steps of a word of n bits the four lowest bits of the register r,
+-- mirrored, are the quotient's from n on
+pub quotient-steps : (b r w q n : ℕ) → r < 256 → w < 2 ^ n → n + 4 ≤ b → product q % 2 ^ b ≡ bitXor (mirror r) w % 2 ^ b
+    → q / 2 ^ n % 16 ≡ mirror (steps r w n) % 16
+quotient-steps b r w q n l h m e = quotient-law b q (bitXor (mirror r) w) n m e ∙ ap (λ (x : ℕ). x % 16) (all-out r w n l h)
 
 -- what would leave after n places: the register's lowest, with what stands in w above its n bits
 leaves : (r w q n : ℕ) → n ≤ 60 → product q % 2 ^ 64 ≡ bitXor r w
