@@ -7,7 +7,7 @@ use native.Mathlib.Omega.{arith}
 use lib.ListN.{getD, length}
 use lib.Pow as P
 use Rattle.bits.specs.Bits.{field, lacks}
-use Rattle.bits.specs.Fields.{field-lt, field-part, field-split, field-byte, field-lacks}
+use Rattle.bits.specs.Fields.{field-lt, field-part, field-split, field-byte, field-lacks, lacks-all}
 
 -- the low end of a low end
 pub low-low : (x n m : ℕ) → m ≤ n → x % 2 ^ n % 2 ^ m ≡ x % 2 ^ m
@@ -39,9 +39,9 @@ field-two s i a b e f =
 
 -- past the end a field is 0
 pub field-past : (s : List ℕ) (at n : ℕ) → 8 * length s ≤ at → field s at n ≡ 0
-unfolding field lacks
+unfolding field
 field-past s at n h =
-    let e : n - (n - (8 * length s - at)) ≡ 0 = omega arith in
+    let e : n - lacks s at n ≡ 0 = omega (arith, lacks-all s at n h) in
     field-lacks s at n ∙ ap (λ (k : ℕ). field s at k) e
 
 -- and what lies there adds nothing to a field

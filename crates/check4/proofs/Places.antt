@@ -3,7 +3,7 @@ use Prim.Native.Nat.{ℕ, zero, suc, _+_, _*_, _/_, _%_, _^_, _<_}
 use mathlib.Core.Path.{_≡_, refl, sym, _∙_, ap, ap₂}
 use native.Mathlib.Nat.{add-zero, mul-one, mul-assoc, mul-comm, pow-suc}
 use native.Mathlib.Omega.{arith}
-use lib.Bits.{bitXor, xor-mod, xor-comm, xor-zero-r}
+use lib.Bits.{bitXor, xor-mod, xor-comm, xor-zero-l, xor-zero-r}
 use lib.Pow as P
 use Rattle.check4.specs.Engine.{shift, shifts}
 use Rattle.check4.proofs.Xor.{xor-odd, xor-half, xor-assoc, xor-swap, xor-split}
@@ -88,5 +88,4 @@ below z n m =
     ∙ ap (λ (k : ℕ). bitXor k (shifts y n)) (ap (λ (k : ℕ). shifts k n) e ∙ shifts-out (x * 2 ^ m) n))
     ∙ xor-mod (x * 2 ^ m) (shifts y n) m
     ∙ ap (λ (k : ℕ). bitXor k (shifts y n % 2 ^ m)) (multiple x m)
-    ∙ xor-comm 0 (shifts y n % 2 ^ m)
-    ∙ xor-zero-r (shifts y n % 2 ^ m)
+    ∙ xor-zero-l (shifts y n % 2 ^ m)

@@ -4,7 +4,7 @@ use mathlib.Core.Path.{_≡_, refl, sym, _∙_, ap}
 use native.Mathlib.Nat.{mod-lt, add-zero}
 use native.Mathlib.Omega.{arith}
 use lib.Arith.{bin-ind}
-use lib.Bits.{bitXor, xor-add-and, xor-shr, xor-comm, xor-block, xor-shifted, xor-self, xor-zero-r}
+use lib.Bits.{bitXor, xor-add-and, xor-shr, xor-comm, xor-block, xor-shifted, xor-self, xor-zero-l}
 use lib.Pow as P
 
 pub xor-odd : (a b : ℕ) → bitXor a b % 2 ≡ (a + b) % 2
@@ -50,8 +50,7 @@ xor-again a c =
     xor-comm (bitXor a c) a
     ∙ sym (xor-assoc a a c)
     ∙ ap (λ (x : ℕ). bitXor x c) (xor-self a)
-    ∙ xor-comm 0 c
-    ∙ xor-zero-r c
+    ∙ xor-zero-l c
 
 -- places up
 pub xor-shl : (a b k : ℕ) → bitXor a b * 2 ^ k ≡ bitXor (a * 2 ^ k) (b * 2 ^ k)
