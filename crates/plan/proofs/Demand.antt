@@ -8,7 +8,6 @@ use lib.ListN.{length}
 use Rattle.answer.specs.Answer.{no}
 use Rattle.answer.specs.declared.Out.{Out}
 use Rattle.answer.specs.declared.Out.the-variants.{Pass, Refuse}
-use Rattle.plan.specs.declared.Owner.{Owner}
 use Rattle.plan.specs.Plan.{at, Signals}
 use Rattle.plan.specs.Layout.{segments, Plan, PlanOfEight, SegmentPlan, Laid, accepted, no-plan, over-eight}
 use Rattle.plan.specs.Guess.{onlyPlan, layoutOf}
@@ -24,11 +23,11 @@ module _ (row : List ℕ) where
   plan-accepted w = sym (laid-is row Pass (accepted w))
 
   -- any plan that signals the row is the only plan, at every position of the row ..
-  pub only-plan : (o : ℕ → Owner) → Signals o (at row) 0 (length row) → (p : ℕ) → p < length row → o p ≡ onlyPlan (at row) p
+  pub only-plan : (o : ℕ → ℕ) → Signals o (at row) 0 (length row) → (p : ℕ) → p < length row → o p ≡ onlyPlan (at row) p
   only-plan o w p u = signalled o (at row) 0 (length row) (row-ends row) w p (omega arith) u
 
   -- .. so no two differ
-  pub one-plan : (o o′ : ℕ → Owner) → Signals o (at row) 0 (length row) → Signals o′ (at row) 0 (length row)
+  pub one-plan : (o o′ : ℕ → ℕ) → Signals o (at row) 0 (length row) → Signals o′ (at row) 0 (length row)
       → (p : ℕ) → p < length row → o p ≡ o′ p
   one-plan o o′ w w′ p u = only-plan o w p u ∙ sym (only-plan o′ w′ p u)
 

@@ -1,30 +1,27 @@
 -- The layout's answer is 01's, and 01 has one answer for a row. Assumes nothing.
-use mathlib.Core.Path.{_≡_, refl, sym, _∙_, ap}
-use mathlib.Core.Logic.{_⊎_, inl, inr}
-use mathlib.Core.Bool.{Bool, true, false}
+use mathlib.Core.Path.{_≡_, refl, sym, _∙_, ap, subst}
+use mathlib.Core.Logic.{_⊎_, inl, inr, ⊎-elim}
+use mathlib.Core.Bool.{Bool, true, false, not, _&&_}
 use mathlib.Core.List.{List}
-use Prim.Native.Nat.{ℕ, _+_, _-_, _*_, _/_, _%_, _≤_, _<_}
+use Prim.Native.Nat.{ℕ, _+_, _*_, _/_, _%_, _≤_, _<_, min}
 use native.Mathlib.Omega.{arith}
-use lib.ListN.{length, List·getD-eq-default}
 use lib.Dec.{ltb}
-use borrow.Author.Tests.{ltb-true, ltb-false, leb-true, le-leb, not-true, not-false}
+use lib.ListN.{length, List·getD-eq-default}
+use borrow.Author.Tests.{ltb-true, ltb-false, lt-ltb, not-true, not-false}
 use Rattle.answer.specs.Answer.{no, refuseIf, _or_}
-use Rattle.answer.specs.Least.{least-holds, least-before}
+use Rattle.answer.specs.Order.{pass-right, pass-if}
+use Rattle.answer.specs.Least.{least-holds, least-before, least-le}
 use Rattle.answer.specs.declared.Out.{Out}
-use Rattle.answer.specs.declared.Out.the-variants.{Refuse}
-use Rattle.plan.specs.declared.Owner.{Owner}
-use Rattle.plan.specs.Decides.{Decides}
-use Rattle.plan.specs.Plan.{at, Fits, Signals}
+use Rattle.answer.specs.declared.Out.the-variants.{Pass, Refuse}
+use Rattle.plan.specs.Plan.{at, Place, Fits, Signals}
 use Rattle.plan.specs.Fields.{total}
 use Rattle.plan.specs.Layout.{segments, segmentEnd, Plan, PlanOfEight, SegmentPlan, SegmentOfEight, Laid, accepted, no-plan, over-eight}
-use Rattle.plan.specs.Guess.{onlyPlan, fitting, fitsAt, planned, eightAt, withinEight, noPlan, isOver, unplanned, overEight, answer7, answer8, layoutOf}
-use Rattle.plan.proofs.Tests.{Tested, decided, decides, ltb-decides, every-all, every-of}
-use Rattle.plan.proofs.Fitting.{fits-tested}
-use Rattle.plan.proofs.Only.{Ends, signalled, all-fit, only-signals}
+use Rattle.plan.specs.Guess.{onlyPlan, fitting, within, rightAt, wrongAt, overAt, firstWrong, firstOver, answer7, answer8, layoutOf}
+use Rattle.plan.proofs.Tests.{Tested, ltb-decides}
+use Rattle.plan.proofs.Table.{not-both, known, place-segment, within-yes, yes-within}
+use Rattle.plan.proofs.Only.{Ends, signalled, only-known}
+use Rattle.plan.proofs.Found.{fitting-fits, fits-fitting, right-signals}
 use Rattle.plan.proofs.Parts.{restrict}
-
-never : {A : Type 0} → true ≡ false → A
-never e = let z : _≡_ {A = ℕ} 0 1 = cc in absurd (omega arith)
 
 pub row-ends : (row : List ℕ) → Ends (at row) 0 (length row)
 row-ends row = record { aligned = refl; padded = λ q h u. List·getD-eq-default row 0 h }
@@ -32,48 +29,55 @@ row-ends row = record { aligned = refl; padded = λ q h u. List·getD-eq-default
 segment-ends : (row : List ℕ) (s : ℕ) → s < segments row → Ends (at row) (4 * s) (segmentEnd row s)
 segment-ends row s h = record { aligned = omega arith; padded = λ q l u. List·getD-eq-default row 0 (omega arith) }
 
--- ---- the test of a segment
-planned-fits : (row : ℕ → ℕ) (s p : ℕ) → planned row s ≡ true → p / 4 ≡ s → Fits (onlyPlan row p) p (row p)
-unfolding planned
-planned-fits row s p e q =
-    let i : 4 * s + p % 4 ≡ p = omega arith in
-    let t : fitting (onlyPlan row p) p (row p) ≡ true = rw i at (every-all (fitsAt row s) 4 e (p % 4) (omega arith)) in
-    decides (fitting (onlyPlan row p) p (row p)) (Fits (onlyPlan row p) p (row p)) (fits-tested (onlyPlan row p) p (row p)) .yes t
+pub and-left : (s t : Bool) → s && t ≡ true → s ≡ true
+and-left true t e = refl
+and-left false t e = not-both false e refl
 
-fits-planned : (row : ℕ → ℕ) (s : ℕ) → ((p : ℕ) → 4 * s ≤ p → p < 4 * s + 4 → Fits (onlyPlan row p) p (row p)) → planned row s ≡ true
-unfolding planned
-fits-planned row s f =
-    every-of (fitsAt row s) 4
-    (λ i l. decided (fitsAt row s i) (Fits (onlyPlan row (4 * s + i)) (4 * s + i) (row (4 * s + i)))
-    (fits-tested (onlyPlan row (4 * s + i)) (4 * s + i) (row (4 * s + i))) (f (4 * s + i) (omega arith) (omega arith)))
+pub and-right : (s t : Bool) → s && t ≡ true → t ≡ true
+and-right true t e = e
+and-right false t e = not-both false e refl
+
+-- ---- a position that is right
+module _ (row : List ℕ) (p : ℕ) (u : p < length row) where
+  pub right-fits : rightAt (at row) (length row) p ≡ true → Fits (onlyPlan (at row) p) p (at row p)
+  unfolding rightAt
+  right-fits e = fitting-fits (onlyPlan (at row) p) p (at row p) (and-left (fitting (onlyPlan (at row) p) p (at row p)) _ e)
+
+  pub right-within : rightAt (at row) (length row) p ≡ true → (q : ℕ) → Place (onlyPlan (at row) p) p q → q < length row
+  unfolding rightAt
+  right-within e q w =
+      within-yes (onlyPlan (at row) p) p (length row) (only-known (at row) p) u (and-right (fitting (onlyPlan (at row) p) p (at row p)) _ e) q w
+
+  pub is-right : Fits (onlyPlan (at row) p) p (at row p) → ((q : ℕ) → Place (onlyPlan (at row) p) p q → q < length row) → rightAt (at row) (length row) p ≡ true
+  unfolding rightAt
+  is-right f g =
+      rw (fits-fitting (onlyPlan (at row) p) p (at row p) f, yes-within (onlyPlan (at row) p) p (length row) (only-known (at row) p) u g)
+
+-- a plan of a part that begins and ends with a segment, or with the row, is the only plan there, and every position is right
+part-right : (row : List ℕ) (a b : ℕ) → Ends (at row) a b → b ≤ length row → (o : ℕ → ℕ) → Signals o (at row) a b
+    → (p : ℕ) → a ≤ p → p < b → rightAt (at row) (length row) p ≡ true
+part-right row a b ends h o s p l u =
+    let e : o p ≡ onlyPlan (at row) p = signalled o (at row) a b ends s p l u in
+    is-right row p (omega arith) (subst (λ (c : ℕ). Fits c p (at row p)) e (s .fits p l u))
+    (λ q w. let r = s .entire p q l u (subst (λ (c : ℕ). Place c p q) (sym e) w) .1 in omega arith)
 
 module _ (row : List ℕ) (s : ℕ) (h : s < segments row) where
-  only-in-segment : planned (at row) s ≡ true → Signals (onlyPlan (at row)) (at row) (4 * s) (segmentEnd row s)
-  only-in-segment e =
-      only-signals (at row) (4 * s) (segmentEnd row s) (segment-ends row s h) (λ p l u. planned-fits (at row) s p e (omega arith))
+  pub segment-right : SegmentPlan row s → (p : ℕ) → 4 * s ≤ p → p < segmentEnd row s → rightAt (at row) (length row) p ≡ true
+  segment-right w = part-right row (4 * s) (segmentEnd row s) (segment-ends row s h) (omega arith) (w .0) (w .1)
 
-  -- a segment has a plan where the test says so
-  pub planned-decides : Decides (planned (at row) s) (SegmentPlan row s)
-  planned-decides = record {
-    yes = λ e. (onlyPlan (at row), only-in-segment e);
-    no = λ e w. never (sym (fits-planned (at row) s (λ p l u. all-fit (w .0) (at row) (4 * s) (segmentEnd row s) (segment-ends row s h) (w .1) p l (omega arith))) ∙ e);
-  }
+  pub right-segment : ((p : ℕ) → 4 * s ≤ p → p < segmentEnd row s → rightAt (at row) (length row) p ≡ true)
+      → Signals (onlyPlan (at row)) (at row) (4 * s) (segmentEnd row s)
+  right-segment f =
+      right-signals (at row) (4 * s) (segmentEnd row s) (segment-ends row s h)
+      (λ p l u. right-fits row p (omega arith) (f p l u))
+      (λ p q l u w.
+      let m = right-within row p (omega arith) (f p l u) q w in
+      let e = place-segment (onlyPlan (at row) p) p q (only-known (at row) p) w in
+      omega arith)
 
-  -- and, where it has one, one with at most eight on each resource
-  pub eight-decides : planned (at row) s ≡ true → Decides (withinEight (at row) s (segmentEnd row s - 4 * s)) (SegmentOfEight row s)
-  unfolding withinEight
-  eight-decides e = record {
-    yes = λ f. (
-      onlyPlan (at row),
-      only-in-segment e,
-      λ p l u.
-          let i : 4 * s + (p - 4 * s) ≡ p = omega arith in
-          leb-true _ _ (rw i at (every-all (eightAt (at row) s) (segmentEnd row s - 4 * s) f (p - 4 * s) (omega arith))),
-    );
-    no = λ f w. never (sym (every-of (eightAt (at row) s) (segmentEnd row s - 4 * s)
-        (λ i l. le-leb (total (onlyPlan (at row) (4 * s + i)) (at row) (4 * s + i)) 8 (rw (← signalled (w .0) (at row) (4 * s) (segmentEnd row s) (segment-ends row s h) (w .1) (4 * s + i) (omega arith) (omega arith))
-        (w .2 (4 * s + i) (omega arith) (omega arith))))) ∙ f);
-  }
+  segment-total : (w : SegmentOfEight row s) (p : ℕ) → 4 * s ≤ p → p < segmentEnd row s → total (onlyPlan (at row) p) (at row) p ≤ 8
+  segment-total w p l u =
+      rw (← signalled (w .0) (at row) (4 * s) (segmentEnd row s) (segment-ends row s h) (w .1) p l u) (w .2 p l u)
 
 -- ---- the whole row
 -- a plan of the row is one of each of its segments
@@ -84,7 +88,7 @@ ends-well row s = go (ltb (4 * s + 4) (length row)) (ltb-decides (4 * s + 4) (le
     go true l = inl (omega arith)
     go false l = inr (omega arith)
 
-pub part-signals : (row : List ℕ) (s : ℕ) (o : ℕ → Owner) → Signals o (at row) 0 (length row) → Signals o (at row) (4 * s) (segmentEnd row s)
+pub part-signals : (row : List ℕ) (s : ℕ) (o : ℕ → ℕ) → Signals o (at row) 0 (length row) → Signals o (at row) (4 * s) (segmentEnd row s)
 part-signals row s o w =
     restrict o (at row) 0 (length row) (4 * s) (segmentEnd row s) (omega arith) (omega arith) (omega arith) (ends-well row s) w
 
@@ -94,61 +98,59 @@ part-plan row w s = (w .0, part-signals row s (w .0) (w .1))
 part-eight : (row : List ℕ) → PlanOfEight row 0 (length row) → (s : ℕ) → SegmentOfEight row s
 part-eight row w s = (w .0, part-signals row s (w .0) (w .1), λ p l u. w .2 p (omega arith) (omega arith))
 
--- and the only plan signals the row where each of its segments has a plan
+-- and the only plan signals the row where every position is right
+pub right-row : (row : List ℕ) → ((p : ℕ) → p < length row → rightAt (at row) (length row) p ≡ true) → Signals (onlyPlan (at row)) (at row) 0 (length row)
+right-row row f =
+    right-signals (at row) 0 (length row) (row-ends row) (λ p l u. right-fits row p u (f p u)) (λ p q l u w. right-within row p u (f p u) q w)
+
 pub whole-signals : (row : List ℕ) → ((s : ℕ) → s < segments row → SegmentPlan row s) → Signals (onlyPlan (at row)) (at row) 0 (length row)
-whole-signals row f =
-    only-signals (at row) 0 (length row) (row-ends row)
-    (λ p l u. planned-fits (at row) (p / 4) p (yes-planned (p / 4) (omega arith)) refl)
-  where
-    yes-planned : (s : ℕ) → s < segments row → planned (at row) s ≡ true
-    yes-planned s l = go (planned (at row) s) refl
-      where
-        go : (t : Bool) → planned (at row) s ≡ t → t ≡ true
-        go true e = refl
-        go false e = absurd (planned-decides row s l .no e (f s l))
-
-whole-eight : (row : List ℕ) → ((s : ℕ) → s < segments row → SegmentOfEight row s) → PlanOfEight row 0 (length row)
-whole-eight row f = (onlyPlan (at row), w, λ p l u. here p (f (p / 4) (omega arith)) u)
-  where
-    w : Signals (onlyPlan (at row)) (at row) 0 (length row)
-    w = whole-signals row (λ s l. let v = f s l in (v .0, v .1))
-
-    here : (p : ℕ) → SegmentOfEight row (p / 4) → p < length row → total (onlyPlan (at row) p) (at row) p ≤ 8
-    here p v u =
-        rw (← signalled (v .0) (at row) (4 * (p / 4)) (segmentEnd row (p / 4)) (segment-ends row (p / 4) (omega arith)) (v .1) p (omega arith) (omega arith))
-        (v .2 p (omega arith) (omega arith))
+whole-signals row f = right-row row (λ p u. segment-right row (p / 4) (omega arith) (f (p / 4) (omega arith)) p (omega arith) (omega arith))
 
 -- ---- the answer is 01's
-pub layout-laid : (row : List ℕ) → Laid row (layoutOf row)
-unfolding layoutOf answer7 answer8 _or_ unplanned overEight
-layout-laid row = go (ltb (unplanned row) n) (ltb (overEight row) n) refl refl
-  where
-    n : ℕ
-    n = segments row
+module _ (row : List ℕ) where
+  wrong-is : firstWrong row < length row → rightAt (at row) (length row) (firstWrong row) ≡ false
+  unfolding firstWrong
+  wrong-is l = not-true _ (least-holds (wrongAt row) (length row) l)
 
-    below : (s : ℕ) → s < unplanned row → planned (at row) s ≡ true
-    below s l = unfold unplanned in not-false _ (least-before (noPlan row) n s l)
+  right-before : (p : ℕ) → p < firstWrong row → rightAt (at row) (length row) p ≡ true
+  unfolding firstWrong
+  right-before p l = not-false _ (least-before (wrongAt row) (length row) p l)
 
-    has : (s : ℕ) → s < n → s < unplanned row → SegmentPlan row s
-    has s m l = planned-decides row s m .yes (below s l)
+  over-is : firstOver row < length row → 8 < total (onlyPlan (at row) (firstOver row)) (at row) (firstOver row)
+  unfolding firstOver
+  over-is l = ltb-true _ _ (least-holds (overAt row) (length row) l)
 
-    go : (a b : Bool) → ltb (unplanned row) n ≡ a → ltb (overEight row) n ≡ b
-        → Laid row (refuseIf a (no 7 0 (unplanned row)) or refuseIf b (no 8 0 (overEight row)))
-    go true b e f =
-        let l = ltb-true (unplanned row) n e in
-        no-plan (unplanned row) l
-        (planned-decides row (unplanned row) l .no (not-true _ (unfold unplanned in least-holds (noPlan row) n l)))
-        (λ t m. has t (omega arith) m)
-    go false true e f =
-        let l = ltb-true (overEight row) n f in
-        let u = ltb-false (unplanned row) n e in
-        over-eight (overEight row) l (λ t m. has t m (omega arith))
-        (eight-decides row (overEight row) l (below (overEight row) (omega arith)) .no (not-true _ (unfold overEight in least-holds (isOver row) n l)))
-        (λ t m. eight-decides row t (omega arith) (below t (omega arith)) .yes (not-false _ (unfold overEight in least-before (isOver row) n t m)))
-    go false false e f =
-        let u = ltb-false (unplanned row) n e in
-        let v = ltb-false (overEight row) n f in
-        accepted (whole-eight row (λ t m. eight-decides row t m (below t (omega arith)) .yes (not-false _ (unfold overEight in least-before (isOver row) n t (omega arith)))))
+  pub within-before : (p : ℕ) → p < firstOver row → total (onlyPlan (at row) p) (at row) p ≤ 8
+  unfolding firstOver
+  within-before p l = ltb-false _ _ (least-before (overAt row) (length row) p l)
+
+  over-most : firstOver row ≤ length row
+  unfolding firstOver
+  over-most = least-le (overAt row) (length row)
+
+  pub layout-laid : Laid row (layoutOf row)
+  unfolding layoutOf answer7 answer8 _or_
+  layout-laid = go (ltb (firstWrong row) (length row)) (ltb (firstOver row) (length row)) refl refl
+    where
+      go : (a b : Bool) → ltb (firstWrong row) (length row) ≡ a → ltb (firstOver row) (length row) ≡ b
+          → Laid row (refuseIf a (no 7 0 (firstWrong row / 4)) or refuseIf b (no 8 0 (firstOver row / 4)))
+      go true b e f =
+          let l = ltb-true (firstWrong row) (length row) e in
+          no-plan (firstWrong row / 4) (omega arith)
+          (λ w. not-both (rightAt (at row) (length row) (firstWrong row)) (segment-right row (firstWrong row / 4) (omega arith) w (firstWrong row) (omega arith) (omega arith)) (wrong-is l))
+          (λ t m. (onlyPlan (at row), right-segment row t (omega arith) (λ p k u. right-before p (omega arith))))
+      go false true e f =
+          let l = ltb-true (firstOver row) (length row) f in
+          let u = ltb-false (firstWrong row) (length row) e in
+          let o = over-is l in
+          over-eight (firstOver row / 4) (omega arith)
+          (λ t m. (onlyPlan (at row), right-segment row t m (λ p k n. right-before p (omega arith))))
+          (λ w. let z = segment-total row (firstOver row / 4) (omega arith) w (firstOver row) (omega arith) (omega arith) in omega arith)
+          (λ t m. (onlyPlan (at row), right-segment row t (omega arith) (λ p k n. right-before p (omega arith)), λ p k n. within-before p (omega arith)))
+      go false false e f =
+          let u = ltb-false (firstWrong row) (length row) e in
+          let v = ltb-false (firstOver row) (length row) f in
+          accepted (onlyPlan (at row), right-row row (λ p k. right-before p (omega arith)), λ p k n. within-before p (omega arith))
 
 -- ---- 01 has one answer for a row
 lowest : (P : ℕ → Type 0) (s t : ℕ) → (P s → ⊥) → (P t → ⊥) → ((i : ℕ) → i < s → P i) → ((i : ℕ) → i < t → P i) → s ≡ t
@@ -173,3 +175,10 @@ laid-same row x y (over-eight s l p n f) (over-eight t m q o g) = ap (λ (k : �
 -- so a layout's outcome is the one that is worked out
 pub laid-is : (row : List ℕ) (x : Out) → Laid row x → x ≡ layoutOf row
 laid-is row x w = laid-same row x (layoutOf row) w (layout-laid row)
+
+-- a row that is accepted has no resource over eight
+pub none-over : (row : List ℕ) → layoutOf row ≡ Pass → firstOver row ≡ length row
+unfolding layoutOf answer8
+none-over row e =
+    let l : length row ≤ firstOver row = ltb-false (firstOver row) (length row) (pass-if _ _ (pass-right (answer7 row) _ e)) in
+    omega (arith, over-most row)

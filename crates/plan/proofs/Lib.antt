@@ -1,9 +1,11 @@
 pub mod Tests
-pub mod Fit
-pub mod Fitting
+pub mod Table
+pub mod Ranges
+pub mod Steps
 pub mod Only
-pub mod Turns
-pub mod Spans
+pub mod Found
 pub mod Parts
 pub mod Laid
+pub mod Value
 pub mod Demand
+pub mod Agree

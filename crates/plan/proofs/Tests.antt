@@ -2,13 +2,11 @@
 use mathlib.Core.Path.{_≡_, refl}
 use mathlib.Core.Logic.{_⊎_, inl, inr, ⊎-elim}
 use mathlib.Core.Bool.{Bool, true, false, not, _&&_, _||_}
-use Prim.Native.Nat.{ℕ, zero, suc, _+_, _≤_, _<_}
+use Prim.Native.Nat.{ℕ, _≤_, _<_}
 use native.Mathlib.Omega.{arith}
-use native.Mathlib.Numerals.{add-one}
 use lib.Dec.{ltb, leb, eqb}
 use borrow.Author.Tests.{ltb-true, ltb-false, eqb-true, eqb-false, leb-true, leb-false}
 use Rattle.plan.specs.Decides.{Decides}
-use Rattle.plan.specs.Guess.{every}
 
 -- what a test's outcome says
 abbrev pub Tested : Bool → Type 0 → Type 0
@@ -94,29 +92,3 @@ not-tested false A d = d
 pub not-is : (t : Bool) {A : Type 0} → Decides t A → Decides (not t) (A → ⊥)
 not-is true {A} d = is-no (λ h. h (d .yes refl))
 not-is false {A} d = is-yes (d .no refl)
-
--- ---- all below n
-pub every-all : (t : ℕ → Bool) (n : ℕ) → every t n ≡ true → (i : ℕ) → i < n → t i ≡ true
-every-all t zero e i l = absurd (omega arith)
-every-all t (suc n) e i l = go (every t n) (t n) refl refl e (λ p m. every-all t n p i m) (eqb i n) (eqb-decides i n)
-  where
-    go : (x y : Bool) → every t n ≡ x → t n ≡ y → x && y ≡ true → (every t n ≡ true → i < n → t i ≡ true)
-        → (z : Bool) → Tested z (i ≡ n) → t i ≡ true
-    go true true p q r below true h = rw h q
-    go true true p q r below false h = below p (omega arith)
-    go true false p q r below z h = let c : _≡_ {A = ℕ} 0 1 = cc in absurd (omega arith)
-    go false y p q r below z h = let c : _≡_ {A = ℕ} 0 1 = cc in absurd (omega arith)
-
-pub every-of : (t : ℕ → Bool) (n : ℕ) → ((i : ℕ) → i < n → t i ≡ true) → every t n ≡ true
-every-of t zero h = refl
-every-of t (suc n) h = rw (every-of t n (λ i l. h i (omega arith)), h n (omega arith))
-
-pub every-next : (t : ℕ → Bool) (n : ℕ) → every t n ≡ true → t n ≡ true → every t (n + 1) ≡ true
-every-next t n e f = rw (add-one n, e, f)
-
-pub every-stop : (t : ℕ → Bool) (i n : ℕ) → i < n → t i ≡ false → every t n ≡ false
-every-stop t i n l e = go (every t n) refl
-  where
-    go : (x : Bool) → every t n ≡ x → x ≡ false
-    go true p = let q = every-all t n p i l in let c : _≡_ {A = ℕ} 0 1 = cc in absurd (omega arith)
-    go false p = refl

@@ -5,7 +5,6 @@ use Prim.Native.Nat.{ℕ, _+_, _*_, _/_, _<_, min}
 use Rattle.answer.specs.Answer.{no}
 use Rattle.answer.specs.declared.Out.{Out}
 use Rattle.answer.specs.declared.Out.the-variants.{Pass, Refuse}
-use Rattle.plan.specs.declared.Owner.{Owner}
 use Rattle.plan.specs.Plan.{at, Signals}
 use Rattle.plan.specs.Fields.{Eight}
 
@@ -18,11 +17,11 @@ segmentEnd row s = min (4 * s + 4) (length row)
 
 -- some plan signals the positions from a up to b, with any number of fields
 abbrev pub Plan : List ℕ → ℕ → ℕ → Type 0
-Plan row a b = (o : ℕ → Owner) × Signals o (at row) a b
+Plan row a b = (o : ℕ → ℕ) × Signals o (at row) a b
 
 -- .. with at most eight on each resource
 abbrev pub PlanOfEight : List ℕ → ℕ → ℕ → Type 0
-PlanOfEight row a b = (o : ℕ → Owner) × Signals o (at row) a b × Eight o (at row) a b
+PlanOfEight row a b = (o : ℕ → ℕ) × Signals o (at row) a b × Eight o (at row) a b
 
 abbrev pub SegmentPlan : List ℕ → ℕ → Type 0
 SegmentPlan row s = Plan row (4 * s) (segmentEnd row s)

@@ -1,21 +1,30 @@
-// The plan of a row of RU Allocation values (01, "What a plan is"), and the answers 7 and 8.
+// The plan of a row of RU Allocation values (01, "What a plan is"), made once: to what each position is given, whose User
+// fields share a resource, how many each channel has, and the answers 7 and 8. A kind of resource is its line in the table
+// of specs/Kinds.antt: line 0 is the position itself, and 7 is none.
 use answer::Out;
 ghost use mathlib.Core.Path.{_≡_};
-ghost use Prim.Native.Nat.{_+_, _-_, _*_, _/_, _%_, _≤_, _<_};
-ghost use lib.ListN.{length};
-ghost use Rattle.plan.specs.Decides.{Decides};
-ghost use Rattle.plan.specs.Plan.{at, Fits, span};
-ghost use Rattle.plan.specs.Fields.{gives, share, channelShare, fieldsIn, total, shared};
-ghost use Rattle.plan.specs.Layout.{segments, segmentEnd, Laid};
-ghost use Rattle.plan.specs.Guess.{threeOf, orElse, firstThree, choose, onlyPlan, Like996, Like484, planned, withinEight, unplanned, overEight};
+ghost use mathlib.Core.Bool.{cond, _&&_, _||_};
+ghost use lib.Dec.{eqb, leb};
+ghost use Prim.Native.Nat.{_+_, _-_, _*_, _/_, _%_, _^_, _≤_, _<_};
+ghost use lib.ListN.{length, replicate};
+ghost use Rattle.answer.specs.Filled.{filled};
+ghost use Rattle.plan.specs.Kinds.{family, span, mask, takes, blankAt};
+ghost use Rattle.plan.specs.Plan.{at};
+ghost use Rattle.plan.specs.Fields.{gives, share, fieldsIn, channelShare, total};
+ghost use Rattle.plan.specs.Layout.{Laid};
+ghost use Rattle.plan.specs.Guess.{nameOf, orElse, firstNamed, tells, choose, onlyPlan, fitting, within, rightAt, firstWrong, firstOver};
+ghost use Rattle.plan.specs.Value.{fieldsTo, sharedTo, kindsOf, planOf};
 
-// To what a position is given: to itself, to the 484 on its pair, to the 996 on its segment, or to the 484+242 that
-// leaves out a place of its segment.
-pub enum Owner {
-    Itself,
-    Pair,
-    Whole,
-    Three(u16),
+// The plan of a row.
+pub struct Plan {
+    pub out: Out,
+    // to what each position is given: its kind
+    pub kinds: [u16; 16],
+    // bit p: the User fields of position p share their resource
+    pub shared: u32,
+    // the User fields of each channel
+    pub fields1: usize,
+    pub fields2: usize,
 }
 
 fn value_at(row: &[u16], p: usize) -> u16
@@ -24,32 +33,129 @@ fn value_at(row: &[u16], p: usize) -> u16
     if p < row.len() { row[p] } else { 0 }
 }
 
-// The 484+242 that a value names, 4 for none.
-fn three_of(v: u16) -> u16
-    ensures { λ r. ⌜ (r ≤ 4) × (r ≡ threeOf v) ⌝ }
+// ---- the table of kinds
+
+// The family of its values.
+fn family_of(kind: u16) -> u16
+    ensures { λ r. ⌜ r ≡ family kind ⌝ }
 {
-    let e = v / 8;
-    if e < 12 {
-        4
+    match kind {
+        0 => 8,
+        1 => 9,
+        2 => 10,
+        3 => 12,
+        4 => 13,
+        5 => 14,
+        6 => 15,
+        _ => 0,
+    }
+}
+
+// How many positions it lies among.
+pub fn span_of(kind: u16) -> usize
+    requires { ⌜ kind < 7 ⌝ }
+    ensures { λ r. ⌜ (0 < r) × (r ≤ 4) × (r ≡ span kind) ⌝ }
+{
+    match kind {
+        0 => 1,
+        1 => 2,
+        _ => 4,
+    }
+}
+
+// Which of them are its places, bit j for place j.
+pub fn mask_of(kind: u16) -> u16
+    ensures { λ r. ⌜ (r ≤ 15) × (r ≡ mask kind) ⌝ }
+{
+    match kind {
+        0 => 0b0001,
+        1 => 0b0011,
+        2 => 0b1111,
+        3 => 0b1110,
+        4 => 0b1101,
+        5 => 0b1011,
+        6 => 0b0111,
+        _ => 0,
+    }
+}
+
+// Place j is its own.
+fn takes_place(kind: u16, j: usize) -> bool
+    requires { ⌜ j < 4 ⌝ }
+    ensures { λ r. ⌜ r ≡ takes kind j ⌝ }
+{
+    (mask_of(kind) >> j) % 2 == 1
+}
+
+// What place j holds with no field: around it the largest aligned block of 4, 2 or 1 places that are all its own.
+fn blank_of(kind: u16, j: usize) -> u16
+    requires { ⌜ j < 4 ⌝ }
+    ensures { λ r. ⌜ r ≡ blankAt kind j ⌝ }
+{
+    let m = mask_of(kind);
+    if m % 16 == 15 {
+        return 30;
+    }
+    if (m >> (2 * (j / 2))) % 4 == 3 {
+        29
     } else {
-        if e < 16 { e - 12 } else { 4 }
+        28
+    }
+}
+
+// The place of position p among its span.
+fn place_in(kind: u16, p: usize) -> usize
+    requires { ⌜ kind < 7 ⌝ }
+    ensures { λ r. ⌜ (r < 4) × (r ≡ p % span kind) ⌝ }
+{
+    match kind {
+        0 => 0,
+        1 => p % 2,
+        _ => p % 4,
+    }
+}
+
+// The first of the positions that it lies among, where it lies at p.
+pub fn start_of(kind: u16, p: usize) -> usize
+    requires { ⌜ (kind < 7) × (p < 4096) ⌝ }
+    ensures { λ r. ⌜ (r ≤ p) × (r ≡ span kind * (p / span kind)) ⌝ }
+{
+    match kind {
+        0 => p,
+        1 => 2 * (p / 2),
+        _ => 4 * (p / 4),
+    }
+}
+
+// ---- the only plan
+
+// The kind that a value names, of those that must be named.
+fn name_of(v: u16) -> u16
+    ensures { λ r. ⌜ (r ≤ 7) × (r ≡ nameOf v) ⌝ }
+{
+    match resource::family_of(v) {
+        12 => 3,
+        13 => 4,
+        14 => 5,
+        15 => 6,
+        _ => 7,
     }
 }
 
 // What the values before name, or else what v does.
 fn named_or(k: u16, v: u16) -> u16
-    requires { ⌜ k ≤ 4 ⌝ }
-    ensures { λ r. ⌜ (r ≤ 4) × (r ≡ orElse k (threeOf v)) ⌝ }
+    requires { ⌜ k ≤ 7 ⌝ }
+    ensures { λ r. ⌜ (r ≤ 7) × (r ≡ orElse k (nameOf v)) ⌝ }
 {
-    if k < 4 { k } else { three_of(v) }
+    if k < 7 { k } else { name_of(v) }
 }
 
 // The first that the four values from b on name.
-fn first_three(row: &[u16], b: usize) -> u16
+fn first_named(row: &[u16], b: usize) -> u16
     requires { ⌜ b < 4096 ⌝ }
-    ensures { λ r. ⌜ r ≡ firstThree (at (now (row .entry))) b 4 ⌝ }
+    ensures { λ r. ⌜ (r ≤ 7) × (r ≡ firstNamed (at (now (row .entry))) b 4) ⌝ }
 {
-    let mut k: u16 = 4;
+    let mut k: u16 = 7;
     let mut i: usize = 0;
     while i < 4 {
         k = named_or(k, value_at(row, b + i));
@@ -58,324 +164,288 @@ fn first_three(row: &[u16], b: usize) -> u16
     k
 }
 
-// A value that only a 996 takes.
-fn is_996(v: u16) -> bool
-    ensures { λ r. ⌜ Decides r (Like996 v) ⌝ }
+// The first place of a resource of this kind may hold v.
+fn tells_kind(kind: u16, v: u16) -> bool
+    ensures { λ r. ⌜ r ≡ tells kind v ⌝ }
 {
-    if v == 30 {
+    if resource::family_of(v) == family_of(kind) {
         return true;
     }
-    v / 8 == 10
+    v == blank_of(kind, 0)
 }
 
-// A value that only a 484, or a 484+242, takes.
-fn is_484(v: u16) -> bool
-    ensures { λ r. ⌜ Decides r (Like484 v) ⌝ }
+// From the kind that is named, the segment's first value, the pair's first value, and the place.
+fn choice(k: u16, u: u16, v: u16, j: usize) -> u16
+    requires { ⌜ j < 4 ⌝ }
+    ensures { λ r. ⌜ (r < 7) × (r ≡ choose k u v j) ⌝ }
 {
-    if v == 29 {
-        return true;
-    }
-    v / 8 == 9
-}
-
-fn choice(k: u16, u: u16, v: u16, j: u16) -> Owner
-    ensures { λ r. ⌜ r ≡ choose k u v j ⌝ }
-{
-    if k < 4 {
-        if j == k {
-            Owner::Itself
-        } else {
-            Owner::Three(k)
-        }
+    if k < 7 {
+        if takes_place(k, j) { k } else { 0 }
     } else {
-        if is_996(u) {
-            Owner::Whole
+        if tells_kind(2, u) {
+            2
         } else {
-            if is_484(v) {
-                Owner::Pair
-            } else {
-                Owner::Itself
-            }
+            if tells_kind(1, v) { 1 } else { 0 }
         }
     }
 }
 
-// To what position p is given in a segment that names k and begins with u.
-fn owner_in(row: &[u16], k: u16, u: u16, p: usize) -> Owner
-    ensures { λ r. ⌜ r ≡ choose k u (at (now (row .entry)) (2 * (p / 2))) (p % 4) ⌝ }
+// The position after the segment that begins at b.
+fn segment_end(row: &[u16], b: usize) -> usize
+    requires { ⌜ (length (now row) ≤ 16) × (b < length (now row)) ⌝ }
+    ensures { λ r. ⌜ (b < r) × (r ≤ b + 4) × (r ≤ length (now (row .entry))) × (r < length (now (row .entry)) → r ≡ b + 4) ⌝ }
 {
-    let v = value_at(row, 2 * (p / 2));
-    choice(k, u, v, (p % 4) as u16)
+    let n = row.len();
+    if b + 4 < n { b + 4 } else { n }
 }
 
-// To what the only plan that can signal the row gives position p.
-pub fn owner_at(row: &[u16], p: usize) -> Owner
-    requires { ⌜ p < 4096 ⌝ }
-    ensures { λ r. ⌜ r ≡ onlyPlan (at (now (row .entry))) p ⌝ }
+// Enters to what the positions of the segment that begins at b are given; returns the position after it.
+fn enter_segment(kinds: &mut [u16; 16], row: &[u16], b: usize) -> usize
+    requires { ⌜ (length (now row) ≤ 16) × (b < length (now row)) × (b % 4 ≡ 0) × (now kinds ≡ filled (onlyPlan (at (now row))) b (replicate 16 0)) ⌝ }
+    ensures { λ r. ⌜ (b < r) × (r ≤ length (now (row .entry))) × (r < length (now (row .entry)) → r ≡ b + 4) ⌝ }
+    ensures { λ r. ⌜ now (kinds .exit) ≡ filled (onlyPlan (at (now (row .entry)))) r (replicate 16 0) ⌝ }
 {
-    let b = 4 * (p / 4);
-    let k = first_three(row, b);
-    let u = value_at(row, b);
-    owner_in(row, k, u, p)
+    let k = first_named(row, b);
+    let u = row[b];
+    let e = segment_end(row, b);
+    let mut p = b;
+    while p < e {
+        kinds[p] = choice(k, u, value_at(row, 2 * (p / 2)), p % 4);
+        p += 1;
+    }
+    e
 }
 
-// The value v may stand at position p, given to itself.
-fn fits_alone(p: usize, v: u16) -> bool
-    ensures { λ r. ⌜ Decides r (Fits Owner.Itself p v) ⌝ }
+// To what the only plan that can signal the row gives each position.
+fn kinds_of(row: &[u16]) -> [u16; 16]
+    requires { ⌜ length (now row) ≤ 16 ⌝ }
+    ensures { λ r. ⌜ r ≡ kindsOf (now (row .entry)) ⌝ }
 {
-    match v {
-        0..=28 => true,
-        48 => p % 4 != 3,
-        50 => p % 4 != 2,
-        64..=71 => true,
-        _ => false,
+    let n = row.len();
+    let mut kinds = [0u16; 16];
+    let mut b: usize = 0;
+    while b < n {
+        b = enter_segment(&mut kinds, row, b);
     }
+    kinds
 }
 
-// The value v may stand at position p, given to a 484+242 that leaves out place k.
-fn fits_three(k: u16, p: usize, v: u16) -> bool
-    ensures { λ r. ⌜ Decides r (Fits (Owner.Three k) p v) ⌝ }
+// ---- whether it signals the row
+
+// The value v may stand at place j of this kind.
+fn fits_place(kind: u16, j: usize, v: u16) -> bool
+    requires { ⌜ j < 4 ⌝ }
+    ensures { λ r. ⌜ r ≡ (takes kind j && (eqb (v / 8) (family kind) || eqb v (blankAt kind j))) ⌝ }
 {
-    let j = (p % 4) as u16;
-    if 4 <= k {
-        return false;
-    }
-    if j == k {
-        return false;
-    }
-    if v / 8 == 12 + k {
+    takes_place(kind, j) & ((resource::family_of(v) == family_of(kind)) | (v == blank_of(kind, j)))
+}
+
+// The value v may stand at position p, which is given to this kind.
+fn fits(kind: u16, p: usize, v: u16) -> bool
+    requires { ⌜ kind < 7 ⌝ }
+    ensures { λ r. ⌜ r ≡ fitting kind p v ⌝ }
+{
+    if fits_place(kind, place_in(kind, p), v) {
         return true;
     }
-    if j / 2 == k / 2 { v == 28 } else { v == 29 }
-}
-
-// The value v may stand at position p, given to o.
-fn fits(o: Owner, p: usize, v: u16) -> bool
-    ensures { λ r. ⌜ Decides r (Fits o p v) ⌝ }
-{
-    match o {
-        Owner::Itself => fits_alone(p, v),
-        Owner::Pair => is_484(v),
-        Owner::Whole => is_996(v),
-        Owner::Three(k) => fits_three(k, p, v),
+    if kind == 0 {
+        resource::is_smaller((p % 4) as u16, v)
+    } else {
+        false
     }
 }
 
-// Every value of segment s fits what the only plan gives its position to.
-fn segment_fits(row: &[u16], s: usize) -> bool
-    requires { ⌜ s < 1024 ⌝ }
-    ensures { λ r. ⌜ r ≡ planned (at (now (row .entry))) s ⌝ }
+// Every place of the resource of this kind at position p lies below n.
+fn lies_within(kind: u16, p: usize, n: usize) -> bool
+    requires { ⌜ (kind < 7) × (p < n) × (n ≤ 16) ⌝ }
+    ensures { λ r. ⌜ r ≡ within kind p n ⌝ }
 {
-    let b = 4 * s;
-    let k = first_three(row, b);
-    let u = value_at(row, b);
-    let mut i: usize = 0;
-    while i < 4 {
-        if !fits(owner_in(row, k, u, b + i), b + i, value_at(row, b + i)) {
-            return false;
+    (mask_of(kind) as usize) < 1 << (n - start_of(kind, p))
+}
+
+// Position p of n, which is given to this kind and has the value v, is as the plan says.
+fn is_right(kind: u16, p: usize, v: u16, n: usize) -> bool
+    requires { ⌜ (kind < 7) × (p < n) × (n ≤ 16) ⌝ }
+    ensures { λ r. ⌜ r ≡ (fitting kind p v && within kind p n) ⌝ }
+{
+    if fits(kind, p, v) {
+        lies_within(kind, p, n)
+    } else {
+        false
+    }
+}
+
+fn kind_at(kinds: &[u16; 16], row: &[u16], p: usize) -> u16
+    requires { ⌜ (length (now row) ≤ 16) × (p < length (now row)) × (now kinds ≡ kindsOf (now row)) ⌝ }
+    ensures { λ r. ⌜ (r < 7) × (r ≡ onlyPlan (at (now (row .entry))) p) ⌝ }
+{
+    kinds[p]
+}
+
+// The lowest position at which the only plan does not signal the row.
+fn first_wrong(kinds: &[u16; 16], row: &[u16]) -> usize
+    requires { ⌜ (length (now row) ≤ 16) × (now kinds ≡ kindsOf (now row)) ⌝ }
+    ensures { λ r. ⌜ r ≡ firstWrong (now (row .entry)) ⌝ }
+{
+    let n = row.len();
+    let mut p: usize = 0;
+    while p < n {
+        if !is_right(kind_at(kinds, row, p), p, row[p], n) {
+            return p;
         }
-        i += 1;
+        p += 1;
     }
-    true
+    p
 }
 
-// How many positions the resource lies among.
-fn span_of(o: Owner) -> usize
-    ensures { λ r. ⌜ (0 < r) × (r ≤ 4) × (r ≡ span o) ⌝ }
+// ---- the User fields
+
+// Position p is a place of the resource of this kind, and v is of its family.
+fn gives_fields(kind: u16, p: usize, v: u16) -> bool
+    requires { ⌜ kind < 7 ⌝ }
+    ensures { λ r. ⌜ r ≡ gives kind p v ⌝ }
 {
-    match o {
-        Owner::Itself => 1,
-        Owner::Pair => 2,
-        Owner::Whole => 4,
-        Owner::Three(_) => 4,
-    }
+    takes_place(kind, place_in(kind, p)) & (resource::family_of(v) == family_of(kind))
 }
 
-// The first of them.
-fn span_start(o: Owner, p: usize) -> usize
-    ensures { λ r. ⌜ (r ≤ p) × (r ≡ span o * (p / span o)) ⌝ }
+// The fields that the value v at position p gives to the resource of this kind.
+fn share_of(kind: u16, p: usize, v: u16) -> u16
+    requires { ⌜ kind < 7 ⌝ }
+    ensures { λ r. ⌜ (r ≤ 9) × (r ≡ share kind p v) ⌝ }
 {
-    match o {
-        Owner::Itself => p,
-        Owner::Pair => 2 * (p / 2),
-        Owner::Whole => 4 * (p / 4),
-        Owner::Three(_) => 4 * (p / 4),
-    }
-}
-
-// Position p is a place of the 484+242 that leaves out place k, and v is of its family.
-fn gives_three(k: u16, p: usize, v: u16) -> bool
-    ensures { λ r. ⌜ r ≡ gives (Owner.Three k) p v ⌝ }
-{
-    let j = (p % 4) as u16;
-    if 4 <= k {
-        return false;
-    }
-    (j != k) & (v / 8 == 12 + k)
-}
-
-// Position p is a place of o, and v is of the family of o.
-fn gives_fields(o: Owner, p: usize, v: u16) -> bool
-    ensures { λ r. ⌜ r ≡ gives o p v ⌝ }
-{
-    match o {
-        Owner::Itself => v / 8 == 8,
-        Owner::Pair => v / 8 == 9,
-        Owner::Whole => v / 8 == 10,
-        Owner::Three(k) => gives_three(k, p, v),
-    }
-}
-
-// The fields that the value v at position p gives to o.
-fn share_of(o: Owner, p: usize, v: u16) -> u16
-    ensures { λ r. ⌜ (r ≤ 8) × (r ≡ share o p v) ⌝ }
-{
-    if gives_fields(o, p, v) { v % 8 + 1 } else { 0 }
-}
-
-// The same, where p is one of the channel's positions.
-fn channel_share(channel: usize, o: Owner, p: usize, v: u16) -> u16
-    ensures { λ r. ⌜ (r ≤ 8) × (r ≡ channelShare channel o p v) ⌝ }
-{
-    if p % 2 == channel {
-        share_of(o, p, v)
+    if gives_fields(kind, p, v) {
+        resource::fields_of(v)
     } else {
         0
     }
 }
 
-// The fields of a channel (0 or 1) that are the resource's of kind o at position p.
-pub fn fields_in(channel: usize, o: Owner, row: &[u16], p: usize) -> u16
-    requires { ⌜ p < 4096 ⌝ }
-    ensures { λ r. ⌜ (r ≤ 32) × (r ≡ fieldsIn channel o (at (now (row .entry))) p) ⌝ }
+// The same, where p is one of the channel's positions.
+fn channel_share(channel: usize, kind: u16, p: usize, v: u16) -> u16
+    requires { ⌜ kind < 7 ⌝ }
+    ensures { λ r. ⌜ (r ≤ 9) × (r ≡ channelShare channel kind p v) ⌝ }
 {
-    let n = span_of(o);
-    let b = span_start(o, p);
+    if p % 2 == channel {
+        share_of(kind, p, v)
+    } else {
+        0
+    }
+}
+
+// The fields of a channel (0 or 1) that are the resource's of this kind at position p.
+pub fn fields_in(channel: usize, kind: u16, row: &[u16], p: usize) -> u16
+    requires { ⌜ (kind < 7) × (p < 4096) ⌝ }
+    ensures { λ r. ⌜ (r ≤ 36) × (r ≡ fieldsIn channel kind (at (now (row .entry))) p) ⌝ }
+{
+    let n = span_of(kind);
+    let b = start_of(kind, p);
     let mut sum: u16 = 0;
     let mut i: usize = 0;
     while i < n {
-        sum += channel_share(channel, o, b + i, value_at(row, b + i));
+        sum += channel_share(channel, kind, b + i, value_at(row, b + i));
         i += 1;
     }
     sum
 }
 
 // The fields of both channels: those of all its places.
-fn total_of(o: Owner, row: &[u16], p: usize) -> u16
-    requires { ⌜ p < 4096 ⌝ }
-    ensures { λ r. ⌜ r ≡ total o (at (now (row .entry))) p ⌝ }
+fn total_of(kind: u16, row: &[u16], p: usize) -> u16
+    requires { ⌜ (kind < 7) × (p < 4096) ⌝ }
+    ensures { λ r. ⌜ (r ≤ 36) × (r ≡ total kind (at (now (row .entry))) p) ⌝ }
 {
-    let n = span_of(o);
-    let b = span_start(o, p);
+    let n = span_of(kind);
+    let b = start_of(kind, p);
     let mut sum: u16 = 0;
     let mut place: usize = 0;
     while place < n {
-        sum += share_of(o, b + place, value_at(row, b + place));
+        sum += share_of(kind, b + place, value_at(row, b + place));
         place += 1;
     }
     sum
 }
 
-// Position p's fields share their resource, in the only plan.
-pub fn shared_at(row: &[u16], p: usize) -> bool
-    requires { ⌜ p < 4096 ⌝ }
-    ensures { λ r. ⌜ r ≡ shared (onlyPlan (at (now (row .entry)))) (at (now (row .entry))) p ⌝ }
+// The same, from t, the fields of the resource at the position before: often it is the same one.
+fn total_from(t: u16, before: u16, kind: u16, row: &[u16], p: usize) -> u16
+    requires { ⌜ (kind < 7) × (p < 4096) × (0 < p → t ≡ total before (at (now row)) (p - 1)) ⌝ }
+    ensures { λ r. ⌜ r ≡ total kind (at (now (row .entry))) p ⌝ }
 {
-    2 <= total_of(owner_at(row, p), row, p)
-}
-
-// The position after those that the resource of kind o at position p lies among.
-fn span_end(o: Owner, p: usize) -> usize
-    requires { ⌜ p < 4096 ⌝ }
-    ensures { λ r. ⌜ (p < r) × (r ≤ 4 * (p / 4) + 4) × (r ≡ span o * (p / span o) + span o) ⌝ }
-{
-    match o {
-        Owner::Itself => p + 1,
-        Owner::Pair => 2 * (p / 2) + 2,
-        Owner::Whole => 4 * (p / 4) + 4,
-        Owner::Three(_) => 4 * (p / 4) + 4,
+    if (kind == before) & (start_of(kind, p) < p) {
+        t
+    } else {
+        total_of(kind, row, p)
     }
 }
 
-// No resource at the first n positions of segment s is over eight. Each is counted at the first of its places only; a
-// position that a 484+242 leaves out has eight at most.
-fn segment_eight(row: &[u16], s: usize, n: usize) -> bool
-    requires { ⌜ (s < 1023) × (n ≤ 4) ⌝ }
-    ensures { λ r. ⌜ r ≡ withinEight (at (now (row .entry))) s n ⌝ }
+// The bit of position p, if its fields are two or more.
+fn shared_bit(t: u16, p: usize) -> u32
+    requires { ⌜ p < 16 ⌝ }
+    ensures { λ r. ⌜ r ≡ cond (leb 2 t) (2 ^ p) 0 ⌝ }
 {
-    let b = 4 * s;
-    let k = first_three(row, b);
-    let u = value_at(row, b);
-    let mut i: usize = 0;
-    while i < n {
-        let o = owner_in(row, k, u, b + i);
-        if 8 < total_of(o, row, b + i) {
-            return false;
+    if 2 <= t { 1 << p } else { 0 }
+}
+
+// The lowest position of a resource over eight, and which positions before it have fields that share their resource.
+struct Marks {
+    over: usize,
+    shared: u32,
+}
+
+fn sharing(kinds: &[u16; 16], row: &[u16]) -> Marks
+    requires { ⌜ (length (now row) ≤ 16) × (now kinds ≡ kindsOf (now row)) ⌝ }
+    ensures { λ r. ⌜ (r .over ≡ firstOver (now (row .entry))) × (r .shared ≡ sharedTo (now (row .entry)) (r .over)) ⌝ }
+{
+    let n = row.len();
+    let mut shared: u32 = 0;
+    let mut before: u16 = 7;
+    let mut t: u16 = 0;
+    let mut p: usize = 0;
+    while p < n {
+        let kind = kind_at(kinds, row, p);
+        t = total_from(t, before, kind, row, p);
+        if 8 < t {
+            return Marks { over: p, shared };
         }
-        i = span_end(o, b + i) - b;
+        shared += shared_bit(t, p);
+        before = kind;
+        p += 1;
     }
-    true
+    Marks { over: p, shared }
 }
 
-// How many segments a row has.
-fn segment_count(row: &[u16]) -> usize
-    requires { ⌜ length (now row) ≤ 16 ⌝ }
-    ensures { λ r. ⌜ (r ≤ 4) × (r ≡ segments (now (row .entry))) ⌝ }
+// How many User fields the channel (0 or 1) has.
+fn channel_fields(row: &[u16], channel: usize) -> usize
+    requires { ⌜ (length (now row) ≤ 16) × (channel < 2) ⌝ }
+    ensures { λ r. ⌜ r ≡ fieldsTo channel (at (now (row .entry))) (length (now (row .entry))) ⌝ }
 {
-    (row.len() + 3) / 4
-}
-
-// How many positions the row has in segment s, which it has.
-fn segment_len(row: &[u16], s: usize) -> usize
-    requires { ⌜ (length (now row) ≤ 16) × (s < segments (now row)) ⌝ }
-    ensures { λ r. ⌜ (r ≤ 4) × (r ≡ segmentEnd (now (row .entry)) s - 4 * s) ⌝ }
-{
-    let left = row.len() - 4 * s;
-    if left < 4 { left } else { 4 }
-}
-
-// The lowest segment that has no plan.
-fn first_unplanned(row: &[u16]) -> usize
-    requires { ⌜ length (now row) ≤ 16 ⌝ }
-    ensures { λ r. ⌜ r ≡ unplanned (now (row .entry)) ⌝ }
-{
-    let n = segment_count(row);
-    let mut s: usize = 0;
-    while s < n {
-        if !segment_fits(row, s) {
-            return s;
-        }
-        s += 1;
+    let n = row.len();
+    let mut sum: usize = 0;
+    let mut p = channel;
+    while p < n {
+        sum += resource::fields_of(row[p]) as usize;
+        p += 2;
     }
-    s
+    sum
 }
 
-// The lowest segment that has a resource over eight.
-fn first_over(row: &[u16]) -> usize
+// The plan of a row, in one go over it.
+pub fn plan_of(row: &[u16]) -> Plan
     requires { ⌜ length (now row) ≤ 16 ⌝ }
-    ensures { λ r. ⌜ r ≡ overEight (now (row .entry)) ⌝ }
+    ensures { λ r. ⌜ r ≡ planOf (now (row .entry)) ⌝ }
+    ensures { λ r. ⌜ Laid (now (row .entry)) (r .out) ⌝ }
 {
-    let n = segment_count(row);
-    let mut s: usize = 0;
-    while s < n {
-        if !segment_eight(row, s, segment_len(row, s)) {
-            return s;
-        }
-        s += 1;
+    let n = row.len();
+    let kinds = kinds_of(row);
+    let wrong = first_wrong(&kinds, row);
+    let s = sharing(&kinds, row);
+    let out = answer::or_else(
+        answer::refuse_if(wrong < n, 7, 0, wrong / 4),
+        answer::refuse_if(s.over < n, 8, 0, s.over / 4),
+    );
+    Plan {
+        out,
+        kinds,
+        shared: s.shared,
+        fields1: channel_fields(row, 0),
+        fields2: channel_fields(row, 1),
     }
-    s
-}
-
-// The answers 7 and 8: a row's layout.
-pub fn layout(row: &[u16]) -> Out
-    requires { ⌜ length (now row) ≤ 16 ⌝ }
-    ensures { λ r. ⌜ Laid (now (row .entry)) r ⌝ }
-{
-    let n = segment_count(row);
-    let s = first_unplanned(row);
-    let t = first_over(row);
-    answer::or_else(
-        answer::refuse_if(s < n, 7, 0, s),
-        answer::refuse_if(t < n, 8, 0, t),
-    )
 }

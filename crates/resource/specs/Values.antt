@@ -1,5 +1,5 @@
 -- What each value of the RU Allocation subfield says (01, "Values of the RU Allocation subfield"). Assumes nothing.
-use mathlib.Core.Bool.{Bool, true, false, cond, _&&_, _||_}
+use mathlib.Core.Bool.{Bool, true, false, cond, not, _&&_, _||_}
 use mathlib.Core.List.{List, [], _∷_, _++_}
 use Prim.Native.Nat.{ℕ, _+_, _/_, _%_, _^_}
 use lib.Dec.{ltb, leb, eqb}
@@ -70,3 +70,12 @@ fieldsOf v = cond (ltb v 64) (length (pieces v)) (cond (carried v) (v % 8 + 1) 0
 -- the pieces of a position that is given to itself: 28 and 64 to 71 leave it whole, a 242
 unfoldable pub ownPieces : ℕ → List Piece
 ownPieces v = cond (eqb v 28 || within 64 71 v) (Part S242 1 ∷ []) (pieces v)
+
+-- the values of a position "to itself" that do not leave it whole, and of one of which nothing is used: those up to 27, 48 and 50.
+-- "48 isn't allowed in a fourth position nor 50 in a third": v at place j of its segment
+unfoldable pub smallerAt : ℕ → ℕ → Bool
+smallerAt j v = leb v 27 || eqb v 48 && not (eqb j 3) || eqb v 50 && not (eqb j 2)
+
+-- the family of a value, eight values each: "64 to 71", "72 to 79", ..
+abbrev pub familyOf : ℕ → ℕ
+familyOf v = v / 8

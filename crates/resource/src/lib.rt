@@ -4,7 +4,7 @@ ghost use mathlib.Core.Path.{_≡_};
 ghost use Prim.Native.Nat.{_+_, _-_, _*_, _%_, _≤_, _<_};
 ghost use lib.ListN.{length};
 ghost use mathlib.Core.List.{[], _∷_};
-ghost use Rattle.resource.specs.Values.{carried, fieldsOf, ownPieces};
+ghost use Rattle.resource.specs.Values.{carried, fieldsOf, ownPieces, smallerAt, familyOf};
 ghost use Rattle.resource.specs.Starts.{starts, nthFrom, pieceFrom, pieceAt};
 ghost use Rattle.resource.specs.Index.{indexOf, resourceAt, past19, positionOf, placeOf};
 ghost use Rattle.resource.specs.Runs.{runOf, edge, the242, offset26, offset52, offset106, wide, wideWith26, three, narrow26, narrow52, narrow106, narrow, narrowWith26, runsOf, noRun, held};
@@ -85,6 +85,25 @@ pub fn fields_of(v: u16) -> u16
         70 | 78 | 86 | 102 | 110 | 118 | 126 => 7,
         71 | 79 | 87 | 103 | 111 | 119 | 127 => 8,
         _ => 0,
+    }
+}
+
+// The family of a value: "64 to 71", "72 to 79", ..
+pub fn family_of(v: u16) -> u16
+    ensures { λ r. ⌜ r ≡ familyOf v ⌝ }
+{
+    v / 8
+}
+
+// The value may stand at place j of its segment and does not leave its position whole.
+pub fn is_smaller(j: u16, v: u16) -> bool
+    ensures { λ r. ⌜ r ≡ smallerAt j v ⌝ }
+{
+    match v {
+        0..=27 => true,
+        48 => j != 3,
+        50 => j != 2,
+        _ => false,
     }
 }
 

@@ -1,5 +1,8 @@
 -- `plan::channel_share` meets its contract. Assumes nothing.
-use borrow.Author.Tests.{eq-eqb, ne-eqb}
+use Rattle.plan.proofs.Steps.{channel-own, channel-other}
+use mathlib.Core.Path.{_∙_}
+use native.Mathlib.Omega.{arith}
+use borrow.Author.Tests.{ne-eqb}
 use borrow.Author.Needs.{needs}
 use Rattle.plan.proofs.channel_share.Statement.{statement}
 use Rattle.plan.proofs.channel_share.Tie as tie
@@ -8,10 +11,10 @@ share-of-requires : tie.Need-share-of-requires
 share-of-requires c κs = search needs
 
 returns : tie.Need-returns
-returns c = (search needs, rw (eq-eqb _ _ (c .before .if1 .taken)) (c .share-of .ensures .1))
+returns c = (c .share-of .ensures .0, c .share-of .ensures .1 ∙ channel-own _ _ _ _ (c .before .if1 .taken))
 
 returns-2 : tie.Need-returns-2
-returns-2 c = (search needs, rw (ne-eqb _ _ (c .if1 .left)))
+returns-2 c = (omega arith, channel-other _ _ _ _ (c .if1 .left))
 
 pub channel-share-spec : {M : Type 1} → statement M
 channel-share-spec = tie.close (tie.spec share-of-requires returns returns-2)

@@ -1,7 +1,8 @@
 -- `plan::fields_in` meets its contract. Assumes nothing.
 use native.Mathlib.Numerals.{add-one}
 use Rattle.plan.specs.Fields.{shares, fieldsIn}
-use Rattle.plan.specs.Plan.{at, span}
+use Rattle.plan.specs.Kinds.{span}
+use Rattle.plan.specs.Plan.{at}
 use Prim.Native.Nat.{_-_, _*_, _≤_}
 use mathlib.Core.Path.{_≡_, refl, _∙_}
 use native.Mathlib.Omega.{arith}
@@ -10,16 +11,16 @@ use Rattle.plan.proofs.fields_in.Statement.{statement}
 use Rattle.plan.proofs.fields_in.Tie as tie
 
 abbrev Inv-loop : tie.InvT-loop
-Inv-loop channel o row p n b sum₀ i₀ sum i = (i ≤ n) × (sum ≤ 8 * i) × (sum ≡ shares channel o (at row) b i)
+Inv-loop channel kind row p n b sum₀ i₀ sum i = (i ≤ n) × (sum ≤ 9 * i) × (sum ≡ shares channel kind (at row) b i)
 
 abbrev μ-loop : tie.MeasureT-loop
-μ-loop channel o row p n b sum₀ i₀ sum i = n - i
+μ-loop channel kind row p n b sum₀ i₀ sum i = n - i
 
 span-of-requires : tie.Need-span-of-requires Inv-loop μ-loop
 span-of-requires c κs = search needs
 
-span-start-requires : tie.Need-span-start-requires Inv-loop μ-loop
-span-start-requires c κs = search needs
+start-of-requires : tie.Need-start-of-requires Inv-loop μ-loop
+start-of-requires c κs = search needs
 
 loop-holds : tie.Need-loop-holds Inv-loop μ-loop
 loop-holds c = (omega arith, omega arith, refl)
@@ -50,7 +51,7 @@ loop-again c = (omega arith, omega arith, rw (add-one (c .before .before .before
 
 returns : tie.Need-returns Inv-loop μ-loop
 unfolding fieldsIn
-returns c = (omega arith, (let e : c .before .loop .i ≡ span (c .before .before .before .before .before .args .o) = omega arith in c .before .loop .inv .2 ∙ cc (e, c .before .before .before .span-of .ensures .2, c .before .before .span-start .ensures .1)))
+returns c = (omega arith, (let e : c .before .loop .i ≡ span (c .before .before .before .before .before .args .kind) = omega arith in c .before .loop .inv .2 ∙ cc (e, c .before .before .before .span-of .ensures .2, c .before .before .start-of .ensures .1)))
 
 pub fields-in-spec : {M : Type 1} → statement M
 fields-in-spec =
@@ -59,7 +60,7 @@ fields-in-spec =
     Inv-loop
     μ-loop
     span-of-requires
-    span-start-requires
+    start-of-requires
     loop-holds
     add-channel-share
     add-value-at

@@ -1,58 +1,39 @@
 -- `plan::fits` meets its contract. Assumes nothing.
-use Rattle.plan.proofs.Fit.{pair-is, whole-is}
+use Rattle.plan.proofs.Steps.{place-is, fitting-place, fitting-itself, fitting-none}
+use mathlib.Core.Path.{_∙_}
 use borrow.Author.Needs.{needs}
 use Rattle.plan.proofs.fits.Statement.{statement}
 use Rattle.plan.proofs.fits.Tie as tie
 
-enum-told : tie.Need-enum-told
-enum-told c = search needs
+place-in-requires : tie.Need-place-in-requires
+place-in-requires c κs = search needs
 
-fits-alone-requires : tie.Need-fits-alone-requires
-fits-alone-requires c κs = search needs
-
-enum-told-2 : tie.Need-enum-told-2
-enum-told-2 c = search needs
-
-is-484-requires : tie.Need-is-484-requires
-is-484-requires c κs = search needs
-
-enum-told-3 : tie.Need-enum-told-3
-enum-told-3 c = search needs
-
-is-996-requires : tie.Need-is-996-requires
-is-996-requires c κs = search needs
-
-enum-known-o : tie.Need-enum-known-o
-enum-known-o c = search needs
-
-fits-three-requires : tie.Need-fits-three-requires
-fits-three-requires c κs = search needs
+fits-place-requires : tie.Need-fits-place-requires
+fits-place-requires c κs = search needs
 
 returns : tie.Need-returns
-returns c = rw (c .before .enum-told .given .1) (c .fits-alone .ensures)
+returns c = fitting-place _ _ _ (place-is _ _ _ _ _ _ (c .before .before .place-in .ensures .1) (c .before .fits-place .ensures) (c .if1 .taken))
+
+cast-is-smaller : tie.Need-cast-is-smaller
+cast-is-smaller c = search needs
+
+is-smaller-requires : tie.Need-is-smaller-requires
+is-smaller-requires c κs = search needs
 
 returns-2 : tie.Need-returns-2
-returns-2 c = rw (c .before .enum-told2 .given .1) (pair-is (c .is-484 .ensures))
+returns-2 c = c .is-smaller .ensures ∙ fitting-itself _ _ _ (place-is _ _ _ _ _ _ (c .before .before .before .before .place-in .ensures .1) (c .before .before .before .fits-place .ensures) (c .before .before .if1 .left)) (c .before .if2 .taken)
 
 returns-3 : tie.Need-returns-3
-returns-3 c = rw (c .before .enum-told3 .given .1) (whole-is (c .is-996 .ensures))
-
-returns-4 : tie.Need-returns-4
-returns-4 c = rw (c .before .before .o .given .1) (c .fits-three .ensures)
+returns-3 c = fitting-none _ _ _ (place-is _ _ _ _ _ _ (c .before .before .before .place-in .ensures .1) (c .before .before .fits-place .ensures) (c .before .if1 .left)) (c .if2 .left)
 
 pub fits-spec : {M : Type 1} → statement M
 fits-spec =
     tie.close
     (tie.spec
-    enum-told
-    fits-alone-requires
-    enum-told-2
-    is-484-requires
-    enum-told-3
-    is-996-requires
-    enum-known-o
-    fits-three-requires
+    place-in-requires
+    fits-place-requires
     returns
+    cast-is-smaller
+    is-smaller-requires
     returns-2
-    returns-3
-    returns-4)
+    returns-3)

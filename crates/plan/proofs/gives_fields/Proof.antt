@@ -4,47 +4,28 @@ use borrow.Author.Needs.{needs}
 use Rattle.plan.proofs.gives_fields.Statement.{statement}
 use Rattle.plan.proofs.gives_fields.Tie as tie
 
-enum-told : tie.Need-enum-told
-enum-told c = search needs
+place-in-requires : tie.Need-place-in-requires
+place-in-requires c κs = search needs
 
-enum-told-2 : tie.Need-enum-told-2
-enum-told-2 c = search needs
+takes-place-requires : tie.Need-takes-place-requires
+takes-place-requires c κs = search needs
 
-enum-told-3 : tie.Need-enum-told-3
-enum-told-3 c = search needs
+family-of-requires : tie.Need-family-of-requires
+family-of-requires c κs = search needs
 
-enum-known-o : tie.Need-enum-known-o
-enum-known-o c = search needs
-
-gives-three-requires : tie.Need-gives-three-requires
-gives-three-requires c κs = search needs
+family-of-requires-2 : tie.Need-family-of-requires-2
+family-of-requires-2 c κs = search needs
 
 returns : tie.Need-returns
 unfolding gives
-returns c = rw (c .enum-told .given .1)
-
-returns-2 : tie.Need-returns-2
-unfolding gives
-returns-2 c = rw (c .enum-told2 .given .1)
-
-returns-3 : tie.Need-returns-3
-unfolding gives
-returns-3 c = rw (c .enum-told3 .given .1)
-
-returns-4 : tie.Need-returns-4
-unfolding gives
-returns-4 c = rw (c .before .before .o .given .1) (c .gives-three .ensures)
+returns c = cc (c .before .before .before .place-in .ensures .1, c .before .before .takes-place .ensures, c .before .family-of .ensures, c .family-of2 .ensures)
 
 pub gives-fields-spec : {M : Type 1} → statement M
 gives-fields-spec =
     tie.close
     (tie.spec
-    enum-told
-    enum-told-2
-    enum-told-3
-    enum-known-o
-    gives-three-requires
-    returns
-    returns-2
-    returns-3
-    returns-4)
+    place-in-requires
+    takes-place-requires
+    family-of-requires
+    family-of-requires-2
+    returns)

@@ -1,19 +1,19 @@
 -- `plan::named_or` meets its contract. Assumes nothing.
-use mathlib.Core.Path.{sym, _∙_}
+use mathlib.Core.Path.{_∙_}
 use native.Mathlib.Omega.{arith}
+use Rattle.plan.proofs.Steps.{orElse-low, orElse-high}
 use borrow.Author.Needs.{needs}
-use Rattle.plan.proofs.Only.{orElse-low, orElse-high}
 use Rattle.plan.proofs.named_or.Statement.{statement}
 use Rattle.plan.proofs.named_or.Tie as tie
 
-three-of-requires : tie.Need-three-of-requires
-three-of-requires c κs = search needs
+name-of-requires : tie.Need-name-of-requires
+name-of-requires c κs = search needs
 
 returns : tie.Need-returns
-returns c = (omega arith, sym (orElse-low _ _ (c .if1 .taken)))
+returns c = (omega arith, orElse-low _ _ (c .if1 .taken))
 
 returns-2 : tie.Need-returns-2
-returns-2 c = (c .three-of .ensures .0, c .three-of .ensures .1 ∙ sym (orElse-high _ _ (omega arith)))
+returns-2 c = (c .name-of .ensures .0, c .name-of .ensures .1 ∙ orElse-high _ _ (search needs))
 
 pub named-or-spec : {M : Type 1} → statement M
-named-or-spec = tie.close (tie.spec three-of-requires returns returns-2)
+named-or-spec = tie.close (tie.spec name-of-requires returns returns-2)

@@ -1,7 +1,8 @@
 -- `plan::total_of` meets its contract. Assumes nothing.
-use Rattle.plan.proofs.Turns.{shares-next}
+use Rattle.plan.proofs.Steps.{shares-next}
 use Rattle.plan.specs.Fields.{shares, fieldsIn}
-use Rattle.plan.specs.Plan.{at, span}
+use Rattle.plan.specs.Kinds.{span}
+use Rattle.plan.specs.Plan.{at}
 use Prim.Native.Nat.{_+_, _-_, _*_, _≤_}
 use mathlib.Core.Path.{_≡_, refl, _∙_}
 use native.Mathlib.Omega.{arith}
@@ -10,16 +11,16 @@ use Rattle.plan.proofs.total_of.Statement.{statement}
 use Rattle.plan.proofs.total_of.Tie as tie
 
 abbrev Inv-loop : tie.InvT-loop
-Inv-loop o row p n b sum₀ place₀ sum place = (place ≤ n) × (sum ≤ 8 * place) × (sum ≡ shares 0 o (at row) b place + shares 1 o (at row) b place)
+Inv-loop kind row p n b sum₀ place₀ sum place = (place ≤ n) × (sum ≤ 9 * place) × (sum ≡ shares 0 kind (at row) b place + shares 1 kind (at row) b place)
 
 abbrev μ-loop : tie.MeasureT-loop
-μ-loop o row p n b sum₀ place₀ sum place = n - place
+μ-loop kind row p n b sum₀ place₀ sum place = n - place
 
 span-of-requires : tie.Need-span-of-requires Inv-loop μ-loop
 span-of-requires c κs = search needs
 
-span-start-requires : tie.Need-span-start-requires Inv-loop μ-loop
-span-start-requires c κs = search needs
+start-of-requires : tie.Need-start-of-requires Inv-loop μ-loop
+start-of-requires c κs = search needs
 
 loop-holds : tie.Need-loop-holds Inv-loop μ-loop
 loop-holds c = (omega arith, omega arith, refl)
@@ -52,7 +53,7 @@ loop-again c =
 
 returns : tie.Need-returns Inv-loop μ-loop
 unfolding fieldsIn
-returns c = (let e : c .before .loop .place ≡ span (c .before .before .before .before .before .args .o) = omega arith in c .before .loop .inv .2 ∙ cc (e, c .before .before .before .span-of .ensures .2, c .before .before .span-start .ensures .1))
+returns c = (omega arith, let e : c .before .loop .place ≡ span (c .before .before .before .before .before .args .kind) = omega arith in c .before .loop .inv .2 ∙ cc (e, c .before .before .before .span-of .ensures .2, c .before .before .start-of .ensures .1))
 
 pub total-of-spec : {M : Type 1} → statement M
 total-of-spec =
@@ -61,7 +62,7 @@ total-of-spec =
     Inv-loop
     μ-loop
     span-of-requires
-    span-start-requires
+    start-of-requires
     loop-holds
     add-share-of
     add-value-at

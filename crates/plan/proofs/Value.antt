@@ -1,0 +1,160 @@
+-- The plan of a row as a value: what its parts say. Assumes nothing.
+use mathlib.Core.Path.{_≡_, refl, sym, _∙_, ap}
+use mathlib.Core.Logic.{_≢_, ⊎-elim}
+use mathlib.Core.Bool.{Bool, true, false, cond, not, _&&_}
+use mathlib.Core.List.{List}
+use Prim.Native.Nat.{ℕ, zero, suc, _+_, _-_, _*_, _/_, _%_, _^_, _≤_, _<_}
+use native.Mathlib.Omega.{arith}
+use native.Mathlib.Nat.{add-zero, eq-or-lt-of-le, le-of-suc-le-suc, div-eq-of-lt, mul-add-div, mul-add-mod-self-left}
+use lib.Pow.{pow-pos, pow-add}
+use native.Mathlib.Numerals.{add-one}
+use lib.Dec.{eqb, leb, ltb}
+use lib.ListN.{length, getD, replicate}
+use borrow.Author.Tests.{eq-eqb, ne-eqb}
+use Rattle.answer.specs.Filled.{filled, getD-filled}
+use Rattle.answer.specs.Answer.{no, refuseIf, _or_}
+use Rattle.answer.specs.declared.Out.{Out}
+use Rattle.answer.specs.declared.Out.the-variants.{Pass}
+use Rattle.plan.specs.declared.Plan.{Plan}
+use Rattle.resource.specs.Values.{fieldsOf}
+use Rattle.resource.proofs.Fields.{fields-most as most-fields}
+use Rattle.plan.specs.Plan.{at}
+use Rattle.plan.specs.Fields.{total, shared}
+use Rattle.plan.specs.Guess.{firstNamed, choose, onlyPlan, fitting, within, rightAt, wrongAt, overAt, firstWrong, firstOver, answer7, answer8, layoutOf}
+use Rattle.plan.specs.Value.{fieldsTo, sharedTo, kindsOf, planOf}
+use Rattle.plan.proofs.Table.{equal-or}
+use Rattle.plan.proofs.Only.{only-known}
+use Rattle.plan.proofs.Laid.{none-over}
+
+-- ---- the kinds
+pub kind-held : (row kinds : List ℕ) (p : ℕ) → p < length row → kinds ≡ kindsOf row → (getD kinds p 0 < 7) × (getD kinds p 0 ≡ onlyPlan (at row) p)
+unfolding kindsOf
+kind-held row kinds p h e =
+    let f : getD kinds p 0 ≡ onlyPlan (at row) p = rw e (getD-filled (onlyPlan (at row)) (length row) (replicate 16 0) p 0 h) in
+    (rw f (only-known (at row) p), f)
+
+-- what the code asks at position p, given to this kind
+pub wrong-at : (row : List ℕ) (p kind : ℕ) (r : Bool) → kind ≡ onlyPlan (at row) p → r ≡ (fitting kind p (at row p) && within kind p (length row)) → wrongAt row p ≡ not r
+unfolding rightAt
+wrong-at row p kind r e f = rw (f, e)
+
+pub over-at : (row : List ℕ) (p kind t : ℕ) → kind ≡ onlyPlan (at row) p → t ≡ total kind (at row) p → overAt row p ≡ ltb 8 t
+over-at row p kind t e f = rw (f, e)
+
+-- the kinds of a segment, one after the other
+pub enter-kind : (row : List ℕ) (b p k u v x : ℕ) → b % 4 ≡ 0 → b ≤ p → p < b + 4 → k ≡ firstNamed (at row) b 4 → u ≡ at row b → v ≡ at row (2 * (p / 2))
+    → x ≡ choose k u v (p % 4) → x ≡ onlyPlan (at row) p
+unfolding onlyPlan
+enter-kind row b p k u v x z l m ek eu ev ex =
+    let f : 4 * (p / 4) ≡ b = omega arith in
+    ex ∙ rw (ek, eu, ev, f)
+
+-- ---- the bits of the positions whose fields share their resource
+pub shared-next : (row : List ℕ) (p t : ℕ) → t ≡ total (onlyPlan (at row) p) (at row) p → sharedTo row p + cond (leb 2 t) (2 ^ p) 0 ≡ sharedTo row (p + 1)
+unfolding sharedTo
+shared-next row p t e = rw (add-one p, e)
+
+pub bit-most : (t m : ℕ) → cond (leb 2 t) m 0 ≤ m
+bit-most t m = go (leb 2 t)
+  where
+    go : (b : Bool) → cond b m 0 ≤ m
+    go true = omega arith
+    go false = omega arith
+
+twice : (n : ℕ) → 2 ^ suc n ≡ 2 * 2 ^ n
+twice n = let e : suc n ≡ 1 + n = omega arith in ap (λ (k : ℕ). 2 ^ k) e ∙ pow-add 2 1 n
+
+pub shared-lt : (row : List ℕ) (n : ℕ) → sharedTo row n < 2 ^ n
+unfolding sharedTo
+shared-lt row zero = omega arith
+shared-lt row (suc n) = go (shared (onlyPlan (at row)) (at row) n) (shared-lt row n)
+  where
+    go : (t : Bool) → sharedTo row n < 2 ^ n → sharedTo row n + cond t (2 ^ n) 0 < 2 ^ suc n
+    go true l = omega (arith, twice n)
+    go false l = omega (arith, twice n)
+
+bit-set : (s n : ℕ) → s < 2 ^ n → (s + 2 ^ n) / 2 ^ n % 2 ≡ 1
+bit-set s n h =
+    let e : (2 ^ n * 1 + s) / 2 ^ n ≡ 1 = mul-add-div (pow-pos n) 1 s ∙ rw (div-eq-of-lt h) in
+    let f : s + 2 ^ n ≡ 2 ^ n * 1 + s = omega arith in
+    rw (f, e)
+
+bit-unset : (s n : ℕ) → s < 2 ^ n → s / 2 ^ n % 2 ≡ 0
+bit-unset s n h = rw (div-eq-of-lt h)
+
+-- a higher bit does not reach it
+bit-under : (s n p : ℕ) → p < n → (s + 2 ^ n) / 2 ^ p % 2 ≡ s / 2 ^ p % 2
+bit-under s n p h =
+    let d = n - (p + 1) in
+    let e : 2 ^ n ≡ 2 ^ p * (2 * 2 ^ d) = ap (λ (k : ℕ). 2 ^ k) (the n (p + (1 + d)) (omega arith)) ∙ pow-add 2 p (1 + d) ∙ ap (λ (k : ℕ). 2 ^ p * k) (pow-add 2 1 d) in
+    let f : (2 ^ p * (2 * 2 ^ d) + s) / 2 ^ p ≡ 2 * 2 ^ d + s / 2 ^ p = mul-add-div (pow-pos p) (2 * 2 ^ d) s in
+    let g : s + 2 ^ n ≡ 2 ^ p * (2 * 2 ^ d) + s = omega arith in
+    rw (g, f) (mul-add-mod-self-left 2 (2 ^ d) (s / 2 ^ p))
+  where
+    the : (a b : ℕ) → a ≡ b → a ≡ b
+    the a b e = e
+
+bit-of : (t : Bool) (m : ℕ) → m ≡ cond t 1 0 → eqb m 1 ≡ t
+bit-of true m e = rw e
+bit-of false m e = rw e
+
+pub shared-at : (row : List ℕ) (n p : ℕ) → p < n → eqb (sharedTo row n / 2 ^ p % 2) 1 ≡ shared (onlyPlan (at row)) (at row) p
+unfolding sharedTo
+shared-at row zero p h = absurd (omega arith)
+shared-at row (suc n) p h =
+    ⊎-elim
+    (λ (e : p ≡ n). rw e (bit-of (shared (onlyPlan (at row)) (at row) n) _ (own (shared (onlyPlan (at row)) (at row) n))))
+    (λ (l : p < n). ap (λ (m : ℕ). eqb m 1) (under (shared (onlyPlan (at row)) (at row) n) l) ∙ shared-at row n p l)
+    (eq-or-lt-of-le (le-of-suc-le-suc h))
+  where
+    own : (t : Bool) → (sharedTo row n + cond t (2 ^ n) 0) / 2 ^ n % 2 ≡ cond t 1 0
+    own true = bit-set (sharedTo row n) n (shared-lt row n)
+    own false = rw (add-zero (sharedTo row n)) (bit-unset (sharedTo row n) n (shared-lt row n))
+
+    under : (t : Bool) → p < n → (sharedTo row n + cond t (2 ^ n) 0) / 2 ^ p % 2 ≡ sharedTo row n / 2 ^ p % 2
+    under true l = bit-under (sharedTo row n) n p l
+    under false l = rw (add-zero (sharedTo row n))
+
+-- of a row that is accepted, each position's bit says whether its fields share their resource
+pub shared-bit : (row : List ℕ) → layoutOf row ≡ Pass → (p : ℕ) → p < length row
+    → eqb (planOf row .shared / 2 ^ p % 2) 1 ≡ shared (onlyPlan (at row)) (at row) p
+unfolding planOf
+shared-bit row e p h = let l = none-over row e in shared-at row (firstOver row) p (omega arith)
+
+-- ---- the fields of a channel
+module _ (c : ℕ) (row : ℕ → ℕ) where
+  pub fields-most : (n : ℕ) → fieldsTo c row n ≤ 9 * n
+  fields-most zero = omega arith
+  fields-most (suc n) = go (eqb (n % 2) c) (fields-most n)
+    where
+      go : (t : Bool) → fieldsTo c row n ≤ 9 * n → fieldsTo c row n + cond t (fieldsOf (row n)) 0 ≤ 9 * suc n
+      go true l = omega (arith, most-fields (row n))
+      go false l = omega arith
+
+  pub fields-start : c < 2 → 0 ≡ fieldsTo c row c
+  fields-start h = ⊎-elim (λ (e : c ≡ 0). rw e) (λ (e : c ≢ 0). let f : c ≡ 1 = omega arith in rw f) (equal-or c 0)
+
+  pub fields-next : (p : ℕ) → p % 2 ≡ c → fieldsTo c row p + fieldsOf (row p) ≡ fieldsTo c row (p + 2)
+  fields-next p e =
+      let f : p + 2 ≡ suc (suc p) = omega arith in
+      rw (f, eq-eqb (p % 2) c e, ne-eqb (suc p % 2) c (λ g. omega arith)) (omega arith)
+
+  pub fields-end : (n p : ℕ) → n ≤ p → p ≤ n + 1 → p % 2 ≡ c → fieldsTo c row p ≡ fieldsTo c row n
+  fields-end n p l u e = ⊎-elim (λ (f : p ≡ n). rw f) past (equal-or p n)
+    where
+      past : p ≢ n → fieldsTo c row p ≡ fieldsTo c row n
+      past f =
+          let g : p ≡ suc n = omega arith in
+          rw (g, ne-eqb (n % 2) c (λ h. omega arith)) (omega arith)
+
+-- ---- the value
+pub out-is : (row : List ℕ) (w v : ℕ) (a b r : Out) → w ≡ firstWrong row → v ≡ firstOver row → a ≡ refuseIf (ltb w (length row)) (no 7 0 (w / 4))
+    → b ≡ refuseIf (ltb v (length row)) (no 8 0 (v / 4)) → r ≡ (a or b) → r ≡ layoutOf row
+unfolding layoutOf answer7 answer8
+out-is row w v a b r ew ev ea eb er = er ∙ rw (ea, eb, ew, ev)
+
+pub plan-is : (row kinds : List ℕ) (o : Out) (s f g : ℕ) → o ≡ layoutOf row → kinds ≡ kindsOf row → s ≡ sharedTo row (firstOver row)
+    → f ≡ fieldsTo 0 (at row) (length row) → g ≡ fieldsTo 1 (at row) (length row)
+    → _≡_ {A = Plan} (record { out = o; kinds = kinds; shared = s; fields1 = f; fields2 = g }) (planOf row)
+unfolding planOf
+plan-is row kinds o s f g eo ek es ef eg = (λ i. record { out = eo i; kinds = ek i; shared = es i; fields1 = ef i; fields2 = eg i })

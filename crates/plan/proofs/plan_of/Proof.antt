@@ -1,0 +1,56 @@
+-- `plan::plan_of` meets its contract. Assumes nothing.
+use Rattle.plan.proofs.Value.{out-is, plan-is}
+use Rattle.plan.proofs.Laid.{layout-laid}
+use Rattle.plan.specs.Value.{sharedTo}
+use Rattle.plan.specs.Layout.{Laid}
+use mathlib.Core.Path.{sym, _∙_, ap, subst}
+use borrow.Author.Needs.{needs}
+use Rattle.plan.proofs.plan_of.Statement.{statement}
+use Rattle.plan.proofs.plan_of.Tie as tie
+
+kinds-of-requires : tie.Need-kinds-of-requires
+kinds-of-requires c κs = search needs
+
+first-wrong-requires : tie.Need-first-wrong-requires
+first-wrong-requires c κs = search needs
+
+sharing-requires : tie.Need-sharing-requires
+sharing-requires c κs = search needs
+
+refuse-if-requires : tie.Need-refuse-if-requires
+refuse-if-requires c κs = search needs
+
+refuse-if-requires-2 : tie.Need-refuse-if-requires-2
+refuse-if-requires-2 c κs = search needs
+
+or-else-requires : tie.Need-or-else-requires
+or-else-requires c κs = search needs
+
+channel-fields-requires : tie.Need-channel-fields-requires
+channel-fields-requires c κs = search needs
+
+channel-fields-requires-2 : tie.Need-channel-fields-requires-2
+channel-fields-requires-2 c κs = search needs
+
+returns : tie.Need-returns
+returns c =
+    let row = c .before .before .before .before .before .before .before .before .before .before .before .before .before .args .row .now in
+    let s = c .before .before .before .before .before .before .before .sharing in
+    let o = out-is row _ _ _ _ _ (c .before .before .before .before .before .before .before .before .before .first-wrong .ensures) (s .ensures .0) (c .before .before .before .before .before .before .refuse-if .ensures) (c .before .before .before .refuse-if2 .ensures) (c .before .before .or-else .ensures) in (
+      plan-is row _ _ _ _ _ o (c .before .before .before .before .before .before .before .before .before .before .before .kinds-of .ensures) (s .ensures .1 ∙ ap (sharedTo row) (s .ensures .0)) (c .before .channel-fields .ensures) (c .channel-fields2 .ensures),
+      subst (Laid row) (sym o) (layout-laid row),
+    )
+
+pub plan-of-spec : {M : Type 1} → statement M
+plan-of-spec =
+    tie.close
+    (tie.spec
+    kinds-of-requires
+    first-wrong-requires
+    sharing-requires
+    refuse-if-requires
+    refuse-if-requires-2
+    or-else-requires
+    channel-fields-requires
+    channel-fields-requires-2
+    returns)
