@@ -2,6 +2,7 @@ pub mod Tests
 pub mod Table
 pub mod Ranges
 pub mod Steps
+pub mod Kindly
 pub mod Only
 pub mod Found
 pub mod Parts
