@@ -5,19 +5,18 @@ use mathlib.Core.Bool.{Bool, true, false, cond}
 use mathlib.Core.List.{List}
 use Prim.Native.Nat.{ℕ, zero, suc, _+_, _*_, _/_, _%_, _≤_, _<_}
 use native.Mathlib.Omega.{arith}
-use borrow.Author.Tests.{eqb-true, ne-eqb}
+use borrow.Author.Tests.{eqb-true}
 use lib.Dec.{eqb}
 use lib.ListN.{length, getD, set, replicate, length-replicate, getD-replicate}
 use Rattle.answer.specs.Filled.{build, filled, build-is, filled-step, filled-length, getD-filled, getD-kept}
-use Rattle.plan.specs.declared.Owner.{Owner}
-use Rattle.plan.specs.declared.Owner.the-variants.{Itself, Pair, Whole, Three}
-use Rattle.plan.specs.Guess.{onlyPlan, firstThree}
-use Rattle.plan.proofs.Only.{Chosen, left, joined, full, half, alone, chosen}
+use Rattle.plan.specs.Guess.{onlyPlan}
+use Rattle.plan.proofs.Kindly.{only-takes}
 use Rattle.resource.specs.Values.{fieldsOf}
 use Rattle.resource.proofs.Fields.{fields-most}
 use Rattle.resource.proofs.Test.{below-or}
 use Rattle.records.specs.Records.{inChannel, divides}
 use Rattle.records.specs.Owns.{fieldsBefore, number, lowest, ownerAt, ownerOf}
+use Rattle.records.proofs.Lead.{lowest-below}
 use Rattle.records.proofs.Listing.{records-most}
 use Rattle.records.proofs.Owners.{before-next, before-rise, found-left, nothing}
 
@@ -26,23 +25,10 @@ one-most true = omega arith
 one-most false = omega arith
 
 -- ---- the lowest place is no later one
-pub lowest-below : (row : ℕ → ℕ) (p : ℕ) → lowest (onlyPlan row p) p ≤ p
-unfolding lowest onlyPlan
-lowest-below row p =
-    go (firstThree row (4 * (p / 4)) 4) (row (4 * (p / 4))) (row (2 * (p / 2))) _ (chosen (firstThree row (4 * (p / 4)) 4) (row (4 * (p / 4))) (row (2 * (p / 2))) (p % 4))
-  where
-    three : (k : ℕ) → (p % 4 ≡ k → ⊥) → lowest (Three k) p ≤ p
-    three zero h = omega (arith, h)
-    three (suc k) h = rw (ne-eqb (suc k) 0 (λ e. omega arith)) (omega arith)
+pub only-below : (row : ℕ → ℕ) (p : ℕ) → lowest (onlyPlan row p) p ≤ p
+only-below row p = lowest-below (onlyPlan row p) p (only-takes row p)
 
-    go : (k u v : ℕ) (x : Owner) → Chosen k u v (p % 4) x → lowest x p ≤ p
-    go k u v Itself (left c d) = omega arith
-    go k u v (Three i) (joined c d) = three i d
-    go k u v Whole (full c d) = omega arith
-    go k u v Pair (half c d e) = omega arith
-    go k u v Itself (alone c d e) = omega arith
-
-module _ (o : ℕ → Owner) (row : ℕ → ℕ) where
+module _ (o : ℕ → ℕ) (row : ℕ → ℕ) where
   -- ---- the numbers of a position's owners: rising by one where the position is divided, else all the same
   pub owner-next : (p k : ℕ) → ownerAt o row p (k + 1) ≡ ownerAt o row p k + cond (divides (row p)) 1 0
   unfolding ownerAt

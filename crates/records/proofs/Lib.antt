@@ -1,10 +1,11 @@
+pub mod Lead
+pub mod Larger
 pub mod Listing
 pub mod Tables
-pub mod Filling
+pub mod Sums
 pub mod Owners
 pub mod Entering
 pub mod Subcarriers
-pub mod Sums
 pub mod Shares
 pub mod Sizes
 pub mod Demand

@@ -1,71 +1,110 @@
 -- The list of a plan's resources by number: laws of `listAt` and `recordsFrom`. Assumes nothing.
 use mathlib.Core.Path.{_≡_, refl, sym, _∙_, ap}
-use mathlib.Core.Logic.{⊎-elim}
-use mathlib.Core.Bool.{Bool, true, false, cond}
+use mathlib.Core.Logic.{⊎-elim, _≢_}
+use mathlib.Core.Bool.{Bool, true, false, cond, false≢true}
 use mathlib.Core.List.{List, [], _∷_, map}
 use Prim.Native.Nat.{ℕ, zero, suc, _+_, _-_, _*_, _/_, _%_, _≤_, _<_}
 use native.Mathlib.Omega.{arith}
 use native.Mathlib.Nat.{eq-or-lt-of-le, le-of-suc-le-suc}
 use native.Mathlib.Numerals.{add-one}
-use borrow.Author.Tests.{eqb-true}
+use borrow.Author.Tests.{eqb-true, eq-eqb, ne-eqb}
 use lib.Dec.{eqb}
 use lib.ListN.{length, getD, length-append, length-map, List·getD-append}
 use lib.Seq.{getD-append-add}
-use Rattle.plan.specs.declared.Owner.{Owner}
-use Rattle.plan.specs.declared.Owner.the-variants.{Itself, Pair, Whole, Three}
-use Rattle.plan.specs.Plan.{span}
-use Rattle.plan.specs.Guess.{onlyPlan, choose, firstThree}
-use Rattle.plan.proofs.Only.{Chosen, left, joined, full, half, alone, chosen}
+use Rattle.plan.specs.Kinds.{span}
+use Rattle.plan.specs.Guess.{onlyPlan}
+use Rattle.plan.proofs.Table.{by-test, span-0}
 use Rattle.resource.specs.Values.{ownPieces}
-use Rattle.resource.specs.Starts.{noPiece}
+use Rattle.resource.specs.Starts.{noPiece, pieceAt}
 use Rattle.resource.proofs.Test.{below-or}
 use Rattle.resource.proofs.Starts.{own-most}
-use Rattle.records.specs.declared.Record.{Record}
-use Rattle.records.specs.Records.{pieceRecord, lead, largerRecord, listAt, recordsFrom, blank, recordAt, listed, leftOut}
+use Rattle.records.specs.Records.{pieceRecord, lead, largerRecord, once, listAt, recordsFrom, blank, recordAt, listed}
+use Rattle.records.proofs.Lead.{lead-0}
 
--- ---- at one position
-once-length : (t : Bool) (r : Record) → length (cond t (r ∷ []) []) ≡ cond t 1 0
-once-length true r = refl
-once-length false r = refl
+-- ---- at one position: its own pieces, or a larger resource once
+module _ (c : ℕ) (row : ℕ → ℕ) (p : ℕ) where
+  own-list : c ≡ 0 → listAt c row p ≡ map (pieceRecord row p) (ownPieces (row p))
+  unfolding listAt
+  own-list e = rw (eq-eqb c 0 e)
 
-pub list-length : (o : Owner) (row : ℕ → ℕ) (p : ℕ) → length (listAt o row p) ≡ listed o p (row p)
-unfolding listAt listed
-list-length Itself row p = length-map (ownPieces (row p)) (pieceRecord row p)
-list-length Pair row p = once-length (eqb (p % 2) 0) (largerRecord Pair row p)
-list-length Whole row p = once-length (eqb (p % 4) 0) (largerRecord Whole row p)
-list-length (Three k) row p = once-length (eqb (p % 4) (lead (Three k))) (largerRecord (Three k) row p)
+  larger-list : c ≢ 0 → listAt c row p ≡ once c row p
+  unfolding listAt
+  larger-list e = rw (ne-eqb c 0 e)
 
-at-most-one : (t : Bool) → cond t 1 0 ≤ 9
-at-most-one true = omega arith
-at-most-one false = omega arith
+  pub own-record : (k : ℕ) → c ≡ 0 → recordAt c row p k ≡ pieceRecord row p (pieceAt (row p) k)
+  unfolding recordAt
+  own-record k e = rw (eq-eqb c 0 e)
 
-pub listed-most : (o : Owner) (p v : ℕ) → listed o p v ≤ 9
+  pub larger-record : (k : ℕ) → c ≢ 0 → recordAt c row p k ≡ largerRecord c row p
+  unfolding recordAt
+  larger-record k e = rw (ne-eqb c 0 e)
+
+  pub own-length : c ≡ 0 → length (listAt c row p) ≡ length (ownPieces (row p))
+  own-length e = ap length (own-list e) ∙ length-map (ownPieces (row p)) (pieceRecord row p)
+
+  pub list-length : length (listAt c row p) ≡ listed c p (row p)
+  unfolding listAt listed
+  list-length = go (eqb c 0) (eqb (p % span c) (lead c))
+    where
+      go : (s t : Bool) → length (cond s (map (pieceRecord row p) (ownPieces (row p))) (cond t (largerRecord c row p ∷ []) []))
+          ≡ cond s (length (ownPieces (row p))) (cond t 1 0)
+      go true t = length-map (ownPieces (row p)) (pieceRecord row p)
+      go false true = refl
+      go false false = refl
+
+  -- a larger resource is listed once, at its lowest place
+  pub larger-one : c ≢ 0 → p % span c ≡ lead c → length (listAt c row p) ≡ 1
+  larger-one n e = ap length (larger-list n) ∙ rw (eq-eqb (p % span c) (lead c) e)
+
+  pub larger-most : c ≢ 0 → length (listAt c row p) ≤ 1
+  larger-most n = rw (larger-list n) (go (eqb (p % span c) (lead c)))
+    where
+      go : (t : Bool) → length (cond t (largerRecord c row p ∷ []) []) ≤ 1
+      go true = omega arith
+      go false = omega arith
+
+  pub once-lead : (m : ℕ) → m < length (listAt c row p) → p % span c ≡ lead c
+  once-lead m h = by-test (eqb c 0) (λ e. own (eqb-true c 0 e)) (λ e. larger (λ f. false≢true (sym e ∙ eq-eqb c 0 f)))
+    where
+      own : c ≡ 0 → p % span c ≡ lead c
+      own e = rw (e, span-0, lead-0) (omega arith)
+
+      larger : c ≢ 0 → p % span c ≡ lead c
+      larger n = go (eqb (p % span c) (lead c)) refl (rw (larger-list n) at h)
+        where
+          go : (t : Bool) → eqb (p % span c) (lead c) ≡ t → m < length (cond t (largerRecord c row p ∷ []) []) → p % span c ≡ lead c
+          go true e l = eqb-true (p % span c) (lead c) e
+          go false e l = absurd (omega arith)
+
+pub listed-most : (c p v : ℕ) → listed c p v ≤ 9
 unfolding listed
-listed-most Itself p v = own-most v
-listed-most Pair p v = at-most-one (eqb (p % 2) 0)
-listed-most Whole p v = at-most-one (eqb (p % 4) 0)
-listed-most (Three k) p v = at-most-one (eqb (p % 4) (lead (Three k)))
+listed-most c p v = go (eqb c 0) (eqb (p % span c) (lead c))
+  where
+    go : (s t : Bool) → cond s (length (ownPieces v)) (cond t 1 0) ≤ 9
+    go true t = own-most v
+    go false true = omega arith
+    go false false = omega arith
 
 getD-map : {A B : Type 0} (f : A → B) (l : List A) (k : ℕ) (d : A) (e : B) → k < length l → getD (map f l) k e ≡ f (getD l k d)
 getD-map f [] k d e h = absurd (omega arith)
 getD-map f (x ∷ l) zero d e h = refl
 getD-map f (x ∷ l) (suc k) d e h = getD-map f l k d e (omega arith)
 
-once-at : (t : Bool) (r : Record) (k : ℕ) → k < length (cond t (r ∷ []) []) → getD (cond t (r ∷ []) []) k blank ≡ r
-once-at true r zero h = refl
-once-at true r (suc k) h = absurd (omega arith)
-once-at false r k h = absurd (omega arith)
-
-pub list-at : (o : Owner) (row : ℕ → ℕ) (p k : ℕ) → k < length (listAt o row p) → getD (listAt o row p) k blank ≡ recordAt o row p k
-unfolding listAt
-list-at Itself row p k h =
-    getD-map (pieceRecord row p) (ownPieces (row p)) k noPiece blank (omega (arith, length-map (ownPieces (row p)) (pieceRecord row p)))
-list-at Pair row p k h = once-at (eqb (p % 2) 0) (largerRecord Pair row p) k h
-list-at Whole row p k h = once-at (eqb (p % 4) 0) (largerRecord Whole row p) k h
-list-at (Three i) row p k h = once-at (eqb (p % 4) (lead (Three i))) (largerRecord (Three i) row p) k h
+pub list-at : (c : ℕ) (row : ℕ → ℕ) (p k : ℕ) → k < length (listAt c row p) → getD (listAt c row p) k blank ≡ recordAt c row p k
+unfolding listAt recordAt
+list-at c row p k h = go (eqb c 0) (eqb (p % span c) (lead c)) k h
+  where
+    go : (s t : Bool) (k : ℕ) → k < length (cond s (map (pieceRecord row p) (ownPieces (row p))) (cond t (largerRecord c row p ∷ []) []))
+        → getD (cond s (map (pieceRecord row p) (ownPieces (row p))) (cond t (largerRecord c row p ∷ []) [])) k blank
+        ≡ cond s (pieceRecord row p (pieceAt (row p) k)) (largerRecord c row p)
+    go true t k l =
+        getD-map (pieceRecord row p) (ownPieces (row p)) k noPiece blank (omega (arith, length-map (ownPieces (row p)) (pieceRecord row p)))
+    go false true zero l = refl
+    go false true (suc k) l = absurd (omega arith)
+    go false false k l = absurd (omega arith)
 
 -- ---- over the positions
-module _ (o : ℕ → Owner) (row : ℕ → ℕ) where
+module _ (o : ℕ → ℕ) (row : ℕ → ℕ) where
   pub next-length : (n : ℕ) → length (recordsFrom o row (n + 1)) ≡ length (recordsFrom o row n) + length (listAt (o n) row n)
   next-length n = rw (add-one n) (length-append (recordsFrom o row n) (listAt (o n) row n))
 
@@ -92,38 +131,25 @@ module _ (o : ℕ → Owner) (row : ℕ → ℕ) where
       (eq-or-lt-of-le (le-of-suc-le-suc h))
 
 -- two plans that agree give the same list
-pub same-records : (o o′ : ℕ → Owner) (row : ℕ → ℕ) (n : ℕ) → ((p : ℕ) → p < n → o p ≡ o′ p) → recordsFrom o row n ≡ recordsFrom o′ row n
+pub same-records : (o o′ : ℕ → ℕ) (row : ℕ → ℕ) (n : ℕ) → ((p : ℕ) → p < n → o p ≡ o′ p) → recordsFrom o row n ≡ recordsFrom o′ row n
 same-records o o′ row zero h = refl
 same-records o o′ row (suc n) h = rw (same-records o o′ row n (λ p l. h p (omega arith)), h n (omega arith))
 
 -- ---- as many as are listed at p, of the only plan
-pub here-is : (row : ℕ → ℕ) (p v h : ℕ) (o : Owner) → o ≡ onlyPlan row p → v ≡ row p → h ≡ listed o p v → h ≡ length (listAt (onlyPlan row p) row p)
-here-is row p v h o e f g =
-    g ∙ ap (λ (x : Owner). listed x p v) e ∙ ap (listed (onlyPlan row p) p) f ∙ sym (list-length (onlyPlan row p) row p)
-
--- ---- the only plan leaves out one of four places
-pub left-out : (row : ℕ → ℕ) (p : ℕ) → leftOut (onlyPlan row p) < 4
-unfolding onlyPlan
-left-out row p =
-    go (choose (firstThree row (4 * (p / 4)) 4) (row (4 * (p / 4))) (row (2 * (p / 2))) (p % 4)) (chosen (firstThree row (4 * (p / 4)) 4) (row (4 * (p / 4))) (row (2 * (p / 2))) (p % 4))
-  where
-    go : {k u v j : ℕ} (x : Owner) → Chosen k u v j x → leftOut x < 4
-    go Itself (left c d) = omega arith
-    go (Three k) (joined c d) = c
-    go Whole (full c d) = omega arith
-    go Pair (half c d e) = omega arith
-    go Itself (alone c d e) = omega arith
+pub here-is : (row : ℕ → ℕ) (p v h c : ℕ) → c ≡ onlyPlan row p → v ≡ row p → h ≡ listed c p v → h ≡ length (listAt (onlyPlan row p) row p)
+here-is row p v h c e f g =
+    g ∙ ap (λ (x : ℕ). listed x p v) e ∙ ap (listed (onlyPlan row p) p) f ∙ sym (list-length (onlyPlan row p) row p)
 
 -- ---- every number is that of a resource that is listed at some position
-pub record Located (o : ℕ → Owner) (row : ℕ → ℕ) (n i p m : ℕ) : Type 0 where
+pub record Located (o : ℕ → ℕ) (row : ℕ → ℕ) (n i p m : ℕ) : Type 0 where
   pub inside : p < n
   pub place : m < length (listAt (o p) row p)
   pub numbered : i ≡ length (recordsFrom o row p) + m
 
-abbrev pub Somewhere : (ℕ → Owner) → (ℕ → ℕ) → ℕ → ℕ → Type 0
+abbrev pub Somewhere : (ℕ → ℕ) → (ℕ → ℕ) → ℕ → ℕ → Type 0
 Somewhere o row n i = (p : ℕ) × (m : ℕ) × Located o row n i p m
 
-module _ (o : ℕ → Owner) (row : ℕ → ℕ) where
+module _ (o : ℕ → ℕ) (row : ℕ → ℕ) where
   before-that : (n i : ℕ) → Somewhere o row n i → Somewhere o row (suc n) i
   before-that n i w = (w .0, w .1, record { inside = omega (arith, w .2 .inside); place = w .2 .place; numbered = w .2 .numbered })
 
@@ -157,23 +183,3 @@ module _ (o : ℕ → Owner) (row : ℕ → ℕ) where
 
       same : p ≡ q → (p ≡ q) × (m ≡ l)
       same e = (e, let f : length (recordsFrom o row p) ≡ length (recordsFrom o row q) = rw e in omega (arith, a .numbered, b .numbered))
-
--- a larger resource is listed once, at its lowest place
-pub once-lead : (x : Owner) (row : ℕ → ℕ) (p m : ℕ) → m < length (listAt x row p) → p % span x ≡ lead x
-unfolding listAt
-once-lead Itself row p m h = omega arith
-once-lead Pair row p m h = go (eqb (p % 2) 0) refl h
-  where
-    go : (t : Bool) → eqb (p % 2) 0 ≡ t → m < length (cond t (largerRecord Pair row p ∷ []) []) → p % 2 ≡ 0
-    go true e l = eqb-true (p % 2) 0 e
-    go false e l = absurd (omega arith)
-once-lead Whole row p m h = go (eqb (p % 4) 0) refl h
-  where
-    go : (t : Bool) → eqb (p % 4) 0 ≡ t → m < length (cond t (largerRecord Whole row p ∷ []) []) → p % 4 ≡ 0
-    go true e l = eqb-true (p % 4) 0 e
-    go false e l = absurd (omega arith)
-once-lead (Three k) row p m h = go (eqb (p % 4) (lead (Three k))) refl h
-  where
-    go : (t : Bool) → eqb (p % 4) (lead (Three k)) ≡ t → m < length (cond t (largerRecord (Three k) row p ∷ []) []) → p % 4 ≡ lead (Three k)
-    go true e l = eqb-true (p % 4) (lead (Three k)) e
-    go false e l = absurd (omega arith)

@@ -7,17 +7,17 @@ use native.Mathlib.Omega.{arith}
 use native.Mathlib.Nat.{eq-or-lt-of-le, le-of-suc-le-suc}
 use native.Mathlib.Numerals.{add-one}
 use borrow.Author.Tests.{lt-ltb, le-ltb, eq-eqb, ne-eqb, eqb-true}
-use lib.Dec.{eqb}
+use lib.Dec.{eqb, eqb→eq}
 use lib.ListN.{length}
-use Rattle.plan.specs.declared.Owner.{Owner}
-use Rattle.plan.specs.declared.Owner.the-variants.{Itself, Pair, Whole, Three}
-use Rattle.plan.specs.Plan.{span, Place, Fits, Signals}
-use Rattle.plan.proofs.Only.{Tells, tells}
+use Rattle.plan.specs.Kinds.{span}
+use Rattle.plan.specs.Plan.{Fits, own, blank, smaller, Signals}
+use Rattle.plan.proofs.Table.{known, takes-known, family-low, blank-least, blank-most}
 use Rattle.resource.specs.Values.{pieces, fieldsOf}
-use Rattle.resource.proofs.Test.{below-or}
+use Rattle.resource.proofs.Test.{below-or, every-between}
 use Rattle.resource.proofs.Apart.{not-divided}
-use Rattle.records.specs.Records.{inChannel, divides, lead}
+use Rattle.records.specs.Records.{inChannel, divides}
 use Rattle.records.specs.Owns.{fieldsBefore, ComesFrom, number, Owns, of-piece, of-place, lowest, ownerAt, ownerOf}
+use Rattle.records.proofs.Lead.{lowest-place, lowest-only}
 
 -- ---- the count of a channel's fields
 module _ (c : ℕ) (row : ℕ → ℕ) where
@@ -33,7 +33,7 @@ module _ (c : ℕ) (row : ℕ → ℕ) where
       (eq-or-lt-of-le h)
 
 -- ---- what the program's search finds
-module _ (o : ℕ → Owner) (row : ℕ → ℕ) (c : ℕ) where
+module _ (o : ℕ → ℕ) (row : ℕ → ℕ) (c : ℕ) where
   pub found : (p n j : ℕ) → p < n → fieldsBefore c row p ≤ j → j < fieldsBefore c row (p + 1) → ownerOf o row c n j ≡ ownerAt o row p (j - fieldsBefore c row p)
   unfolding ownerOf
   found p zero j h a b = absurd (omega arith)
@@ -98,7 +98,7 @@ comes row (suc n) c j h =
     ⊎-elim (λ l. earlier row n c j (comes row n c j l)) (λ l. latest row n c j l h) (below-or j (fieldsBefore c row n))
 
 -- and the program's search goes by it
-pub search-comes : (o : ℕ → Owner) (row : ℕ → ℕ) (n c j p k : ℕ) → ComesFrom row n c j p k → ownerOf o row c n j ≡ ownerAt o row p k
+pub search-comes : (o : ℕ → ℕ) (row : ℕ → ℕ) (n c j p k : ℕ) → ComesFrom row n c j p k → ownerOf o row c n j ≡ ownerAt o row p k
 search-comes o row n c j p k w =
     found-left o row c p n j k (w .inside) (w .follows) (rw (in-own c p (fieldsOf (row p)) (w .channel)) (w .kth))
 
@@ -130,43 +130,22 @@ none-left v h = go (eqb (length (pieces v)) 0) refl h
     go true e f = eqb-true (length (pieces v)) 0 e
     go false e f = absurd (false≢true (sym f))
 
+abbrev blank-test : ℕ → Bool
+blank-test v = eqb (length (pieces v)) 0
+
+-- a place with no field is not divided
+blank-whole : (v : ℕ) → 28 ≤ v → v < 31 → divides v ≡ false
+blank-whole v h l = no-pieces-left v (eqb→eq (length (pieces v)) 0 (every-between blank-test 28 31 v (unfold pieces in tt) h l))
+
 -- .. is given to itself by every plan that signals it
-pub divided-itself : (x : Owner) (p v : ℕ) → divides v ≡ true → Fits x p v → x ≡ Itself
-unfolding divides pieces
-divided-itself x p v e f = go x (tells x p v f)
-  where
-    l : v < 51
-    l = divided-low v e
-
-    go : (x : Owner) → Tells x p v → x ≡ Itself
-    go Itself t = refl
-    go Pair t = absurd (⊎-elim (λ h. divided-not v 29 refl e h) (λ h. omega (arith, l)) t)
-    go Whole t = absurd (⊎-elim (λ h. divided-not v 30 refl e h) (λ h. omega (arith, l)) t)
-    go (Three k) t = absurd (⊎-elim (λ h. omega (arith, l)) (⊎-elim (λ h. divided-not v 28 refl e h) (λ h. divided-not v 29 refl e h)) (t .2))
-
--- ---- the lowest place of a resource
-pub lowest-place : (x : Owner) (p v : ℕ) → Fits x p v → Place x p (lowest x p) × (lowest x p % span x ≡ lead x)
-unfolding lowest
-lowest-place Itself p v f = ((omega arith, tt), omega arith)
-lowest-place Pair p v f = ((omega arith, tt), omega arith)
-lowest-place Whole p v f = ((omega arith, tt), omega arith)
-lowest-place (Three k) p v f = go k (tells (Three k) p v f .0)
-  where
-    go : (k : ℕ) → k < 4 → Place (Three k) p (4 * (p / 4) + lead (Three k)) × ((4 * (p / 4) + lead (Three k)) % 4 ≡ lead (Three k))
-    go zero h = ((omega arith, (h, λ e. omega arith)), omega arith)
-    go (suc k) h =
-        let z : lead (Three (suc k)) ≡ 0 = rw (ne-eqb (suc k) 0 (λ e. omega arith)) in
-        ((omega arith, (h, λ e. omega arith)), omega arith)
-
-pub lowest-only : (x : Owner) (p q : ℕ) → Place x p q → q % span x ≡ lead x → q ≡ lowest x p
-unfolding lowest
-lowest-only Itself p q h e = omega (arith, h .0)
-lowest-only Pair p q h e = omega (arith, h .0)
-lowest-only Whole p q h e = omega (arith, h .0)
-lowest-only (Three k) p q h e = omega (arith, h .0)
+pub divided-itself : (c p v : ℕ) → divides v ≡ true → Fits c p v → c ≡ 0
+divided-itself c p v e (own t f) = absurd (omega (arith, divided-low v e, family-low c (takes-known c _ t)))
+divided-itself c p v e (blank t f) =
+    absurd (divided-not v v (blank-whole v (omega (arith, blank-least c (p % span c))) (omega (arith, blank-most c (p % span c)))) e refl)
+divided-itself c p v e (smaller f) = f .0
 
 -- ---- exactly one resource owns a field, the one that the program finds
-module _ (o : ℕ → Owner) (row : ℕ → ℕ) (n : ℕ) where
+module _ (o : ℕ → ℕ) (row : ℕ → ℕ) (n : ℕ) where
   pub owner-only : (i c j : ℕ) → Owns o row n i c j → i ≡ ownerOf o row c n j
   unfolding ownerAt
   owner-only i c j (of-piece p k w e l f) =
@@ -192,5 +171,5 @@ module _ (o : ℕ → Owner) (row : ℕ → ℕ) (n : ℕ) where
               of-piece p k w (divided-itself (o p) p (row p) e fit) (rw (divided-fields (row p) e) at (w .kth))
               (search-comes o row n c j p k w ∙ rw e)
           by false e =
-              let l = lowest-place (o p) p (row p) fit in
+              let l = lowest-place (o p) p (known (o p) p (row p) fit) in
               of-place p k (lowest (o p) p) w (none-left (row p) e) (l .0) (l .1) (search-comes o row n c j p k w ∙ rw e)

@@ -2,37 +2,37 @@
 -- row. Assumes nothing.
 use mathlib.Core.Path.{_≡_, refl, sym, _∙_, ap, subst}
 use mathlib.Core.Logic.{_⊎_, inl, inr, ⊎-elim, _≢_}
-use mathlib.Core.Bool.{Bool, true, false, cond, not, _&&_, _||_}
+use mathlib.Core.Bool.{Bool, true, false, cond, _&&_, _||_}
 use mathlib.Core.List.{List, [], _∷_}
 use Prim.Native.Nat.{ℕ, zero, suc, _+_, _*_, _/_, _%_, _≤_, _<_}
 use native.Mathlib.Omega.{arith}
-use native.Mathlib.Nat.{add-zero}
+use native.Mathlib.Nat.{add-zero, div-add-mod}
 use native.Mathlib.Numerals.{add-one}
-use borrow.Author.Tests.{lt-ltb, eq-eqb, ne-eqb, eqb-true, eqb-false, ltb-true}
-use mir.Facts.{or-yes}
-use lib.Dec.{eqb, eqb→eq, ltb}
+use borrow.Author.Tests.{lt-ltb, eq-eqb, ne-eqb, eqb-true, eqb-false}
+use lib.Dec.{eqb}
 use lib.ListN.{length, getD}
-use Rattle.plan.specs.declared.Owner.{Owner}
-use Rattle.plan.specs.declared.Owner.the-variants.{Itself, Pair, Whole, Three}
-use Rattle.plan.specs.Plan.{span, family, Takes, Place, Fits, own, blank, smaller, Signals}
-use Rattle.plan.specs.Fields.{takes, gives, share, channelShare, shares, fieldsIn}
+use Rattle.plan.specs.Kinds.{family, span, takes}
+use Rattle.plan.specs.Plan.{Takes, Place, Fits, Signals}
+use Rattle.plan.specs.Fields.{gives, share, channelShare, shares, fieldsIn}
 use Rattle.plan.proofs.Tests.{Tested}
-use Rattle.plan.proofs.Only.{tells}
+use Rattle.plan.proofs.Table.{by-test, not-both, equal-or, at-span, takes-known, known, family-low, plain-family, high-own, fits-takes}
+use Rattle.plan.proofs.Table.{span-some, span-most, span-0, place-mod}
 use Rattle.resource.specs.declared.Size.the-variants.{S242}
 use Rattle.resource.specs.declared.Piece.the-variants.{Part}
-use Rattle.resource.specs.Values.{within, carried, pieces, fieldsOf, ownPieces}
-use Rattle.resource.proofs.Test.{below-or, every-between}
+use Rattle.resource.specs.Values.{within, pieces, fieldsOf, ownPieces}
+use Rattle.resource.proofs.Test.{below-or}
 use Rattle.resource.proofs.Starts.{own-fields, own-whole}
 use Rattle.records.specs.declared.Record.{Record}
-use Rattle.records.specs.Records.{inChannel, divides, pieceFields, lead, largerRecord, listAt, recordsFrom, recordAt, listed}
+use Rattle.records.specs.Records.{inChannel, divides, pieceFields, listAt, recordsFrom, recordAt}
 use Rattle.records.specs.Records.{blank as noRecord}
 use Rattle.records.specs.Owns.{fieldsBefore, ComesFrom, number, Owns, lowest, ownerAt, ownerOf, Counts, none, one-more, no-more, shareOf, allShares}
 use Rattle.records.proofs.Sums.{sumTo, sumFrom, sum-cong, sum-one, sum-past, sum-window, from-cong, tally, tally-cong, tally-split, tally-none, tally-all, tally-once, all-placed}
-use Rattle.records.proofs.Listing.{Located, located, located-record, located-once, list-length, once-lead, records-rise}
-use Rattle.records.proofs.Owners.{none-left, divided-not, found-left, divided-low, divided-itself, lowest-place, lowest-only, owner-only, owner-owns, search-comes, comes}
+use Rattle.records.proofs.Lead.{lowest-place, lowest-only, itself-place, itself-lowest}
+use Rattle.records.proofs.Listing.{Located, located, located-record, located-once, own-length, own-record, larger-record, larger-one, once-lead, records-rise}
+use Rattle.records.proofs.Owners.{none-left, divided-not, found-left, divided-low, divided-itself, owner-only, owner-owns, search-comes, comes}
 
 -- ---- the fields that come from one position
-module _ (o : ℕ → Owner) (row : ℕ → ℕ) (i : ℕ) where
+module _ (o : ℕ → ℕ) (row : ℕ → ℕ) (i : ℕ) where
   abbrev pub cnt : ℕ → ℕ
   cnt p = tally (λ k. eqb (ownerAt o row p k) i) (fieldsOf (row p))
 
@@ -55,82 +55,37 @@ whole-low : (v : ℕ) → divides v ≡ false → v < 64 → fieldsOf v ≡ 0
 unfolding fieldsOf
 whole-low v e h = rw (lt-ltb v 64 h) (none-left v e)
 
-big-test : ℕ → Bool
-big-test v = eqb (v / 8) 11 || eqb (fieldsOf v) (v % 8 + 1)
-
-big-fields : (v : ℕ) → 64 ≤ v → v < 128 → v / 8 ≢ 11 → fieldsOf v ≡ v % 8 + 1
-unfolding big-test fieldsOf carried
-big-fields v h l n =
-    ⊎-elim (λ e. absurd (n (eqb→eq (v / 8) 11 e))) (λ e. eqb→eq (fieldsOf v) (v % 8 + 1) e)
-    (or-yes (eqb (v / 8) 11) (eqb (fieldsOf v) (v % 8 + 1)) (every-between big-test 64 128 v tt h l))
-
-takes-true : (x : Owner) (j : ℕ) → Takes x j → takes x j ≡ true
-takes-true Itself j t = refl
-takes-true Pair j t = refl
-takes-true Whole j t = refl
-takes-true (Three k) j t = rw (lt-ltb k 4 (t .0), ne-eqb j k (t .1))
-
 -- not a place: nothing is given
-no-share : (x : Owner) (p v : ℕ) → (Takes x (p % span x) → ⊥) → share x p v ≡ 0
+no-share : (x p v : ℕ) → (Takes x (p % span x) → ⊥) → share x p v ≡ 0
 unfolding share gives
-no-share Itself p v n = absurd (n tt)
-no-share Pair p v n = absurd (n tt)
-no-share Whole p v n = absurd (n tt)
-no-share (Three k) p v n = go (ltb k 4) (eqb (p % 4) k) refl refl
+no-share x p v n = go (takes x (p % span x)) refl
   where
-    go : (a b : Bool) → ltb k 4 ≡ a → eqb (p % 4) k ≡ b → cond (a && not b && eqb (v / 8) (12 + k)) (v % 8 + 1) 0 ≡ 0
-    go true true e f = refl
-    go true false e f = absurd (n (ltb-true k 4 e, eqb-false (p % 4) k f))
-    go false b e f = refl
+    go : (t : Bool) → takes x (p % span x) ≡ t → cond (t && eqb (v / 8) (family x)) (fieldsOf v) 0 ≡ 0
+    go true e = absurd (n e)
+    go false e = refl
 
-pub low-share : (x : Owner) (p v : ℕ) → v < 64 → share x p v ≡ 0
+-- nor by a value of no family
+pub low-share : (x p v : ℕ) → v < 64 → share x p v ≡ 0
 unfolding share gives
-low-share x p v h = go x (takes x (p % span x)) (other x)
+low-share x p v h = go (takes x (p % span x)) refl
   where
-    other : (x : Owner) → eqb (v / 8) (family x) ≡ false
-    other Itself = ne-eqb (v / 8) 8 (λ e. omega arith)
-    other Pair = ne-eqb (v / 8) 9 (λ e. omega arith)
-    other Whole = ne-eqb (v / 8) 10 (λ e. omega arith)
-    other (Three k) = ne-eqb (v / 8) (12 + k) (λ e. omega arith)
+    other : takes x (p % span x) ≡ true → v / 8 ≢ family x
+    other t e = omega (arith, family-low x (takes-known x (p % span x) t))
 
-    go : (x : Owner) (t : Bool) → eqb (v / 8) (family x) ≡ false → cond (t && eqb (v / 8) (family x)) (v % 8 + 1) 0 ≡ 0
-    go x true e = rw e
-    go x false e = refl
-
-high-own : (x : Owner) (p v : ℕ) → Fits x p v → 64 ≤ v → Takes x (p % span x) × (v / 8 ≡ family x)
-high-own x p v (own t e) h = (t, e)
-high-own Itself p v (blank t e) h = absurd (omega arith)
-high-own Pair p v (blank t e) h = absurd (omega arith)
-high-own Whole p v (blank t e) h = absurd (omega arith)
-high-own (Three k) p v (blank t e) h = absurd (⊎-elim (λ g. omega arith) (λ g. omega arith) e)
-high-own Itself p v (smaller e) h = absurd (⊎-elim (λ g. omega arith) (⊎-elim (λ g. omega arith) (λ g. omega arith)) e)
-high-own Pair p v (smaller e) h = absurd e
-high-own Whole p v (smaller e) h = absurd e
-high-own (Three k) p v (smaller e) h = absurd e
-
-family-fields : (x : Owner) (j v : ℕ) → Takes x j → v / 8 ≡ family x → fieldsOf v ≡ v % 8 + 1
-family-fields Itself j v t e = big-fields v (omega arith) (omega arith) (λ f. omega arith)
-family-fields Pair j v t e = big-fields v (omega arith) (omega arith) (λ f. omega arith)
-family-fields Whole j v t e = big-fields v (omega arith) (omega arith) (λ f. omega arith)
-family-fields (Three k) j v t e = let l : k < 4 = t .0 in big-fields v (omega arith) (omega arith) (λ f. omega arith)
+    go : (t : Bool) → takes x (p % span x) ≡ t → cond (t && eqb (v / 8) (family x)) (fieldsOf v) 0 ≡ 0
+    go true e = rw (ne-eqb (v / 8) (family x) (other e))
+    go false e = refl
 
 -- what a value gives to the resource that its position is a place of is all of its fields
-pub share-fields : (x : Owner) (p v : ℕ) → Fits x p v → divides v ≡ false → share x p v ≡ fieldsOf v
+pub share-fields : (x p v : ℕ) → Fits x p v → divides v ≡ false → share x p v ≡ fieldsOf v
 unfolding share gives
 share-fields x p v f e =
     ⊎-elim
     (λ h. low-share x p v h ∙ sym (whole-low v e h))
-    (λ h. let w = high-own x p v f h in rw (takes-true x (p % span x) (w .0), eq-eqb (v / 8) (family x) (w .1)) (sym (family-fields x (p % span x) v (w .0) (w .1))))
+    (λ h. let w = high-own x p v f h in rw (w .0, eq-eqb (v / 8) (family x) (w .1)))
     (below-or v 64)
 
 -- ---- what is listed
-larger-one : (x : Owner) (row : ℕ → ℕ) (q : ℕ) → x ≢ Itself → q % span x ≡ lead x → length (listAt x row q) ≡ 1
-unfolding listed
-larger-one Itself row q n e = absurd (n refl)
-larger-one Pair row q n e = list-length Pair row q ∙ rw (eq-eqb (q % 2) 0 e)
-larger-one Whole row q n e = list-length Whole row q ∙ rw (eq-eqb (q % 4) 0 e)
-larger-one (Three k) row q n e = list-length (Three k) row q ∙ rw (eq-eqb (q % 4) (lead (Three k)) e)
-
 whole-one : (v : ℕ) → divides v ≡ false → length (ownPieces v) ≤ 1
 unfolding ownPieces
 whole-one v e = go (eqb v 28 || within 64 71 v)
@@ -139,47 +94,27 @@ whole-one v e = go (eqb v 28 || within 64 71 v)
     go true = omega arith
     go false = omega (arith, none-left v e)
 
-own-length : (row : ℕ → ℕ) (p : ℕ) → length (listAt Itself row p) ≡ length (ownPieces (row p))
-unfolding listed
-own-length row p = list-length Itself row p
-
 divided-own : (v : ℕ) → divides v ≡ true → length (ownPieces v) ≡ fieldsOf v
 unfolding divides pieces
 divided-own v e = own-fields v (omega (arith, divided-low v e)) (divided-not v 28 refl e)
 
--- a larger owner is told apart
-is-itself : (x : Owner) → (x ≡ Itself) ⊎ (x ≢ Itself)
-is-itself Itself = inl refl
-is-itself Pair = inr (λ e. let z : _≡_ {A = ℕ} 0 1 = cc in omega arith)
-is-itself Whole = inr (λ e. let z : _≡_ {A = ℕ} 0 1 = cc in omega arith)
-is-itself (Three k) = inr (λ e. let z : _≡_ {A = ℕ} 0 1 = cc in omega arith)
-
 -- ---- the window of a resource's span
-window-in : (x : Owner) (q k : ℕ) → k < span x → (span x * (q / span x) + k) / span x ≡ q / span x
-window-in Itself q k h = omega arith
-window-in Pair q k h = omega arith
-window-in Whole q k h = omega arith
-window-in (Three j) q k h = omega arith
+module _ (x q : ℕ) (h : x < 7) where
+  window-in : (k : ℕ) → k < span x → (span x * (q / span x) + k) / span x ≡ q / span x
+  window-in k l = at-span (span x) (span-some x h) q k l
 
-window-below : (x : Owner) (q p : ℕ) → p < span x * (q / span x) → p / span x ≢ q / span x
-window-below Itself q p h e = omega arith
-window-below Pair q p h e = omega arith
-window-below Whole q p h e = omega arith
-window-below (Three j) q p h e = omega arith
+  window-below : (p : ℕ) → p < span x * (q / span x) → p / span x ≢ q / span x
+  window-below p l e = let f : span x * (q / span x) + p % span x ≡ p = rw (← e) (div-add-mod p (span x)) in omega arith
 
-window-above : (x : Owner) (q p : ℕ) → span x * (q / span x) + span x ≤ p → p / span x ≢ q / span x
-window-above Itself q p h e = omega arith
-window-above Pair q p h e = omega arith
-window-above Whole q p h e = omega arith
-window-above (Three j) q p h e = omega arith
+  window-above : (p : ℕ) → span x * (q / span x) + span x ≤ p → p / span x ≢ q / span x
+  window-above p l e =
+      let f : span x * (q / span x) + p % span x ≡ p = rw (← e) (div-add-mod p (span x)) in
+      omega (arith, place-mod x p h)
 
-window-room : (x : Owner) (q n : ℕ) → q < n → span x * (q / span x) + span x ≤ n + 4
-window-room Itself q n h = omega arith
-window-room Pair q n h = omega arith
-window-room Whole q n h = omega arith
-window-room (Three j) q n h = omega arith
+  window-room : (n : ℕ) → q < n → span x * (q / span x) + span x ≤ n + 4
+  window-room n l = omega (arith, div-add-mod q (span x), span-most x h)
 
-from-shares : (c : ℕ) (x : Owner) (row : ℕ → ℕ) (a s : ℕ) → sumFrom (λ p. channelShare c x p (row p)) a s ≡ shares c x row a s
+from-shares : (c x : ℕ) (row : ℕ → ℕ) (a s : ℕ) → sumFrom (λ p. channelShare c x p (row p)) a s ≡ shares c x row a s
 from-shares c x row a zero = refl
 from-shares c x row a (suc s) = rw (from-shares c x row a s)
 
@@ -190,33 +125,14 @@ none-in c p = go (eqb (p % 2) c)
     go true = refl
     go false = refl
 
-fits-takes : (x : Owner) (p v : ℕ) → Fits x p v → Takes x (p % span x)
-fits-takes x p v (own t e) = t
-fits-takes x p v (blank t e) = t
-fits-takes Itself p v (smaller e) = tt
-fits-takes Pair p v (smaller e) = absurd e
-fits-takes Whole p v (smaller e) = absurd e
-fits-takes (Three k) p v (smaller e) = absurd e
+takes-cases : (x j : ℕ) → Takes x j ⊎ (Takes x j → ⊥)
+takes-cases x j = by-test (takes x j) (λ e. inl e) (λ e. inr (λ f. not-both (takes x j) f e))
 
-eqb-cases : (a b : ℕ) → (a ≡ b) ⊎ (a ≢ b)
-eqb-cases a b = go (eqb a b) refl
-  where
-    go : (t : Bool) → eqb a b ≡ t → (a ≡ b) ⊎ (a ≢ b)
-    go true e = inl (eqb-true a b e)
-    go false e = inr (eqb-false a b e)
-
-takes-cases : (x : Owner) (j : ℕ) → Takes x j ⊎ (Takes x j → ⊥)
-takes-cases Itself j = inl tt
-takes-cases Pair j = inl tt
-takes-cases Whole j = inl tt
-takes-cases (Three k) j =
-    ⊎-elim (λ l. ⊎-elim (λ e. inr (λ t. t .1 e)) (λ e. inl (l, e)) (eqb-cases j k)) (λ (l : 4 ≤ k). inr (λ t. omega (arith, t .0))) (below-or k 4)
-
-pub own-fieldsIn : (c : ℕ) (row : ℕ → ℕ) (p : ℕ) → fieldsIn c Itself row p ≡ inChannel c p (share Itself p (row p))
+pub own-fieldsIn : (c : ℕ) (row : ℕ → ℕ) (p : ℕ) → fieldsIn c 0 row p ≡ inChannel c p (share 0 p (row p))
 unfolding fieldsIn
 own-fieldsIn c row p =
     let e : 1 * (p / 1) + 0 ≡ p = omega arith in
-    rw e (omega arith)
+    rw (span-0, e) (omega arith)
 
 -- ---- counting
 counts-of : (P : ℕ → Type 0) (t : ℕ → Bool) (n : ℕ) → ((j : ℕ) → j < n → Tested (t j) (P j)) → Counts P n (tally t n)
@@ -236,44 +152,43 @@ sum-shares c [] = refl
 sum-shares c (r ∷ rs) = sum-first (λ i. shareOf c (getD (r ∷ rs) i noRecord)) (length rs) ∙ rw (sum-shares c rs)
 
 -- ---- of a plan that signals the row: resource i, listed at q as its m-th
-module _ (o : ℕ → Owner) (row : ℕ → ℕ) (n : ℕ) (s : Signals o row 0 n) where
+module _ (o : ℕ → ℕ) (row : ℕ → ℕ) (n : ℕ) (s : Signals o row 0 n) where
   fit : (p : ℕ) → p < n → Fits (o p) p (row p)
   fit p h = s .fits p (omega arith) h
+
+  kind : (p : ℕ) → p < n → o p < 7
+  kind p h = known (o p) p (row p) (fit p h)
 
   -- where a field's owner is listed
   pub home-piece : (p k : ℕ) → p < n → k < fieldsOf (row p) → divides (row p) ≡ true → Located o row n (number o row p k) p k
   home-piece p k h l e =
       let f = divided-itself (o p) p (row p) e (fit p h) in
-      record { inside = h; place = rw f (omega (arith, own-length row p, divided-own (row p) e)); numbered = refl }
+      record { inside = h; place = omega (arith, own-length (o p) row p f, divided-own (row p) e); numbered = refl }
 
   home-entire : (p : ℕ) → p < n → (lowest (o p) p < n) × (o (lowest (o p) p) ≡ o p)
   home-entire p h =
-      let w = s .entire p (lowest (o p) p) (omega arith) h (lowest-place (o p) p (row p) (fit p h) .0) in
+      let w = s .entire p (lowest (o p) p) (omega arith) h (lowest-place (o p) p (kind p h) .0) in
       (w .1, w .2)
 
   pub home-whole : (p : ℕ) → p < n → 0 < fieldsOf (row p) → divides (row p) ≡ false → Located o row n (number o row (lowest (o p) p) 0) (lowest (o p) p) 0
   home-whole p h l e =
       let w = home-entire p h in
-      record { inside = w .0; place = rw (w .1) (some (o p) refl); numbered = refl }
+      record { inside = w .0; place = rw (w .1) some; numbered = refl }
     where
-      fits-as : (x : Owner) → o p ≡ x → Fits x p (row p)
-      fits-as x g = subst (λ (y : Owner). Fits y p (row p)) g (fit p h)
-
       large : 64 ≤ row p
       large = ⊎-elim (λ (k : row p < 64). absurd (omega (arith, whole-low (row p) e k))) (λ k. k) (below-or (row p) 64)
 
-      alone : o p ≡ Itself → 0 < length (listAt Itself row (lowest Itself p))
+      alone : o p ≡ 0 → 0 < length (listAt (o p) row (lowest (o p) p))
       alone g =
-          let t = tells Itself p (row p) (fits-as Itself g) in
-          let z : lowest Itself p ≡ p = sym (lowest-only Itself p p (omega arith, tt) (omega arith)) in
-          rw z (omega (arith, own-length row p, own-whole (row p) large (omega (arith, t .0))))
+          let f : row p / 8 ≡ 8 = high-own (o p) p (row p) (fit p h) large .1 ∙ ap family g ∙ plain-family 0 (omega arith) in
+          let z : lowest (o p) p ≡ p = ap (λ (x : ℕ). lowest x p) g ∙ itself-lowest p in
+          rw z (omega (arith, own-length (o p) row p g, own-whole (row p) large (omega arith)))
 
-      some : (x : Owner) → o p ≡ x → 0 < length (listAt x row (lowest x p))
-      some x g =
-          ⊎-elim
-          (λ (y : x ≡ Itself). subst (λ (z : Owner). 0 < length (listAt z row (lowest z p))) (sym y) (alone (g ∙ y)))
-          (λ y. omega (arith, larger-one x row (lowest x p) y (lowest-place x p (row p) (fits-as x g) .1)))
-          (is-itself x)
+      some : 0 < length (listAt (o p) row (lowest (o p) p))
+      some =
+          ⊎-elim alone
+          (λ y. omega (arith, larger-one (o p) row (lowest (o p) p) y (lowest-place (o p) p (kind p h) .1)))
+          (equal-or (o p) 0)
 
   module _ (i q m : ℕ) (w : Located o row n i q m) where
     abbrev G : ℕ → ℕ
@@ -287,7 +202,7 @@ module _ (o : ℕ → Owner) (row : ℕ → ℕ) (n : ℕ) (s : Signals o row 0 
     unfolding ownerAt
     one-here e =
         let f = divided-itself (o q) q (row q) e (fit q (w .inside)) in
-        let l : m < fieldsOf (row q) = omega (arith, rw f at (w .place), own-length row q, divided-own (row q) e) in
+        let l : m < fieldsOf (row q) = omega (arith, w .place, own-length (o q) row q f, divided-own (row q) e) in
         tally-once (λ k. eqb (ownerAt o row q k) i) (fieldsOf (row q)) m l
         (rw e (eq-eqb (number o row q m) i (same-number q m refl refl)))
         (λ k h d. rw e (ne-eqb (number o row q k) i (λ g. d (omega (arith, g, w .numbered)))))
@@ -324,8 +239,8 @@ module _ (o : ℕ → Owner) (row : ℕ → ℕ) (n : ℕ) (s : Signals o row 0 
           where
             there : All p → q ≡ p
             there a =
-                let g : o p ≡ Itself = sym (home-entire p h .1) ∙ ap o (a .1) ∙ divided-itself (o q) q (row q) e (fit q (w .inside)) in
-                sym (a .1) ∙ ap (λ (x : Owner). lowest x p) g ∙ sym (lowest-only Itself p p (omega arith, tt) (omega arith))
+                let g : o p ≡ 0 = sym (home-entire p h .1) ∙ ap o (a .1) ∙ divided-itself (o q) q (row q) e (fit q (w .inside)) in
+                sym (a .1) ∙ ap (λ (x : ℕ). lowest x p) g ∙ itself-lowest p
 
     divided-sum : (c : ℕ) → divides (row q) ≡ true → sumTo (λ p. inChannel c p (G p)) n ≡ inChannel c q 1
     divided-sum c e =
@@ -337,9 +252,9 @@ module _ (o : ℕ → Owner) (row : ℕ → ℕ) (n : ℕ) (s : Signals o row 0 
       only-one : m ≡ 0
       only-one =
           ⊎-elim
-          (λ (g : o q ≡ Itself). omega (arith, rw g at (w .place), own-length row q, whole-one (row q) e))
+          (λ (g : o q ≡ 0). omega (arith, w .place, own-length (o q) row q g, whole-one (row q) e))
           (λ g. omega (arith, w .place, larger-one (o q) row q g (once-lead (o q) row q m (w .place))))
-          (is-itself (o q))
+          (equal-or (o q) 0)
 
       place-all : (p : ℕ) → p < n → Place (o q) q p → (G p ≡ fieldsOf (row p)) × (o p ≡ o q) × (divides (row p) ≡ false)
       unfolding ownerAt
@@ -359,9 +274,8 @@ module _ (o : ℕ → Owner) (row : ℕ → ℕ) (n : ℕ) (s : Signals o row 0 
               go : (t : Bool) → divides (row p) ≡ t → t ≡ false
               go false f = refl
               go true f =
-                  let g : o q ≡ Itself = sym owner-there ∙ divided-itself (o p) p (row p) f (fit p h) in
-                  let y = subst (λ (x : Owner). Place x q p) g l in
-                  let z : p ≡ q = omega (arith, y .0) in
+                  let g : o q ≡ 0 = sym owner-there ∙ divided-itself (o p) p (row p) f (fit p h) in
+                  let z : p ≡ q = itself-place q p (subst (λ (x : ℕ). Place x q p) g l) in
                   sym f ∙ ap (λ (x : ℕ). divides (row x)) z ∙ e
 
           lowest-there : lowest (o p) p ≡ q
@@ -379,7 +293,7 @@ module _ (o : ℕ → Owner) (row : ℕ → ℕ) (n : ℕ) (s : Signals o row 0 
               there : All p → Place (o q) q p
               there a =
                   let g : o q ≡ o p = ap o (sym (a .1)) ∙ home-entire p h .1 in
-                  let y = lowest-place (o p) p (row p) (fit p h) .0 in
+                  let y = lowest-place (o p) p (kind p h) .0 in
                   rw g (sym (rw (a .1) at (y .0)), fits-takes (o p) p (row p) (fit p h))
 
       H : ℕ → ℕ → ℕ
@@ -397,19 +311,19 @@ module _ (o : ℕ → Owner) (row : ℕ → ℕ) (n : ℕ) (s : Signals o row 0 
       not-taken c p f = rw (no-share (o q) p (row p) f) (none-in c p)
 
       share-here : (c p : ℕ) → p < n → inChannel c p (G p) ≡ H c p
-      share-here c p h = by (eqb-cases (p / span (o q)) (q / span (o q))) (takes-cases (o q) (p % span (o q)))
+      share-here c p h = by (equal-or (p / span (o q)) (q / span (o q))) (takes-cases (o q) (p % span (o q)))
         where
           by : (p / span (o q) ≡ q / span (o q)) ⊎ (p / span (o q) ≢ q / span (o q)) → Takes (o q) (p % span (o q)) ⊎ (Takes (o q) (p % span (o q)) → ⊥)
               → inChannel c p (G p) ≡ H c p
           by (inl f) (inl t) =
               let a = place-all p h (f, t) in
-              let g : share (o q) p (row p) ≡ fieldsOf (row p) = share-fields (o q) p (row p) (subst (λ (x : Owner). Fits x p (row p)) (a .1) (fit p h)) (a .2) in
+              let g : share (o q) p (row p) ≡ fieldsOf (row p) = share-fields (o q) p (row p) (subst (λ (x : ℕ). Fits x p (row p)) (a .1) (fit p h)) (a .2) in
               ap (inChannel c p) (a .0 ∙ sym g) ∙ sym (in-window c p f)
           by (inl f) (inr t) = rw (no-place p h (λ l. t (l .1))) (none-in c p) ∙ sym (in-window c p f ∙ not-taken c p t)
           by (inr f) t = rw (no-place p h (λ l. f (l .0))) (none-in c p) ∙ sym (off-window c p f)
 
       past-end : (c p : ℕ) → n ≤ p → H c p ≡ 0
-      past-end c p h = by (eqb-cases (p / span (o q)) (q / span (o q))) (takes-cases (o q) (p % span (o q)))
+      past-end c p h = by (equal-or (p / span (o q)) (q / span (o q))) (takes-cases (o q) (p % span (o q)))
         where
           by : (p / span (o q) ≡ q / span (o q)) ⊎ (p / span (o q) ≢ q / span (o q)) → Takes (o q) (p % span (o q)) ⊎ (Takes (o q) (p % span (o q)) → ⊥) → H c p ≡ 0
           by (inl f) (inl t) = absurd (omega (arith, s .entire q p (omega arith) (w .inside) (f, t) .1))
@@ -420,14 +334,15 @@ module _ (o : ℕ → Owner) (row : ℕ → ℕ) (n : ℕ) (s : Signals o row 0 
       unfolding fieldsIn
       whole-sum c =
           let a = span (o q) * (q / span (o q)) in
+          let k = kind q (w .inside) in
           sum-cong (λ p. inChannel c p (G p)) (H c) n (share-here c)
           ∙ sym (sum-past (H c) n (n + 4) (omega arith) (past-end c))
-          ∙ sum-window (H c) a (span (o q)) (n + 4) (window-room (o q) q n (w .inside)) (λ p l. off-window c p (window-below (o q) q p l)) (λ p l. off-window c p (window-above (o q) q p l))
-          ∙ from-cong (H c) (λ p. channelShare c (o q) p (row p)) a (span (o q)) (λ k l. in-window c (a + k) (window-in (o q) q k l))
+          ∙ sum-window (H c) a (span (o q)) (n + 4) (window-room (o q) q k n (w .inside)) (λ p l. off-window c p (window-below (o q) q k p l)) (λ p l. off-window c p (window-above (o q) q k p l))
+          ∙ from-cong (H c) (λ p. channelShare c (o q) p (row p)) a (span (o q)) (λ j l. in-window c (a + j) (window-in (o q) q k j l))
           ∙ from-shares c (o q) row a (span (o q))
 
     -- ---- the share that the resource's record says
-    alone-share : (c : ℕ) → o q ≡ Itself → sumTo (λ p. inChannel c p (G p)) n ≡ inChannel c q (pieceFields (row q))
+    alone-share : (c : ℕ) → o q ≡ 0 → sumTo (λ p. inChannel c p (G p)) n ≡ inChannel c q (pieceFields (row q))
     unfolding pieceFields
     alone-share c g = go (divides (row q)) refl
       where
@@ -435,34 +350,31 @@ module _ (o : ℕ → Owner) (row : ℕ → ℕ) (n : ℕ) (s : Signals o row 0 
         go true f = divided-sum c f
         go false f =
             whole-sum f c ∙ rw g (own-fieldsIn c row q)
-            ∙ ap (inChannel c q) (share-fields Itself q (row q) (subst (λ (x : Owner). Fits x q (row q)) g (fit q (w .inside))) f)
+            ∙ ap (inChannel c q) (share-fields 0 q (row q) (subst (λ (x : ℕ). Fits x q (row q)) g (fit q (w .inside))) f)
 
-    larger-share : (c : ℕ) → o q ≢ Itself → sumTo (λ p. inChannel c p (G p)) n ≡ fieldsIn c (o q) row q
+    larger-share : (c : ℕ) → o q ≢ 0 → sumTo (λ p. inChannel c p (G p)) n ≡ fieldsIn c (o q) row q
     larger-share c g = whole-sum (go (divides (row q)) refl) c
       where
         go : (t : Bool) → divides (row q) ≡ t → t ≡ false
         go true f = absurd (g (divided-itself (o q) q (row q) f (fit q (w .inside))))
         go false f = refl
 
-    own-case : (c : ℕ) → c < 2 → o q ≡ Itself → sumTo (λ p. inChannel c p (G p)) n ≡ shareOf c (recordAt Itself row q m)
-    own-case zero h g = alone-share 0 g
-    own-case (suc zero) h g = alone-share 1 g
+    own-case : (c : ℕ) → c < 2 → o q ≡ 0 → sumTo (λ p. inChannel c p (G p)) n ≡ shareOf c (recordAt (o q) row q m)
+    own-case zero h g = rw (own-record (o q) row q m g) (alone-share 0 g)
+    own-case (suc zero) h g = rw (own-record (o q) row q m g) (alone-share 1 g)
     own-case (suc (suc c)) h g = absurd (omega arith)
 
-    larger-case : (c : ℕ) → c < 2 → (x : Owner) → o q ≡ x → x ≢ Itself → sumTo (λ p. inChannel c p (G p)) n ≡ shareOf c (largerRecord x row q)
-    larger-case zero h x g d = larger-share 0 (λ e. d (sym g ∙ e)) ∙ ap (λ (y : Owner). fieldsIn 0 y row q) g
-    larger-case (suc zero) h x g d = larger-share 1 (λ e. d (sym g ∙ e)) ∙ ap (λ (y : Owner). fieldsIn 1 y row q) g
-    larger-case (suc (suc c)) h x g d = absurd (omega arith)
+    larger-case : (c : ℕ) → c < 2 → o q ≢ 0 → sumTo (λ p. inChannel c p (G p)) n ≡ shareOf c (recordAt (o q) row q m)
+    larger-case zero h g = rw (larger-record (o q) row q m g) (larger-share 0 g)
+    larger-case (suc zero) h g = rw (larger-record (o q) row q m g) (larger-share 1 g)
+    larger-case (suc (suc c)) h g = absurd (omega arith)
 
-    record-share : (c : ℕ) → c < 2 → (x : Owner) → o q ≡ x → sumTo (λ p. inChannel c p (G p)) n ≡ shareOf c (recordAt x row q m)
-    record-share c h Itself g = own-case c h g
-    record-share c h Pair g = larger-case c h Pair g (λ e. let z : _≡_ {A = ℕ} 0 1 = cc in omega arith)
-    record-share c h Whole g = larger-case c h Whole g (λ e. let z : _≡_ {A = ℕ} 0 1 = cc in omega arith)
-    record-share c h (Three k) g = larger-case c h (Three k) g (λ e. let z : _≡_ {A = ℕ} 0 1 = cc in omega arith)
+    record-share : (c : ℕ) → c < 2 → sumTo (λ p. inChannel c p (G p)) n ≡ shareOf c (recordAt (o q) row q m)
+    record-share c h = ⊎-elim (own-case c h) (larger-case c h) (equal-or (o q) 0)
 
     owned-at : (c : ℕ) → c < 2 → tally (λ j. eqb (ownerOf o row c n j) i) (fieldsBefore c row n) ≡ shareOf c (getD (recordsFrom o row n) i noRecord)
     owned-at c h =
-        by-position o row i n c n (omega arith) ∙ record-share c h (o q) refl ∙ ap (shareOf c) (sym (located-record o row n i q m w))
+        by-position o row i n c n (omega arith) ∙ record-share c h ∙ ap (shareOf c) (sym (located-record o row n i q m w))
 
   -- ---- what is shown
   owned : (i c : ℕ) → i < length (recordsFrom o row n) → c < 2

@@ -5,17 +5,16 @@ use Prim.Native.Nat.{ℕ, zero, suc, _+_, _-_, _*_, _/_, _%_, _<_}
 use mathlib.Core.Bool.{cond}
 use lib.Dec.{ltb}
 use lib.ListN.{length}
-use Rattle.plan.specs.declared.Owner.{Owner}
-use Rattle.plan.specs.declared.Owner.the-variants.{Itself}
-use Rattle.plan.specs.Plan.{span, Place}
+use Rattle.plan.specs.Kinds.{itself, span}
+use Rattle.plan.specs.Plan.{Place}
+use Rattle.plan.specs.Value.{fieldsTo}
 use Rattle.resource.specs.Values.{pieces, fieldsOf}
 use Rattle.records.specs.declared.Record.{Record}
-use Rattle.records.specs.Records.{inChannel, divides, lead, recordsFrom}
+use Rattle.records.specs.Records.{divides, lead, recordsFrom}
 
 -- how many User fields channel c, from 0, has from the first n positions: "the count is the sum over the row's values"
 abbrev pub fieldsBefore : ℕ → (ℕ → ℕ) → ℕ → ℕ
-fieldsBefore c row zero = 0
-fieldsBefore c row (suc n) = fieldsBefore c row n + inChannel c n (fieldsOf (row n))
+fieldsBefore c row n = fieldsTo c row n
 
 -- "A channel's User fields follow its values in rising position": field j of channel c comes from position p, of n, and is its k-th
 pub record ComesFrom (row : ℕ → ℕ) (n c j p k : ℕ) : Type 0 where
@@ -25,28 +24,28 @@ pub record ComesFrom (row : ℕ → ℕ) (n c j p k : ℕ) : Type 0 where
   pub follows : j ≡ fieldsBefore c row p + k
 
 -- the number, from 0, of the m-th resource that is listed at position p
-abbrev pub number : (ℕ → Owner) → (ℕ → ℕ) → ℕ → ℕ → ℕ
+abbrev pub number : (ℕ → ℕ) → (ℕ → ℕ) → ℕ → ℕ → ℕ
 number o row p m = length (recordsFrom o row p) + m
 
 -- Resource i of the plan owns field j of channel c: "Values 0 to 25, 48 and 50 give one field to each of their pieces, in rising
 -- frequency", so the k-th field of such a position belongs to its k-th piece; any other field belongs to the resource that its
 -- position is a place of, which is listed at its lowest place q.
-pub data Owns (o : ℕ → Owner) (row : ℕ → ℕ) (n i c j : ℕ) : Type 0 where
-  of-piece : (p k : ℕ) → ComesFrom row n c j p k → o p ≡ Itself → k < length (pieces (row p)) → i ≡ number o row p k → Owns o row n i c j
+pub data Owns (o : ℕ → ℕ) (row : ℕ → ℕ) (n i c j : ℕ) : Type 0 where
+  of-piece : (p k : ℕ) → ComesFrom row n c j p k → o p ≡ itself → k < length (pieces (row p)) → i ≡ number o row p k → Owns o row n i c j
   of-place : (p k q : ℕ) → ComesFrom row n c j p k → length (pieces (row p)) ≡ 0 → Place (o p) p q → q % span (o p) ≡ lead (o p) → i ≡ number o row q 0
       → Owns o row n i c j
 
 -- ---- how the program finds the owner: `proofs/Owners.antt` shows that it is the one that owns the field
--- the lowest place of the resource of kind o that lies at p
-unfoldable pub lowest : Owner → ℕ → ℕ
-lowest o p = span o * (p / span o) + lead o
+-- the lowest place of the resource of kind c that lies at p
+unfoldable pub lowest : ℕ → ℕ → ℕ
+lowest c p = span c * (p / span c) + lead c
 
 -- the owner of the k-th field of position p
-unfoldable pub ownerAt : (ℕ → Owner) → (ℕ → ℕ) → ℕ → ℕ → ℕ
+unfoldable pub ownerAt : (ℕ → ℕ) → (ℕ → ℕ) → ℕ → ℕ → ℕ
 ownerAt o row p k = cond (divides (row p)) (number o row p k) (number o row (lowest (o p) p) 0)
 
 -- the owner of field j of channel c, among the first n positions; 144 for none
-unfoldable pub ownerOf : (ℕ → Owner) → (ℕ → ℕ) → ℕ → ℕ → ℕ → ℕ
+unfoldable pub ownerOf : (ℕ → ℕ) → (ℕ → ℕ) → ℕ → ℕ → ℕ → ℕ
 ownerOf o row c zero j = 144
 ownerOf o row c (suc n) j =
     cond (ltb j (fieldsBefore c row n)) (ownerOf o row c n j)

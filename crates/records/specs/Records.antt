@@ -3,10 +3,10 @@ use mathlib.Core.Bool.{Bool, cond, not}
 use mathlib.Core.List.{List, [], _∷_, _++_, map}
 use Prim.Native.Nat.{ℕ, zero, suc, _/_, _%_}
 use lib.Dec.{eqb}
-use lib.ListN.{length, drop, replicate}
-use Rattle.plan.specs.declared.Owner.{Owner}
-use Rattle.plan.specs.declared.Owner.the-variants.{Itself, Pair, Whole, Three}
-use Rattle.plan.specs.Plan.{at, span}
+use lib.ListN.{length, getD}
+use Rattle.answer.specs.Least.{least}
+use Rattle.plan.specs.Kinds.{itself, span, takes}
+use Rattle.plan.specs.Plan.{at}
 use Rattle.plan.specs.Fields.{fieldsIn}
 use Rattle.resource.specs.declared.Size.the-variants.{S26, S242, S484, S996}
 use Rattle.resource.specs.declared.Piece.{Piece}
@@ -18,7 +18,6 @@ use Rattle.resource.specs.Index.{resourceAt, leavingOut}
 use Rattle.resource.specs.Runs.{In, runsOf}
 use Rattle.resource.specs.Starts.{pieceAt}
 use Rattle.records.specs.declared.Record.{Record}
-use Rattle.records.specs.declared.Plan.{Plan}
 
 -- "Content channel 1 holds the even positions, channel 2 the odd ones": f where position p is channel c's, counted from 0
 abbrev pub inChannel : ℕ → ℕ → ℕ → ℕ
@@ -44,47 +43,50 @@ pieceRecord row p x = record {
 
 -- ---- a larger resource
 -- the lowest of its places among its span
-abbrev pub lead : Owner → ℕ
-lead Itself = 0
-lead Pair = 0
-lead Whole = 0
-lead (Three k) = cond (eqb k 0) 1 0
+unfoldable pub lead : ℕ → ℕ
+lead c = least (takes c) (span c)
 
--- the resource of kind o at position q of its segment
-unfoldable pub larger : Owner → ℕ → Resource
-larger Itself q = resourceAt q (Part S242 1)
-larger Pair q = resourceAt q (Part S484 1)
-larger Whole q = resourceAt q (Part S996 1)
-larger (Three k) q = leavingOut k
+-- one column more of the table of kinds, by line: the resource at position q of its segment, with its index
+unfoldable pub resources : ℕ → List Resource
+resources q =
+    resourceAt q (Part S242 1)
+    ∷ resourceAt q (Part S484 1)
+    ∷ resourceAt q (Part S996 1)
+    ∷ leavingOut 0
+    ∷ leavingOut 1
+    ∷ leavingOut 2
+    ∷ leavingOut 3
+    ∷ []
+
+-- that of kind c
+unfoldable pub larger : ℕ → ℕ → Resource
+larger c q = getD (resources q) c (Single S26 0)
 
 -- "A resource's fields are those of all its places"
-abbrev pub largerRecord : Owner → (ℕ → ℕ) → ℕ → Record
-largerRecord o row p = record {
-  resource = larger o (p % 4);
+abbrev pub largerRecord : ℕ → (ℕ → ℕ) → ℕ → Record
+largerRecord c row p = record {
+  resource = larger c (p % 4);
   segment = p / 4;
   position = p;
-  fields1 = fieldsIn 0 o row p;
-  fields2 = fieldsIn 1 o row p;
+  fields1 = fieldsIn 0 c row p;
+  fields2 = fieldsIn 1 c row p;
 }
 
 -- listed at its lowest position alone
-abbrev pub once : Owner → (ℕ → ℕ) → ℕ → List Record
-once o row p = cond (eqb (p % span o) (lead o)) (largerRecord o row p ∷ []) []
+abbrev pub once : ℕ → (ℕ → ℕ) → ℕ → List Record
+once c row p = cond (eqb (p % span c) (lead c)) (largerRecord c row p ∷ []) []
 
 -- ---- "A plan lists resources by lowest position, then frequency; 26 and 27 are none; 28 by itself is a 242 with no field"
--- the resources whose lowest position is p
-unfoldable pub listAt : Owner → (ℕ → ℕ) → ℕ → List Record
-listAt Itself row p = map (pieceRecord row p) (ownPieces (row p))
-listAt Pair row p = once Pair row p
-listAt Whole row p = once Whole row p
-listAt (Three k) row p = once (Three k) row p
+-- the resources whose lowest position is p, which is given to c
+unfoldable pub listAt : ℕ → (ℕ → ℕ) → ℕ → List Record
+listAt c row p = cond (eqb c itself) (map (pieceRecord row p) (ownPieces (row p))) (once c row p)
 
 -- those of the first n positions
-abbrev pub recordsFrom : (ℕ → Owner) → (ℕ → ℕ) → ℕ → List Record
+abbrev pub recordsFrom : (ℕ → ℕ) → (ℕ → ℕ) → ℕ → List Record
 recordsFrom o row zero = []
 recordsFrom o row (suc n) = recordsFrom o row n ++ listAt (o n) row n
 
-abbrev pub recordsOf : (ℕ → Owner) → List ℕ → List Record
+abbrev pub recordsOf : (ℕ → ℕ) → List ℕ → List Record
 recordsOf o row = recordsFrom o (at row) (length row)
 
 -- u, counted from the lower edge of a channel of n positions, is one of the resource's subcarriers
@@ -95,31 +97,15 @@ HasTone n r u = In u (runsOf n (r .segment) (r .resource))
 abbrev pub Punctured : ℕ → ℕ → ℕ → Type 0
 Punctured n q u = In u (runsOf n (q / 4) (resourceAt (q % 4) (Part S242 1)))
 
--- ---- as the program holds them
+-- what stands past the last resource
 abbrev pub blank : Record
 blank = record { resource = Single S26 0; segment = 0; position = 0; fields1 = 0; fields2 = 0 }
 
-unfoldable pub planOf : List Record → Plan
-planOf rs = record { count = length rs; records = rs ++ drop (length rs) (replicate 144 blank) }
-
 -- ---- how the program counts: `proofs/` shows that these are the list's
 -- the k-th of those that are listed at p
-abbrev pub recordAt : Owner → (ℕ → ℕ) → ℕ → ℕ → Record
-recordAt Itself row p k = pieceRecord row p (pieceAt (row p) k)
-recordAt Pair row p k = largerRecord Pair row p
-recordAt Whole row p k = largerRecord Whole row p
-recordAt (Three i) row p k = largerRecord (Three i) row p
+unfoldable pub recordAt : ℕ → (ℕ → ℕ) → ℕ → ℕ → Record
+recordAt c row p k = cond (eqb c itself) (pieceRecord row p (pieceAt (row p) k)) (largerRecord c row p)
 
 -- how many are
-unfoldable pub listed : Owner → ℕ → ℕ → ℕ
-listed Itself p v = length (ownPieces v)
-listed Pair p v = cond (eqb (p % 2) 0) 1 0
-listed Whole p v = cond (eqb (p % 4) 0) 1 0
-listed (Three k) p v = cond (eqb (p % 4) (lead (Three k))) 1 0
-
--- the place that a 484+242 leaves out
-abbrev pub leftOut : Owner → ℕ
-leftOut Itself = 0
-leftOut Pair = 0
-leftOut Whole = 0
-leftOut (Three k) = k
+unfoldable pub listed : ℕ → ℕ → ℕ → ℕ
+listed c p v = cond (eqb c itself) (length (ownPieces v)) (cond (eqb (p % span c) (lead c)) 1 0)

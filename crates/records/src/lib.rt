@@ -1,19 +1,20 @@
-// The resources of a row's plan, and whose User field is whose (01, "What a plan is").
-use plan::Owner;
+// The resources of a row's plan, and whose User field is whose (01, "What a plan is"). A kind of resource is a number, as in
+// crate `plan`: 0 is the position itself.
 use resource::Pairing;
 use resource::Resource;
 use resource::Size;
 ghost use mathlib.Core.Path.{_≡_};
 ghost use mathlib.Core.Bool.{cond};
-ghost use Prim.Native.Nat.{_+_, _*_, _/_, _%_, _≤_, _<_};
+ghost use Prim.Native.Nat.{_+_, _≤_, _<_};
 ghost use lib.ListN.{length, replicate};
 ghost use Rattle.answer.specs.Filled.{build, filled};
 ghost use Rattle.plan.specs.Plan.{at};
 ghost use Rattle.plan.specs.Guess.{onlyPlan};
+ghost use Rattle.plan.specs.Value.{kindsOf};
 ghost use Rattle.resource.specs.Starts.{pieceAt};
-ghost use Rattle.records.specs.Records.{inChannel, divides, pieceFields, pieceRecord, lead, larger, largerRecord, leftOut, recordAt, listed, listAt, recordsFrom, recordsOf, blank, planOf};
+ghost use Rattle.records.specs.Records.{inChannel, divides, pieceFields, pieceRecord, lead, larger, largerRecord, recordAt, listed, recordsOf};
 ghost use Rattle.records.specs.Owns.{fieldsBefore, lowest, ownerAt, ownerOf};
-ghost use Rattle.records.specs.Tables.{kindOf, fromKind, kindsOf, numbersOf};
+ghost use Rattle.records.specs.Tables.{numbersOf};
 
 // A resource of the plan: its segment, its lowest position, and how many User fields of each channel are its own.
 pub struct Record {
@@ -22,30 +23,6 @@ pub struct Record {
     pub position: u16,
     pub fields1: u16,
     pub fields2: u16,
-}
-
-// The plan's resources by lowest position, then frequency: the first `count`.
-pub struct Plan {
-    pub count: usize,
-    pub records: [Record; 144],
-}
-
-fn blank_record() -> Record
-    ensures { λ r. ⌜ r ≡ blank ⌝ }
-{
-    Record {
-        resource: Resource::Single(Size::S26, 0),
-        segment: 0,
-        position: 0,
-        fields1: 0,
-        fields2: 0,
-    }
-}
-
-fn blank_records() -> [Record; 144]
-    ensures { λ r. ⌜ r ≡ replicate 144 blank ⌝ }
-{
-    [blank_record(); 144]
 }
 
 fn value_at(row: &[u16], p: usize) -> u16
@@ -82,18 +59,38 @@ fn in_channel(channel: usize, p: usize, f: u16) -> u16
     if p % 2 == channel { f } else { 0 }
 }
 
-// The resource of kind o at position q of its segment.
-fn larger_of(o: Owner, q: u16) -> Resource
-    requires { ⌜ (q < 4) × (leftOut o < 4) ⌝ }
-    ensures { λ r. ⌜ r ≡ larger o q ⌝ }
+// ---- a larger resource
+
+// The resource of this kind at position q of its segment.
+fn larger_of(kind: u16, q: u16) -> Resource
+    requires { ⌜ (kind < 7) × (q < 4) ⌝ }
+    ensures { λ r. ⌜ r ≡ larger kind q ⌝ }
 {
-    match o {
-        Owner::Itself => Resource::Single(Size::S242, q + 1),
-        Owner::Pair => Resource::Single(Size::S484, q / 2 + 1),
-        Owner::Whole => Resource::Single(Size::S996, 1),
-        Owner::Three(k) => Resource::Joined(Pairing::P484And242, k + 1),
+    match kind {
+        0 => Resource::Single(Size::S242, q + 1),
+        1 => Resource::Single(Size::S484, q / 2 + 1),
+        2 => Resource::Single(Size::S996, 1),
+        _ => Resource::Joined(Pairing::P484And242, kind - 2), // 1 to 4 by the place left out
     }
 }
+
+// The lowest of its places among its span: none leaves out both the first and the second.
+fn lead_of(kind: u16) -> usize
+    requires { ⌜ kind < 7 ⌝ }
+    ensures { λ r. ⌜ (r ≡ lead kind) × (r ≤ 1) ⌝ }
+{
+    if plan::mask_of(kind) % 2 == 1 { 0 } else { 1 }
+}
+
+// The lowest place of the resource of this kind that lies at p.
+fn lowest_of(kind: u16, p: usize) -> usize
+    requires { ⌜ (kind < 7) × (p < 4096) ⌝ }
+    ensures { λ r. ⌜ (r ≡ lowest kind p) × (r ≤ 4096) ⌝ }
+{
+    plan::start_of(kind, p) + lead_of(kind)
+}
+
+// ---- the resources whose lowest position is p
 
 // The k-th piece of position p, which is given to itself.
 fn piece_record(v: u16, p: usize, k: u16) -> Record
@@ -110,31 +107,29 @@ fn piece_record(v: u16, p: usize, k: u16) -> Record
     }
 }
 
-// The larger resource of kind o that lies at position p.
-fn larger_record(o: Owner, row: &[u16], p: usize) -> Record
-    requires { ⌜ (p < 4096) × (leftOut o < 4) ⌝ }
-    ensures { λ r. ⌜ r ≡ largerRecord o (at (now (row .entry))) p ⌝ }
+// The larger resource of this kind that lies at position p.
+fn larger_record(kind: u16, row: &[u16], p: usize) -> Record
+    requires { ⌜ (kind < 7) × (p < 4096) ⌝ }
+    ensures { λ r. ⌜ r ≡ largerRecord kind (at (now (row .entry))) p ⌝ }
 {
     Record {
-        resource: larger_of(o, (p % 4) as u16),
+        resource: larger_of(kind, (p % 4) as u16),
         segment: (p / 4) as u16,
         position: p as u16,
-        fields1: plan::fields_in(0, o, row, p),
-        fields2: plan::fields_in(1, o, row, p),
+        fields1: plan::fields_in(0, kind, row, p),
+        fields2: plan::fields_in(1, kind, row, p),
     }
 }
 
-// The k-th of the resources whose lowest position is p, which is given to o.
-pub fn record_at(o: Owner, row: &[u16], p: usize, k: u16) -> Record
-    requires { ⌜ (p < 4096) × (leftOut o < 4) ⌝ }
-    ensures { λ r. ⌜ r ≡ recordAt o (at (now (row .entry))) p k ⌝ }
+// The k-th of the resources whose lowest position is p, which is given to this kind.
+pub fn record_at(kind: u16, row: &[u16], p: usize, k: u16) -> Record
+    requires { ⌜ (kind < 7) × (p < 4096) ⌝ }
+    ensures { λ r. ⌜ r ≡ recordAt kind (at (now (row .entry))) p k ⌝ }
 {
-    match o {
-        Owner::Itself => piece_record(value_at(row, p), p, k),
-        Owner::Pair => larger_record(o, row, p),
-        Owner::Whole => larger_record(o, row, p),
-        Owner::Three(_) => larger_record(o, row, p),
+    if kind == 0 {
+        return piece_record(value_at(row, p), p, k);
     }
+    larger_record(kind, row, p)
 }
 
 fn one_if(t: bool) -> u16
@@ -143,164 +138,18 @@ fn one_if(t: bool) -> u16
     if t { 1 } else { 0 }
 }
 
-// How many of them there are, the position's value being v.
-pub fn listed_of(o: Owner, p: usize, v: u16) -> u16
-    ensures { λ r. ⌜ (r ≡ listed o p v) × (r ≤ 9) ⌝ }
+// How many of them there are, the position's value being v: a larger resource is listed at its lowest place alone.
+pub fn listed_of(kind: u16, p: usize, v: u16) -> u16
+    requires { ⌜ (kind < 7) × (p < 4096) ⌝ }
+    ensures { λ r. ⌜ (r ≡ listed kind p v) × (r ≤ 9) ⌝ }
 {
-    match o {
-        Owner::Itself => resource::pieces_of(v),
-        Owner::Pair => one_if(p % 2 == 0),
-        Owner::Whole => one_if(p % 4 == 0),
-        Owner::Three(k) => one_if(p % 4 == lead_three(k)),
+    if kind == 0 {
+        return resource::pieces_of(v);
     }
+    one_if(lowest_of(kind, p) == p)
 }
 
-// The lowest place of a 484+242 in its segment.
-fn lead_three(k: u16) -> usize
-    ensures { λ r. ⌜ (r ≡ lead (Owner.Three k)) × (r ≤ 1) ⌝ }
-{
-    if k == 0 { 1 } else { 0 }
-}
-
-fn listed_at(row: &[u16], p: usize) -> u16
-    requires { ⌜ p < 4096 ⌝ }
-    ensures { λ r. ⌜ (r ≡ length (listAt (onlyPlan (at (now (row .entry))) p) (at (now (row .entry))) p)) × (r ≤ 9) ⌝ }
-{
-    listed_of(plan::owner_at(row, p), p, value_at(row, p))
-}
-
-// The resources of the only plan that can signal the row, by lowest position, then frequency.
-pub fn plan_of(row: &[u16]) -> Plan
-    requires { ⌜ length (now row) ≤ 16 ⌝ }
-    ensures { λ r. ⌜ r ≡ planOf (recordsOf (onlyPlan (at (now (row .entry)))) (now (row .entry))) ⌝ }
-{
-    let n = row.len();
-    let mut records = blank_records();
-    let mut count: usize = 0;
-    let mut p: usize = 0;
-    let mut k: u16 = 0;
-    let mut o = plan::owner_at(row, 0);
-    let mut here = listed_of(o, 0, value_at(row, 0));
-    while p < n {
-        if k < here {
-            records[count] = record_at(o, row, p, k);
-            count += 1;
-            k += 1;
-        } else {
-            p += 1;
-            k = 0;
-            o = plan::owner_at(row, p);
-            here = listed_of(o, p, value_at(row, p));
-        }
-    }
-    Plan { count, records }
-}
-
-// How many resources have a lower position than q for their lowest.
-fn records_before(row: &[u16], q: usize) -> usize
-    requires { ⌜ q < 4096 ⌝ }
-    ensures { λ r. ⌜ (r ≡ length (recordsFrom (onlyPlan (at (now (row .entry)))) (at (now (row .entry))) q)) × (r ≤ 9 * q) ⌝ }
-{
-    let mut sum: usize = 0;
-    let mut p: usize = 0; // numbers run over the whole plan, not from each segment's first position
-    while p < q {
-        sum += listed_at(row, p) as usize;
-        p += 1;
-    }
-    sum
-}
-
-// The lowest place of the resource of kind o that lies at p.
-fn lowest_of(o: Owner, p: usize) -> usize
-    requires { ⌜ p < 4092 ⌝ }
-    ensures { λ r. ⌜ (r ≡ lowest o p) × (r < 4096) ⌝ }
-{
-    match o {
-        Owner::Itself => p,
-        Owner::Pair => 2 * (p / 2),
-        Owner::Whole => 4 * (p / 4),
-        Owner::Three(k) => 4 * (p / 4) + lead_three(k),
-    }
-}
-
-// The number of the resource that owns the k-th field of position p.
-fn owner_at(row: &[u16], p: usize, k: usize) -> usize
-    requires { ⌜ (p < 4092) × (k < 4096) ⌝ }
-    ensures { λ r. ⌜ r ≡ ownerAt (onlyPlan (at (now (row .entry)))) (at (now (row .entry))) p k ⌝ }
-{
-    if is_divided(value_at(row, p)) {
-        return records_before(row, p) + k;
-    }
-    records_before(row, lowest_of(plan::owner_at(row, p), p))
-}
-
-// The number, from 0, of the resource that owns field j of a channel (0 or 1); 144 where there is no such field.
-pub fn owner_of(row: &[u16], channel: usize, j: usize) -> usize
-    requires { ⌜ length (now row) ≤ 16 ⌝ }
-    ensures { λ r. ⌜ r ≡ ownerOf (onlyPlan (at (now (row .entry)))) (at (now (row .entry))) channel (length (now (row .entry))) j ⌝ }
-{
-    let n = row.len();
-    let mut left = j;
-    let mut p: usize = 0;
-    while p < n {
-        let f = in_channel(channel, p, resource::fields_of(value_at(row, p))) as usize;
-        if left < f {
-            return owner_at(row, p, left);
-        }
-        left -= f;
-        p += 1;
-    }
-    144
-}
-
-// ---- tables of a row, for what is asked of every position
-
-// What a position is given to, as a number.
-fn kind_of(o: Owner) -> u16
-    requires { ⌜ leftOut o < 4 ⌝ }
-    ensures { λ r. ⌜ r ≡ kindOf o ⌝ }
-{
-    match o {
-        Owner::Itself => 0,
-        Owner::Pair => 1,
-        Owner::Whole => 2,
-        Owner::Three(k) => k + 3,
-    }
-}
-
-fn owner_from(kind: u16) -> Owner
-    ensures { λ r. ⌜ r ≡ fromKind kind ⌝ }
-{
-    match kind {
-        0 => Owner::Itself,
-        1 => Owner::Pair,
-        2 => Owner::Whole,
-        _ => Owner::Three(kind - 3),
-    }
-}
-
-// To what the only plan that can signal the row gives each position.
-pub fn kinds_of(row: &[u16]) -> [u16; 16]
-    requires { ⌜ length (now row) ≤ 16 ⌝ }
-    ensures { λ r. ⌜ r ≡ kindsOf (now (row .entry)) ⌝ }
-{
-    let n = row.len();
-    let mut kinds = [0u16; 16];
-    let mut p: usize = 0;
-    while p < n {
-        kinds[p] = kind_of(plan::owner_at(row, p));
-        p += 1;
-    }
-    kinds
-}
-
-// To what position p is given, by the row's table.
-pub fn owner_in(kinds: &[u16; 16], row: &[u16], p: usize) -> Owner
-    requires { ⌜ (length (now row) ≤ 16) × (p < length (now row)) × (now kinds ≡ kindsOf (now row)) ⌝ }
-    ensures { λ r. ⌜ (r ≡ onlyPlan (at (now (row .entry))) p) × (leftOut r < 4) ⌝ }
-{
-    owner_from(kinds[p])
-}
+// ---- the numbers of the resources, for what is asked of every position
 
 // For each position, how many resources have a lower one for their lowest; past the last, how many there are.
 pub fn numbers_before(kinds: &[u16; 16], row: &[u16]) -> [u16; 17]
@@ -313,7 +162,7 @@ pub fn numbers_before(kinds: &[u16; 16], row: &[u16]) -> [u16; 17]
     let mut p: usize = 0;
     while p < n {
         before[p] = sum;
-        sum += listed_of(owner_in(kinds, row, p), p, value_at(row, p));
+        sum += listed_of(kinds[p], p, value_at(row, p)); // over the whole plan, not from each segment's first position
         p += 1;
     }
     before[p] = sum;
@@ -338,7 +187,7 @@ fn first_owner(kinds: &[u16; 16], before: &[u16; 17], row: &[u16], p: usize) -> 
     if is_divided(value_at(row, p)) {
         return before[p];
     }
-    before[lowest_of(owner_in(kinds, row, p), p)]
+    before[lowest_of(kinds[p], p)]
 }
 
 // Enters the owners of the fields that position p gives a channel, from field j on; returns the field after them.

@@ -1,5 +1,5 @@
 -- `records::enter_owners` meets its contract. Assumes nothing.
-use Rattle.records.proofs.Entering.{one-most, lowest-below, owner-next, owner-most, enter, few-here}
+use Rattle.records.proofs.Entering.{one-most, only-below, owner-next, owner-most, enter, few-here}
 use Rattle.records.proofs.Owners.{before-next}
 use Rattle.records.specs.Records.{inChannel, divides}
 use Rattle.records.specs.Owns.{ownerAt, ownerOf}
@@ -83,7 +83,7 @@ add-number c =
     let s = c .before .before .before .before .before .before .before .before .before .before .args in
     let f : c .before .before .before .before .before .before .in-channel .result ≡ inChannel (s .channel) (s .p) (fieldsOf (at (s .row .now) (s .p))) = c .before .before .before .before .before .before .in-channel .ensures ∙ ap (inChannel (s .channel) (s .p)) (c .before .before .before .before .before .before .before .fields-of .ensures ∙ ap fieldsOf (c .before .before .before .before .before .before .before .before .value-at .ensures)) in
     let few = few-here (s .channel) (at (s .row .now)) (s .p) (length (s .row .now)) (c .before .before .before .before .before .before .before .before .before .before .pre .0 .1) (c .before .before .before .before .before .before .before .before .before .before .pre .0 .0) in
-    omega (arith, owner-most (onlyPlan (at (s .row .now))) (at (s .row .now)) (s .p) (c .before .loop .k) (lowest-below (at (s .row .now)) (s .p)), c .before .before .before .one-if .ensures, one-most (c .before .before .before .before .is-divided .result))
+    omega (arith, owner-most (onlyPlan (at (s .row .now))) (at (s .row .now)) (s .p) (c .before .loop .k) (only-below (at (s .row .now)) (s .p)), c .before .before .before .one-if .ensures, one-most (c .before .before .before .before .is-divided .result))
 
 add-k : tie.Need-add-k Inv-loop μ-loop
 add-k c = omega arith

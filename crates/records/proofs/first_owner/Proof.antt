@@ -1,8 +1,7 @@
 -- `records::first_owner` meets its contract. Assumes nothing.
-use Rattle.records.proofs.Entering.{lowest-below}
-use Rattle.records.proofs.Tables.{number-at}
+use Rattle.records.proofs.Entering.{only-below}
+use Rattle.records.proofs.Tables.{kind-in, kind-known, number-at}
 use Rattle.records.specs.Owns.{lowest, ownerAt}
-use Rattle.plan.specs.declared.Owner.{Owner}
 use Rattle.plan.specs.Guess.{onlyPlan}
 use Rattle.plan.specs.Plan.{at}
 use lib.ListN.{getD}
@@ -33,11 +32,17 @@ returns c =
     let q = c .before .before .before .before .before .pre in
     ap (λ (w : List ℕ). getD w (s .p) 0) (q .3) ∙ number-at (s .row .now) (s .p) (omega arith) ∙ rw (← c .before .before .before .value-at .ensures, ← c .before .before .is-divided .ensures, c .before .if1 .taken) (omega arith)
 
-owner-in-requires : tie.Need-owner-in-requires
-owner-in-requires c κs = search needs
+mul-lowest-of : tie.Need-mul-lowest-of
+mul-lowest-of c = search needs
+
+element-copy-out-lowest-of : tie.Need-element-copy-out-lowest-of
+element-copy-out-lowest-of c = search needs
 
 lowest-of-requires : tie.Need-lowest-of-requires
-lowest-of-requires c κs = search needs
+lowest-of-requires c κs =
+    let s = c .before .before .before .before .before .args in
+    let q = c .before .before .before .before .before .pre in
+    (kind-known (s .kinds .now) (s .row .now) (s .p) (q .2) (q .1), omega arith)
 
 mul-result-2 : tie.Need-mul-result-2
 mul-result-2 c = search needs
@@ -45,16 +50,21 @@ mul-result-2 c = search needs
 element-copy-out-result-2 : tie.Need-element-copy-out-result-2
 element-copy-out-result-2 c =
     let s = c .before .before .before .before .before .before .args in
-    let l : c .lowest-of .result ≤ s .p = rw (c .lowest-of .ensures .0, c .before .owner-in .ensures .0) (lowest-below (at (s .row .now)) (s .p)) in
+    let q = c .before .before .before .before .before .before .pre in
+    let l : c .lowest-of .result ≤ s .p = rw (c .lowest-of .ensures .0, kind-in (s .kinds .now) (s .row .now) (s .p) (q .2) (q .1)) (only-below (at (s .row .now)) (s .p)) in
     omega arith
 
 returns-2 : tie.Need-returns-2
 unfolding ownerAt
 returns-2 c =
     let s = c .before .before .before .before .before .before .before .args in
+    let q = c .before .before .before .before .before .before .before .pre in
     let r = s .row .now in
-    let q : c .before .lowest-of .result ≡ lowest (onlyPlan (at r) (s .p)) (s .p) = c .before .lowest-of .ensures .0 ∙ ap (λ (x : Owner). lowest x (s .p)) (c .before .before .owner-in .ensures .0) in
-    ap (λ (w : List ℕ). getD w (c .before .lowest-of .result) 0) (c .before .before .before .before .before .before .before .pre .3) ∙ number-at r (c .before .lowest-of .result) (omega (arith, lowest-below (at r) (s .p))) ∙ rw (← c .before .before .before .before .before .value-at .ensures, ← c .before .before .before .before .is-divided .ensures, c .before .before .before .if1 .left, ← q) (omega arith)
+    let e : c .before .lowest-of .result ≡ lowest (onlyPlan (at r) (s .p)) (s .p) =
+    c .before .lowest-of .ensures .0 ∙ ap (λ (x : ℕ). lowest x (s .p)) (kind-in (s .kinds .now) r (s .p) (q .2) (q .1)) in
+    ap (λ (w : List ℕ). getD w (c .before .lowest-of .result) 0) (q .3)
+    ∙ number-at r (c .before .lowest-of .result) (omega (arith, only-below (at r) (s .p)))
+    ∙ rw (← c .before .before .before .before .before .value-at .ensures, ← c .before .before .before .before .is-divided .ensures, c .before .before .before .if1 .left, ← e) (omega arith)
 
 pub first-owner-spec : {M : Type 1} → statement M
 first-owner-spec =
@@ -65,7 +75,8 @@ first-owner-spec =
     mul-result
     element-copy-out-result
     returns
-    owner-in-requires
+    mul-lowest-of
+    element-copy-out-lowest-of
     lowest-of-requires
     mul-result-2
     element-copy-out-result-2

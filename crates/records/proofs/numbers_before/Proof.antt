@@ -1,4 +1,5 @@
 -- `records::numbers_before` meets its contract. Assumes nothing.
+use Rattle.records.proofs.Tables.{kind-in, kind-known}
 use Rattle.records.proofs.Listing.{next-length, records-most, here-is}
 use Rattle.records.specs.Records.{listAt, recordsFrom}
 use Rattle.records.specs.Tables.{numbersOf}
@@ -30,14 +31,19 @@ mul-before c = omega arith
 array-write-before : tie.Need-array-write-before Inv-loop μ-loop
 array-write-before c = omega arith
 
-owner-in-requires : tie.Need-owner-in-requires Inv-loop μ-loop
-owner-in-requires c κs = (omega arith, omega arith, c .before .before .before .pre .1)
+mul-listed-of : tie.Need-mul-listed-of Inv-loop μ-loop
+mul-listed-of c = omega arith
+
+element-copy-out-listed-of : tie.Need-element-copy-out-listed-of Inv-loop μ-loop
+element-copy-out-listed-of c = omega arith
 
 value-at-requires : tie.Need-value-at-requires Inv-loop μ-loop
 value-at-requires c κs = search needs
 
 listed-of-requires : tie.Need-listed-of-requires Inv-loop μ-loop
-listed-of-requires c κs = search needs
+listed-of-requires c κs =
+    let s = c .before .before .before .before .before .args in
+    (kind-known (s .kinds .now) (s .row .now) (c .before .before .before .loop .p) (c .before .before .before .before .before .pre .1) (omega arith), omega arith)
 
 add-sum : tie.Need-add-sum Inv-loop μ-loop
 add-sum c = let r = c .before .before .before .before .before .before .args .row .now in omega (arith, records-most (onlyPlan (at r)) (at r) (c .before .before .before .before .loop .p))
@@ -52,7 +58,7 @@ loop-again : tie.Need-loop-again Inv-loop μ-loop
 loop-again c =
     let r = c .before .before .before .before .before .before .args .row .now in
     let l = c .before .before .before .before .loop in
-    let h : c .listed-of .result ≡ length (listAt (onlyPlan (at r) (l .p)) (at r) (l .p)) = here-is (at r) _ _ _ _ (c .before .before .owner-in .ensures .0) (c .before .value-at .ensures) (c .listed-of .ensures .0) in (
+    let h : c .listed-of .result ≡ length (listAt (onlyPlan (at r) (l .p)) (at r) (l .p)) = here-is (at r) _ _ _ _ (kind-in (c .before .before .before .before .before .before .args .kinds .now) r (l .p) (c .before .before .before .before .before .before .pre .1) (omega arith)) (c .before .value-at .ensures) (c .listed-of .ensures .0) in (
       omega arith,
       length-set (l .before) (l .p) (l .sum) ∙ l .inv .1,
       omega (arith, h, next-length (onlyPlan (at r)) (at r) (l .p)),
@@ -83,7 +89,8 @@ numbers-before-spec =
     loop-holds
     mul-before
     array-write-before
-    owner-in-requires
+    mul-listed-of
+    element-copy-out-listed-of
     value-at-requires
     listed-of-requires
     add-sum
