@@ -2,7 +2,6 @@ pub mod Tests
 pub mod Table
 pub mod Ranges
 pub mod Steps
-pub mod Kindly
 pub mod Only
 pub mod Found
 pub mod Parts

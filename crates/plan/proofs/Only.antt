@@ -12,7 +12,7 @@ use Rattle.plan.specs.Kinds.{family, span, takes, blankAt, mustName}
 use Rattle.plan.specs.Plan.{Place, Fits, own, blank, smaller, Signals}
 use Rattle.plan.specs.Guess.{kindOf, nameOf, orElse, firstNamed, tells, choose, onlyPlan}
 use Rattle.plan.proofs.Tests.{Tested, move, eqb-decides, ltb-decides, or-tested}
-use Rattle.plan.proofs.Table.{by-test, not-both, equal-or, known, span-some, span-1, span-2, named-high, high-named, family-back, family-high, span-four, beside, meets, plain-family, full, plain-blank, place-mod, fits-takes, names-fits, Leaf, leaf}
+use Rattle.plan.proofs.Table.{by-test, not-both, equal-or, takes-known, known, span-some, span-1, span-2, named-high, high-named, family-back, family-high, span-four, beside, meets, plain-family, full, plain-blank, place-mod, fits-takes, names-fits, Leaf, leaf}
 use Rattle.plan.proofs.Steps.{orElse-low, orElse-high}
 
 -- ---- the kind that a value names
@@ -122,16 +122,34 @@ chosen k u v j = go (ltb k 7) (takes k j) (tells 2 u) (tells 1 v) (ltb-decides k
     go false b false true p q r s = half (omega arith) r s
     go false b false false p q r s = alone (omega arith) r s
 
-pub only-known : (row : ℕ → ℕ) (p : ℕ) → onlyPlan row p < 7
-unfolding onlyPlan
-only-known row p = go (chosen (firstNamed row (4 * (p / 4)) 4) (row (4 * (p / 4))) (row (2 * (p / 2))) (p % 4))
+-- ---- the only plan gives each position to a kind of the table that the position is a place of
+-- one of the first three has every place, the rest those of a segment's four
+plain-takes : (c p : ℕ) → c < 3 → takes c (p % span c) ≡ true
+plain-takes c p h = full c h (p % span c) (place-mod c p (omega arith))
+
+named-takes : (k p : ℕ) → takes k (p % 4) ≡ true → takes k (p % span k) ≡ true
+named-takes k p e =
+    ⊎-elim (λ l. plain-takes k p l) (λ (l : 3 ≤ k). rw (span-four k (takes-known k (p % 4) e) l) e) (below-or k 3)
+
+pub choose-takes : (k u v p : ℕ) → takes (choose k u v (p % 4)) (p % span (choose k u v (p % 4))) ≡ true
+unfolding choose
+choose-takes k u v p = go (ltb k 7) (takes k (p % 4)) (tells 2 u) (tells 1 v) refl
   where
-    go : {k u v j x : ℕ} → Chosen k u v j x → x < 7
-    go (left h e) = omega arith
-    go (joined h e) = h
-    go (whole h e) = omega arith
-    go (half h e f) = omega arith
-    go (alone h e f) = omega arith
+    go : (a b d e : Bool) → takes k (p % 4) ≡ b
+        → takes (cond a (cond b k 0) (cond d 2 (cond e 1 0))) (p % span (cond a (cond b k 0) (cond d 2 (cond e 1 0)))) ≡ true
+    go true true d e f = named-takes k p f
+    go true false d e f = plain-takes 0 p (omega arith)
+    go false b true e f = plain-takes 2 p (omega arith)
+    go false b false true f = plain-takes 1 p (omega arith)
+    go false b false false f = plain-takes 0 p (omega arith)
+
+module _ (row : ℕ → ℕ) (p : ℕ) where
+  pub only-takes : takes (onlyPlan row p) (p % span (onlyPlan row p)) ≡ true
+  unfolding onlyPlan
+  only-takes = choose-takes (firstNamed row (4 * (p / 4)) 4) (row (4 * (p / 4))) (row (2 * (p / 2))) p
+
+  pub only-known : onlyPlan row p < 7
+  only-known = takes-known (onlyPlan row p) (p % span (onlyPlan row p)) only-takes
 
 -- the other position of a pair, by its place in the segment
 next-door : (p : ℕ) → (2 * (p / 2) + (1 - p % 2)) % 4 ≡ 2 * (p % 4 / 2) + (1 - p % 4 % 2)

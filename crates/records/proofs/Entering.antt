@@ -10,7 +10,7 @@ use lib.Dec.{eqb}
 use lib.ListN.{length, getD, set, replicate, length-replicate, getD-replicate}
 use Rattle.answer.specs.Filled.{build, filled, build-is, filled-step, filled-length, getD-filled, getD-kept}
 use Rattle.plan.specs.Guess.{onlyPlan}
-use Rattle.plan.proofs.Kindly.{only-takes}
+use Rattle.plan.proofs.Only.{only-takes}
 use Rattle.resource.specs.Values.{fieldsOf}
 use Rattle.resource.proofs.Fields.{fields-most}
 use Rattle.resource.proofs.Test.{below-or}

@@ -7,7 +7,7 @@ use Rattle.answer.specs.Filled.{getD-filled}
 use Rattle.plan.specs.Plan.{at}
 use Rattle.plan.specs.Guess.{onlyPlan}
 use Rattle.plan.specs.Value.{kindsOf}
-use Rattle.plan.proofs.Kindly.{only-known}
+use Rattle.plan.proofs.Only.{only-known}
 use Rattle.records.specs.Records.{recordsFrom}
 use Rattle.records.specs.Tables.{numbersOf}
 
