@@ -84,7 +84,7 @@ fn put_second_check(d: &mut [u8], bw: u32)
     ensures { λ _. ⌜ now (d .exit) ≡ sealSecond bw (now (d .entry)) ⌝ }
 {
     if channel::has_second(bw) {
-        put_check(d, channel::first_bits(bw) + 10, channel::second_bits(bw));
+        put_check(d, channel::second_at(bw), channel::second_bits(bw));
     }
 }
 
@@ -95,7 +95,7 @@ fn put_block_checks(d: &mut [u8], bw: u32, n: usize)
     let m = (n + 1) / 2;
     let mut b: usize = 0;
     while b < m {
-        put_check(d, channel::user_bit(bw, 2 * b), channel::covered_bits(n, b));
+        put_check(d, channel::block_bit(bw, b), channel::covered_bits(n, b));
         b += 1;
     }
 }

@@ -20,13 +20,13 @@ use Rattle.resource.proofs.Fields.{carried-high, fields-most}
 use Rattle.plan.specs.Plan.{at}
 use Rattle.channel.specs.Layout.{positions, present, overflow, ltfSymbols, subfields, subfieldsIn, value, rowAt, row, total, count, userAt, blocks}
 use Rattle.faults.specs.Checks.{tooLong, cutCommon, wrongCommon, notCarried, cutUsers, wrongUsers}
-use Rattle.channel.specs.Laws.{present-1, absent-2, subfields-le, subfieldsIn-le, common-le, total-cong, total-le, row-length, row-at, position-subfield, end-le}
+use Rattle.channel.specs.Laws.{place-1, place-2, present-1, absent-2, subfields-le, subfieldsIn-le, common-le, total-cong, total-le, row-length, row-at, position-subfield, end-le}
 use Rattle.faults.specs.Passing.{tooLong-pass, pass-tooLong, pass-cutCommon, pass-wrongCommon, pass-overflowDiffers, pass-notCarried, pass-cutUsers, pass-wrongUsers}
 use Rattle.stations.specs.Stations.{stationOf, repeated, firstRepeated, stationTwice}
 use Rattle.table.specs.Table.{check1, check2, check3, check4, check5, check6, check9, check10, check11}
 use Rattle.frame.specs.Words.{positionOf}
 use Rattle.table.specs.Stages.{commonChecks, userChecks}
-use Rattle.frame.specs.Determine.{place-1, place-2, value-1, value-2}
+use Rattle.frame.specs.Determine.{value-1, value-2}
 use Rattle.candidate.specs.Candidate.{payload, sealed}
 use Rattle.candidate.specs.Carries.{Carries}
 use Rattle.candidate.specs.Built.{sealed-carries, sealed-length, sealed-small}

@@ -4,6 +4,8 @@ use Rattle.channel.proofs.is_present.Reads as is-present
 use Rattle.channel.proofs.positions_of.Reads as positions-of
 use Rattle.channel.proofs.first_bits.Reads as first-bits
 use Rattle.channel.proofs.second_bits.Reads as second-bits
+use Rattle.channel.proofs.second_at.Reads as second-at
+use Rattle.channel.proofs.second_check.Reads as second-check
 use Rattle.channel.proofs.has_second.Reads as has-second
 use Rattle.channel.proofs.common_bits.Reads as common-bits
 use Rattle.channel.proofs.subfields_of.Reads as subfields-of
@@ -12,6 +14,7 @@ use Rattle.channel.proofs.value_of.Reads as value-of
 use Rattle.channel.proofs.count_of.Reads as count-of
 use Rattle.channel.proofs.fill_row.Reads as fill-row
 use Rattle.channel.proofs.user_bit.Reads as user-bit
+use Rattle.channel.proofs.block_bit.Reads as block-bit
 use Rattle.channel.proofs.covered_bits.Reads as covered-bits
 use Rattle.channel.proofs.end_bit.Reads as end-bit
 
@@ -26,6 +29,12 @@ first-bits-agrees κs a r r' s s' p q = p .0 ∙ sym (q .0)
 
 pub second-bits-agrees : (κs : _) (a : _) (r r' : _) (s s' : _) → second-bits.Post κs a r s → second-bits.Post κs a r' s' → r ≡ r'
 second-bits-agrees κs a r r' s s' p q = p .0 ∙ sym (q .0)
+
+pub second-at-agrees : (κs : _) (a : _) (r r' : _) (s s' : _) → second-at.Post κs a r s → second-at.Post κs a r' s' → r ≡ r'
+second-at-agrees κs a r r' s s' p q = p .0 ∙ sym (q .0)
+
+pub second-check-agrees : (κs : _) (a : _) (r r' : _) (s s' : _) → second-check.Post κs a r s → second-check.Post κs a r' s' → r ≡ r'
+second-check-agrees κs a r r' s s' p q = p .0 ∙ sym (q .0)
 
 pub has-second-agrees : (κs : _) (a : _) (r r' : _) (s s' : _) → has-second.Post κs a r s → has-second.Post κs a r' s' → r ≡ r'
 has-second-agrees κs a r r' s s' p q = p ∙ sym q
@@ -50,6 +59,9 @@ fill-row-agrees κs a r r' s s' p q = p ∙ sym q
 
 pub user-bit-agrees : (κs : _) (a : _) (r r' : _) (s s' : _) → user-bit.Post κs a r s → user-bit.Post κs a r' s' → r ≡ r'
 user-bit-agrees κs a r r' s s' p q = p ∙ sym q
+
+pub block-bit-agrees : (κs : _) (a : _) (r r' : _) (s s' : _) → block-bit.Post κs a r s → block-bit.Post κs a r' s' → r ≡ r'
+block-bit-agrees κs a r r' s s' p q = p .0 ∙ sym (q .0)
 
 pub covered-bits-agrees : (κs : _) (a : _) (r r' : _) (s s' : _) → covered-bits.Post κs a r s → covered-bits.Post κs a r' s' → r ≡ r'
 covered-bits-agrees κs a r r' s s' p q = p .0 ∙ sym (q .0)

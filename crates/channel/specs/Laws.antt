@@ -198,6 +198,31 @@ position-subfield bw p l h = go (decLt 0 bw)
         let n : positions bw ≡ 1 = rw e one-position in
         lone bw p e (omega arith)
 
+-- and each subfield its position
+
+module _ (bw k : ℕ) (l : bw ≤ 4) where
+  lone-1 : bw ≡ 0 → k < subfieldsIn bw 1 → 2 * k < positions bw
+  unfolding subfieldsIn subfields firsts seconds present positions
+  lone-1 e m = let n : k < 1 = rw e at m in rw e (omega arith)
+
+  lone-2 : bw ≡ 0 → k < subfieldsIn bw 2 → 2 * k + 1 < positions bw
+  unfolding subfieldsIn subfields firsts seconds present positions
+  lone-2 e m = let n : k < 0 = rw e at m in absurd (omega arith)
+
+  pub place-1 : k < subfieldsIn bw 1 → 2 * k < positions bw
+  place-1 m = go (decLt 0 bw)
+    where
+      go : Dec (0 < bw) → 2 * k < positions bw
+      go (yes h) = omega (arith, half bw h l, subfields-wide bw 1 h)
+      go (no h) = lone-1 (omega arith) m
+
+  pub place-2 : k < subfieldsIn bw 2 → 2 * k + 1 < positions bw
+  place-2 m = go (decLt 0 bw)
+    where
+      go : Dec (0 < bw) → 2 * k + 1 < positions bw
+      go (yes h) = omega (arith, half bw h l, subfields-wide bw 2 h)
+      go (no h) = lone-2 (omega arith) m
+
 -- ---- sums
 
 pub total-next : (f : ℕ → ℕ) (n : ℕ) → total f n + f n ≡ total f (n + 1)
@@ -311,6 +336,34 @@ count-row bw a b l = go (decLt 0 bw) ∙ sym (total-cong (λ p. fieldsOf (getD (
         ∙ ap (total (turns f g)) (half bw h l)
         ∙ total-cong (turns f g) (λ p. fieldsOf (rowAt bw a b p)) (positions bw) (λ p m. fields-turns bw a b p))
     go (no h) = lone bw (omega arith)
+
+-- each channel's by the row's values at its own positions
+
+halves : (bw : ℕ) → bw ≤ 4 → ((positions bw + 1) / 2 ≡ subfieldsIn bw 1) × (positions bw / 2 ≡ subfieldsIn bw 2)
+halves bw l = go (decLt 0 bw)
+  where
+    lone : (bw : ℕ) → bw ≡ 0 → ((positions bw + 1) / 2 ≡ subfieldsIn bw 1) × (positions bw / 2 ≡ subfieldsIn bw 2)
+    lone bw e = rw e (unfold positions subfieldsIn present subfields firsts seconds in (refl, refl))
+
+    go : Dec (0 < bw) → ((positions bw + 1) / 2 ≡ subfieldsIn bw 1) × (positions bw / 2 ≡ subfieldsIn bw 2)
+    go (yes h) = (omega (arith, half bw h l, subfields-wide bw 1 h), omega (arith, half bw h l, subfields-wide bw 2 h))
+    go (no h) = lone bw (omega arith)
+
+pub count-even : (bw : ℕ) (a b : List ℕ) → bw ≤ 4
+    → count bw 1 a ≡ total (λ k. fieldsOf (getD (row bw a b) (2 * k) 0)) ((positions bw + 1) / 2)
+unfolding count
+count-even bw a b l =
+    total-cong (λ k. fieldsOf (value bw a k)) (λ k. fieldsOf (getD (row bw a b) (2 * k) 0)) (subfieldsIn bw 1)
+    (λ k m. ap fieldsOf (sym (row-even bw a b k (place-1 bw k l m))))
+    ∙ ap (total (λ k. fieldsOf (getD (row bw a b) (2 * k) 0))) (sym (halves bw l .0))
+
+pub count-odd : (bw : ℕ) (a b : List ℕ) → bw ≤ 4
+    → count bw 2 b ≡ total (λ k. fieldsOf (getD (row bw a b) (2 * k + 1) 0)) (positions bw / 2)
+unfolding count
+count-odd bw a b l =
+    total-cong (λ k. fieldsOf (value bw b k)) (λ k. fieldsOf (getD (row bw a b) (2 * k + 1) 0)) (subfieldsIn bw 2)
+    (λ k m. ap fieldsOf (sym (row-odd bw a b k (place-2 bw k l m))))
+    ∙ ap (total (λ k. fieldsOf (getD (row bw a b) (2 * k + 1) 0))) (sym (halves bw l .1))
 
 -- ---- the User blocks
 

@@ -1,7 +1,7 @@
 // Where everything lies in a channel, by bandwidth code: its fields, its row of values, its User fields and blocks.
 ghost use mathlib.Core.Path.{_≡_};
 ghost use Prim.Native.Nat.{_+_, _*_, _≤_, _<_};
-ghost use Rattle.channel.specs.Layout.{positions, present, firsts, seconds, firstBits, secondBits, hasSecond, common, subfieldsIn, valueAt, value, rowAt, rowIn16, count, userAt, covered, endOf};
+ghost use Rattle.channel.specs.Layout.{positions, present, firsts, seconds, firstBits, secondAt, secondBits, hasSecond, common, subfieldsIn, valueAt, value, rowAt, rowIn16, count, userAt, blockAt, covered, endOf};
 
 // Whether the bandwidth has the channel.
 pub fn is_present(bw: u32, channel: u32) -> bool
@@ -51,6 +51,22 @@ pub fn second_bits(bw: u32) -> usize
     9 * seconds_of(bw)
 }
 
+// Where they start.
+pub fn second_at(bw: u32) -> usize
+    ensures { λ r. ⌜ r ≡ secondAt bw ⌝ }
+    ensures { λ r. ⌜ r ≤ 45 ⌝ }
+{
+    first_bits(bw) + 10
+}
+
+// The first bit of the second common check.
+pub fn second_check(bw: u32) -> usize
+    ensures { λ r. ⌜ r ≡ secondAt bw + secondBits bw ⌝ }
+    ensures { λ r. ⌜ r ≤ 99 ⌝ }
+{
+    second_at(bw) + second_bits(bw)
+}
+
 pub fn has_second(bw: u32) -> bool
     ensures { λ r. ⌜ r ≡ hasSecond bw ⌝ }
 {
@@ -61,11 +77,10 @@ pub fn common_bits(bw: u32) -> usize
     ensures { λ r. ⌜ r ≡ common bw ⌝ }
     ensures { λ r. ⌜ r ≤ 109 ⌝ }
 {
-    let first = first_bits(bw) + 10;
     if has_second(bw) {
-        first + (second_bits(bw) + 10)
+        second_check(bw) + 10
     } else {
-        first
+        second_at(bw)
     }
 }
 
@@ -90,7 +105,7 @@ pub fn value_bit(bw: u32, k: usize) -> usize
     if k < n {
         return 17 + 9 * k;
     }
-    first_bits(bw) + 10 + 9 * (k - n)
+    second_at(bw) + 9 * (k - n)
 }
 
 pub fn value_of(bw: u32, s: &[u8], k: usize) -> u16
@@ -148,6 +163,15 @@ pub fn user_bit(bw: u32, i: usize) -> usize
     ensures { λ r. ⌜ r ≡ userAt bw i ⌝ }
 {
     common_bits(bw) + 54 * (i / 2) + 22 * (i % 2)
+}
+
+// The first bit of User block b.
+pub fn block_bit(bw: u32, b: usize) -> usize
+    requires { ⌜ b ≤ 36 ⌝ }
+    ensures { λ r. ⌜ r ≡ blockAt bw b ⌝ }
+    ensures { λ r. ⌜ r ≤ 2053 ⌝ }
+{
+    common_bits(bw) + 54 * b
 }
 
 // The bits of User block b that its check covers, of n fields.

@@ -5,7 +5,7 @@ ghost use Prim.Native.Nat.{_≤_};
 ghost use lib.ListN.{length};
 ghost use Rattle.answer.specs.Least.{least};
 ghost use Rattle.bits.specs.Bits.{differs};
-ghost use Rattle.channel.specs.Layout.{count, blockAt};
+ghost use Rattle.channel.specs.Layout.{count};
 ghost use Rattle.faults.specs.Checks.{lent, tooLong, cutCommon, wrongFirst, wrongSecond, wrongCommon, overflowDiffers, foreign, firstForeign, notCarried, cutUsers, wrongBlock, firstWrong, wrongUsers};
 
 // Answer 2 for one channel.
@@ -48,7 +48,7 @@ fn is_wrong_second(bw: u32, channel: u32, s: &[u8]) -> bool
     ensures { λ r. ⌜ r ≡ wrongSecond bw channel (now (s .entry)) ⌝ }
 {
     if channel::is_present(bw, channel) & channel::has_second(bw) {
-        !check4::block_right(s, channel::first_bits(bw) + 10, channel::second_bits(bw))
+        !check4::block_right(s, channel::second_at(bw), channel::second_bits(bw))
     } else {
         false
     }
@@ -59,7 +59,7 @@ pub fn wrong_common(bw: u32, channel: u32, s: &[u8]) -> Out
     ensures { λ r. ⌜ r ≡ wrongCommon bw channel (now (s .entry)) ⌝ }
 {
     let first = channel::first_bits(bw);
-    let second = first + 10 + channel::second_bits(bw);
+    let second = channel::second_check(bw);
     answer::or_else(
         answer::refuse_if(is_wrong_first(bw, channel, s), 4, channel, first),
         answer::refuse_if(is_wrong_second(bw, channel, s), 4, channel, second),
@@ -129,20 +129,11 @@ pub fn cut_users(bw: u32, channel: u32, s: &[u8], n: usize) -> Out
     answer::refuse_if((0 < n) & (8 * s.len() < needed), 9, channel, lent_bits(s))
 }
 
-// The first bit of User block b.
-fn block_bit(bw: u32, b: usize) -> usize
-    requires { ⌜ b ≤ 36 ⌝ }
-    ensures { λ r. ⌜ r ≡ blockAt bw b ⌝ }
-    ensures { λ r. ⌜ r ≤ 2053 ⌝ }
-{
-    channel::common_bits(bw) + 54 * b
-}
-
 fn is_wrong_block(bw: u32, s: &[u8], n: usize, b: usize) -> bool
     requires { ⌜ b ≤ 36 ⌝ }
     ensures { λ r. ⌜ r ≡ wrongBlock bw (now (s .entry)) n b ⌝ }
 {
-    !check4::block_right(s, block_bit(bw, b), channel::covered_bits(n, b))
+    !check4::block_right(s, channel::block_bit(bw, b), channel::covered_bits(n, b))
 }
 
 fn first_wrong(bw: u32, s: &[u8], n: usize) -> usize
@@ -171,6 +162,6 @@ pub fn wrong_users(bw: u32, channel: u32, s: &[u8], n: usize) -> Out
         b < (n + 1) / 2,
         10,
         channel,
-        block_bit(bw, b) + channel::covered_bits(n, b),
+        channel::block_bit(bw, b) + channel::covered_bits(n, b),
     )
 }

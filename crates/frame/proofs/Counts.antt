@@ -10,10 +10,9 @@ use borrow.Author.Tests.{eq-eqb, ne-eqb}
 use Rattle.resource.specs.Values.{fieldsOf}
 use Rattle.plan.specs.Plan.{at}
 use Rattle.channel.specs.Layout.{positions, present, firsts, seconds, subfields, subfieldsIn, value, row, total, count}
-use Rattle.channel.specs.Laws.{half, subfields-wide, total-cong, row-length, row-even, row-odd}
+use Rattle.channel.specs.Laws.{half, subfields-wide, place-1, place-2, total-cong, row-length, row-even, row-odd}
 use Rattle.records.specs.Owns.{fieldsBefore, ComesFrom}
 use Rattle.frame.specs.Words.{before, giver, positionOf}
-use Rattle.frame.specs.Determine.{place-1, place-2}
 use Rattle.frame.proofs.Givers.{giver-is, before-next}
 
 -- channel c, from 0, has the positions 2 * k + c: of the first n, (n + 1 - c) / 2

@@ -14,8 +14,8 @@ use Rattle.answer.specs.Filled.{build-cong, length-build, getD-build}
 use Rattle.bits.specs.Bits.{field}
 use Rattle.bits.specs.Fields.{field-lt}
 use Rattle.resource.specs.Values.{fieldsOf}
-use Rattle.channel.specs.Layout.{positions, present, firsts, seconds, subfields, subfieldsIn, overflow, firstBits, secondAt, secondBits, value, rowAt, row, count, userAt}
-use Rattle.channel.specs.Laws.{positions-le, half, subfields-wide, row-length, row-at, row-lt, total-cong}
+use Rattle.channel.specs.Layout.{positions, subfieldsIn, overflow, firstBits, secondAt, secondBits, value, rowAt, row, count, userAt}
+use Rattle.channel.specs.Laws.{positions-le, place-1, place-2, row-length, row-at, row-lt, total-cong}
 use Rattle.words.specs.Words.{nth}
 use Rattle.words.specs.Back.{overflowOf, valueOf, knownOf, userField}
 use Rattle.words.specs.Laws.{overflow-of-word, value-of-header, known-of-header, user-field-word}
@@ -86,31 +86,6 @@ module _ (bw : ℕ) (a b : List ℕ) where
   user-back-2 j l =
       ap userField (word-2 j l)
       ∙ user-field-word (sharedAt theRow (positionOf 2 (giver bw 2 b j))) (field b (userAt bw j) 22) (field-lt b (userAt bw j) 22)
-
--- ---- each subfield's position
-
-module _ (bw k : ℕ) (l : bw ≤ 4) where
-  lone-1 : bw ≡ 0 → k < subfieldsIn bw 1 → 2 * k < positions bw
-  unfolding subfieldsIn subfields firsts seconds present positions
-  lone-1 e m = let n : k < 1 = rw e at m in rw e (omega arith)
-
-  lone-2 : bw ≡ 0 → k < subfieldsIn bw 2 → 2 * k + 1 < positions bw
-  unfolding subfieldsIn subfields firsts seconds present positions
-  lone-2 e m = let n : k < 0 = rw e at m in absurd (omega arith)
-
-  pub place-1 : k < subfieldsIn bw 1 → 2 * k < positions bw
-  place-1 m = go (decLt 0 bw)
-    where
-      go : Dec (0 < bw) → 2 * k < positions bw
-      go (yes h) = omega (arith, half bw h l, subfields-wide bw 1 h)
-      go (no h) = lone-1 (omega arith) m
-
-  pub place-2 : k < subfieldsIn bw 2 → 2 * k + 1 < positions bw
-  place-2 m = go (decLt 0 bw)
-    where
-      go : Dec (0 < bw) → 2 * k + 1 < positions bw
-      go (yes h) = omega (arith, half bw h l, subfields-wide bw 2 h)
-      go (no h) = lone-2 (omega arith) m
 
 -- the values of each channel from the row
 pub value-1 : (bw : ℕ) (a b : List ℕ) (k : ℕ) → rowAt bw a b (2 * k) ≡ value bw a k

@@ -20,7 +20,7 @@ use Rattle.check4.specs.Checks.{Right}
 use Rattle.resource.specs.Values.{fieldsOf}
 use Rattle.channel.specs.Layout.{present, overflow, subfieldsIn, value, count, userAt, blockAt, blocks, covered, endOf}
 use Rattle.faults.specs.Checks.{wrongCommon, wrongUsers}
-use Rattle.channel.specs.Laws.{present-1, total-cong, value-lt}
+use Rattle.channel.specs.Laws.{place-1, place-2, present-1, total-cong, value-lt}
 use Rattle.faults.specs.Passing.{CommonRight, wrongCommon-pass, overflowDiffers-pass, wrongUsers-pass}
 use Rattle.faults.specs.Padding.{Same}
 use Rattle.words.specs.Words.{nth}
@@ -28,7 +28,7 @@ use Rattle.words.specs.Back.{valueOf, userField}
 use Rattle.table.specs.Table.{check1, check4, check5, check10, eleven, readable}
 use Rattle.frame.specs.Words.{wordsOf}
 use Rattle.reader.specs.Padding.{Agree, Nine, readable-same, words-same}
-use Rattle.frame.specs.Determine.{overflow-back, value-back, user-back-1, user-back-2, place-1, place-2, value-1, value-2}
+use Rattle.frame.specs.Determine.{overflow-back, value-back, user-back-1, user-back-2, value-1, value-2}
 use Rattle.candidate.specs.Candidate.{overflowIn, valueIn, countIn, firstIn, fieldIn, bytesFor, needed, candidate}
 use Rattle.writer.specs.Result.{unlike, sameWords, readsTo}
 use Rattle.candidate.specs.Carries.{determined}

@@ -2,8 +2,7 @@
 use Rattle.candidate.specs.Built.{blocks-length}
 use Rattle.candidate.specs.Steps.{blocks-none, blocks-next}
 use Rattle.candidate.specs.Candidate.{sealBlocks}
-use Rattle.channel.specs.Laws.{common-le, user-even}
-use Rattle.channel.specs.Layout.{userAt, blocks}
+use Rattle.channel.specs.Layout.{blocks}
 use lib.ListN.{length}
 use mathlib.Core.Path.{_≡_, refl, _∙_, ap}
 use Prim.Native.Nat.{ℕ, _+_, _-_, _/_, _≤_}
@@ -24,20 +23,14 @@ add-m c = search needs
 loop-holds : tie.Need-loop-holds Inv-loop μ-loop
 loop-holds c = (search needs, blocks-none _ _ _, refl)
 
-mul-user-bit : tie.Need-mul-user-bit Inv-loop μ-loop
-mul-user-bit c = search needs
-
-user-bit-requires : tie.Need-user-bit-requires Inv-loop μ-loop
-user-bit-requires c κs = search needs
+block-bit-requires : tie.Need-block-bit-requires Inv-loop μ-loop
+block-bit-requires c κs = search needs
 
 covered-bits-requires : tie.Need-covered-bits-requires Inv-loop μ-loop
 covered-bits-requires c κs = search needs
 
 put-check-requires : tie.Need-put-check-requires Inv-loop μ-loop
-unfolding userAt
-put-check-requires c κs =
-    let a = c .before .before .before .before .before .before .args in
-    omega (arith, c .before .user-bit .ensures, common-le (a .bw))
+put-check-requires c κs = search needs
 
 add-b : tie.Need-add-b Inv-loop μ-loop
 add-b c = search needs
@@ -52,7 +45,7 @@ loop-again c =
     let p = c .before .before .put-check in
     let e : p .last .0 ≡ sealBlocks (a .bw) (a .n) (l .b + 1) (a .d .now) =
     p .ensures
-    ∙ cc (c .before .before .before .covered-bits .ensures .0, c .before .before .before .before .user-bit .ensures, user-even (a .bw) (l .b), l .inv .1, blocks-next (a .bw) (a .n) (a .d .now) (l .b)) in
+    ∙ cc (c .before .before .before .covered-bits .ensures .0, c .before .before .before .before .block-bit .ensures .0, l .inv .1, blocks-next (a .bw) (a .n) (a .d .now) (l .b)) in
     (search needs, e, ap length e ∙ blocks-length (a .bw) (a .n) (a .d .now) (l .b + 1))
 
 same-length : tie.Need-same-length Inv-loop μ-loop
@@ -74,8 +67,7 @@ put-block-checks-spec =
     μ-loop
     add-m
     loop-holds
-    mul-user-bit
-    user-bit-requires
+    block-bit-requires
     covered-bits-requires
     put-check-requires
     add-b

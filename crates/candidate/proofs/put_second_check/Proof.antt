@@ -1,6 +1,5 @@
 -- `candidate::put_second_check` meets its contract. Assumes nothing.
 use Rattle.candidate.specs.Candidate.{sealSecond}
-use Rattle.channel.specs.Layout.{secondAt}
 use mathlib.Core.Path.{sym, _∙_}
 use borrow.Author.Needs.{needs}
 use Rattle.candidate.proofs.put_second_check.Statement.{statement}
@@ -9,11 +8,8 @@ use Rattle.candidate.proofs.put_second_check.Tie as tie
 has-second-requires : tie.Need-has-second-requires
 has-second-requires c κs = search needs
 
-first-bits-requires : tie.Need-first-bits-requires
-first-bits-requires c κs = search needs
-
-add-put-check : tie.Need-add-put-check
-add-put-check c = search needs
+second-at-requires : tie.Need-second-at-requires
+second-at-requires c κs = search needs
 
 second-bits-requires : tie.Need-second-bits-requires
 second-bits-requires c κs = search needs
@@ -25,9 +21,9 @@ same-length : tie.Need-same-length
 same-length c = search needs
 
 returns : tie.Need-returns
-unfolding sealSecond secondAt
+unfolding sealSecond
 returns c =
-    let f = c .before .before .before .before .first-bits in
+    let f = c .before .before .before .before .second-at in
     let s = c .before .before .before .second-bits in
     let h = sym (c .before .before .before .before .before .before .before .has-second .ensures) ∙ c .before .before .before .before .before .before .if1 .taken in
     c .before .before .put-check .ensures ∙ rw (h, f .ensures .0, s .ensures .0)
@@ -43,8 +39,7 @@ put-second-check-spec =
     tie.close
     (tie.spec
     has-second-requires
-    first-bits-requires
-    add-put-check
+    second-at-requires
     second-bits-requires
     put-check-requires
     same-length

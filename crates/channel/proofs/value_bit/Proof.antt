@@ -1,7 +1,7 @@
 -- `channel::value_bit` meets its contract. Assumes nothing.
 use native.Mathlib.Omega.{arith}
 use borrow.Author.Tests.{lt-ltb, le-ltb}
-use Rattle.channel.specs.Layout.{firsts, valueAt, secondAt}
+use Rattle.channel.specs.Layout.{firsts, valueAt}
 use borrow.Author.Needs.{needs}
 use Rattle.channel.proofs.value_bit.Statement.{statement}
 use Rattle.channel.proofs.value_bit.Tie as tie
@@ -16,25 +16,22 @@ add-result : tie.Need-add-result
 add-result c = search needs
 
 returns : tie.Need-returns
-unfolding valueAt secondAt
+unfolding valueAt
 returns c =
     let a = c .before .before .args in
     rw (lt-ltb (a .k) (firsts (a .bw)) (omega arith))
 
-first-bits-requires : tie.Need-first-bits-requires
-first-bits-requires c κs = search needs
-
-add-result-2 : tie.Need-add-result-2
-add-result-2 c = search needs
+second-at-requires : tie.Need-second-at-requires
+second-at-requires c κs = search needs
 
 mul-result-2 : tie.Need-mul-result-2
 mul-result-2 c = search needs
 
-add-result-3 : tie.Need-add-result-3
-add-result-3 c = search needs
+add-result-2 : tie.Need-add-result-2
+add-result-2 c = search needs
 
 returns-2 : tie.Need-returns-2
-unfolding valueAt secondAt
+unfolding valueAt
 returns-2 c =
     let a = c .before .before .before .args in
     rw (le-ltb (a .k) (firsts (a .bw)) (omega arith)) (omega arith)
@@ -47,8 +44,7 @@ value-bit-spec =
     mul-result
     add-result
     returns
-    first-bits-requires
-    add-result-2
+    second-at-requires
     mul-result-2
-    add-result-3
+    add-result-2
     returns-2)

@@ -1,7 +1,7 @@
 -- `faults::is_wrong_second` meets its contract. Assumes nothing.
 use mathlib.Core.Path.{_≡_, sym, _∙_, ap}
 use mathlib.Core.Bool.{true, false, _&&_}
-use Rattle.channel.specs.Layout.{present, hasSecond, secondAt}
+use Rattle.channel.specs.Layout.{present, hasSecond}
 use Rattle.faults.specs.Checks.{wrongSecond}
 use borrow.Author.Needs.{needs}
 use Rattle.faults.proofs.is_wrong_second.Statement.{statement}
@@ -13,11 +13,8 @@ is-present-requires c κs = search needs
 has-second-requires : tie.Need-has-second-requires
 has-second-requires c κs = search needs
 
-first-bits-requires : tie.Need-first-bits-requires
-first-bits-requires c κs = search needs
-
-add-block-right : tie.Need-add-block-right
-add-block-right c = search needs
+second-at-requires : tie.Need-second-at-requires
+second-at-requires c κs = search needs
 
 second-bits-requires : tie.Need-second-bits-requires
 second-bits-requires c κs = search needs
@@ -26,7 +23,7 @@ block-right-requires : tie.Need-block-right-requires
 block-right-requires c κs = search needs
 
 returns : tie.Need-returns
-unfolding wrongSecond secondAt
+unfolding wrongSecond
 returns c =
     let h = c .before .before .before .before in
     let a = h .before .before .before .args in
@@ -37,7 +34,7 @@ returns c =
     rw e (cc)
 
 returns-2 : tie.Need-returns-2
-unfolding wrongSecond secondAt
+unfolding wrongSecond
 returns-2 c =
     let h = c .before in
     let a = h .before .before .before .args in
@@ -53,8 +50,7 @@ is-wrong-second-spec =
     (tie.spec
     is-present-requires
     has-second-requires
-    first-bits-requires
-    add-block-right
+    second-at-requires
     second-bits-requires
     block-right-requires
     returns

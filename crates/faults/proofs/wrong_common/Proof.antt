@@ -1,5 +1,4 @@
 -- `faults::wrong_common` meets its contract. Assumes nothing.
-use Rattle.channel.specs.Layout.{secondAt}
 use Rattle.faults.specs.Checks.{wrongCommon}
 use borrow.Author.Needs.{needs}
 use Rattle.faults.proofs.wrong_common.Statement.{statement}
@@ -8,14 +7,8 @@ use Rattle.faults.proofs.wrong_common.Tie as tie
 first-bits-requires : tie.Need-first-bits-requires
 first-bits-requires c κs = search needs
 
-add-second : tie.Need-add-second
-add-second c = search needs
-
-second-bits-requires : tie.Need-second-bits-requires
-second-bits-requires c κs = search needs
-
-add-second-2 : tie.Need-add-second-2
-add-second-2 c = search needs
+second-check-requires : tie.Need-second-check-requires
+second-check-requires c κs = search needs
 
 is-wrong-first-requires : tie.Need-is-wrong-first-requires
 is-wrong-first-requires c κs = search needs
@@ -33,7 +26,7 @@ or-else-requires : tie.Need-or-else-requires
 or-else-requires c κs = search needs
 
 returns : tie.Need-returns
-unfolding wrongCommon secondAt
+unfolding wrongCommon
 returns c = cc
 
 pub wrong-common-spec : {M : Type 1} → statement M
@@ -41,9 +34,7 @@ wrong-common-spec =
     tie.close
     (tie.spec
     first-bits-requires
-    add-second
-    second-bits-requires
-    add-second-2
+    second-check-requires
     is-wrong-first-requires
     refuse-if-requires
     is-wrong-second-requires

@@ -1,8 +1,8 @@
--- `faults::block_bit` meets its contract. Assumes nothing.
+-- `channel::block_bit` meets its contract. Assumes nothing.
 use Rattle.channel.specs.Layout.{blockAt}
 use borrow.Author.Needs.{needs}
-use Rattle.faults.proofs.block_bit.Statement.{statement}
-use Rattle.faults.proofs.block_bit.Tie as tie
+use Rattle.channel.proofs.block_bit.Statement.{statement}
+use Rattle.channel.proofs.block_bit.Tie as tie
 
 common-bits-requires : tie.Need-common-bits-requires
 common-bits-requires c κs = search needs
