@@ -1,16 +1,18 @@
 -- Which value of a channel gives a User field. Assumes nothing.
-use mathlib.Core.Path.{_≡_, refl}
+use mathlib.Core.Path.{_≡_, refl, sym, _∙_}
+use mathlib.Core.Bool.{false}
 use mathlib.Core.List.{List}
 use mathlib.Core.Logic.{⊎-elim}
-use Prim.Native.Nat.{ℕ, zero, suc, _+_, _≤_, _<_}
+use Prim.Native.Nat.{ℕ, zero, suc, _+_, _^_, _≤_, _<_}
 use native.Mathlib.Omega.{arith}
-use native.Mathlib.Nat.{eq-or-lt-of-le}
+use native.Mathlib.Nat.{eq-or-lt-of-le, zero-div}
 use lib.Dec.{ltb}
 use borrow.Author.Tests.{lt-ltb, le-ltb}
-use Rattle.answer.specs.Least.{least-is}
+use Rattle.answer.specs.Least.{least, least-is, least-below}
 use Rattle.resource.specs.Values.{fieldsOf}
 use Rattle.channel.specs.Layout.{subfieldsIn, value, total, count}
 use Rattle.channel.specs.Laws.{total-next}
+use Rattle.frame.specs.Formats.{Holds, Formats}
 use Rattle.frame.specs.Words.{before, giver, sharedAt, positionOf, runWord, userWordAt}
 
 total-rises : (f : ℕ → ℕ) (m n : ℕ) → m ≤ n → total f m ≤ total f n
@@ -50,3 +52,24 @@ count-before bw c s = refl
 pub before-none : (bw : ℕ) (s : List ℕ) → 0 ≡ before bw s 0
 unfolding total
 before-none bw s = refl
+
+-- the channel has a value that gives each of its fields
+pub giver-below : (bw c : ℕ) (s : List ℕ) (j : ℕ) → j < count bw c s → giver bw c s j < subfieldsIn bw c
+unfolding count giver
+giver-below bw c s j l = go (subfieldsIn bw c) refl
+  where
+    go : (n : ℕ) → subfieldsIn bw c ≡ n → least (λ k. ltb j (before bw s (k + 1))) (subfieldsIn bw c) < subfieldsIn bw c
+    go zero e = absurd (let h : j < before bw s 0 = rw e at l in unfold total in omega arith)
+    go (suc n) e =
+        let h : j < before bw s (n + 1) = let f : subfieldsIn bw c ≡ n + 1 = omega arith in rw f at l in
+        omega (arith, least-below (λ k. ltb j (before bw s (k + 1))) (subfieldsIn bw c) n (omega arith) (lt-ltb j (before bw s (n + 1)) h))
+
+-- where no position's fields share their resource, a channel's words are one run
+pub lone-words : (bw c : ℕ) (s r : List ℕ) → Holds bw c s r → Formats r 0 → (j : ℕ) → j < count bw c s → runWord bw s 0 false j ≡ userWordAt bw r c s j
+unfolding userWordAt
+lone-words bw c s r h f j l =
+    let g = giver-below bw c s j l in
+    let p = positionOf c (giver bw c s j) in
+    let e : sharedAt r p ≡ false = sym (f .format p (h .inside (giver bw c s j) g)) ∙ rw (zero-div (2 ^ p)) refl in
+    let i : 0 + j ≡ j = omega arith in
+    rw (e, i)

@@ -1,3 +1,4 @@
+pub mod Rows
 pub mod Grow
 pub mod Givers
 pub mod Counts

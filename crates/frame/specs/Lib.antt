@@ -1,3 +1,4 @@
 pub mod Words
+pub mod Formats
 pub mod Counted
 pub mod Determine

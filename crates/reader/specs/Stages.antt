@@ -1,17 +1,17 @@
 -- The reader's table in the groups in which the code runs it, and what passing them says. Assumes nothing.
-use mathlib.Core.Path.{_≡_, refl, sym, _∙_, ap}
+use mathlib.Core.Path.{_≡_, sym, _∙_, ap}
 use mathlib.Core.List.{List, [], _∷_}
 use Prim.Native.Nat.{ℕ, _≤_}
 use borrow.Author.Tests.{ltb-false}
 use Rattle.answer.specs.Answer.{_or_}
-use Rattle.answer.specs.Order.{firstOf, first-append, pass-left, pass-right, pass-if, or-end}
+use Rattle.answer.specs.Order.{firstOf, first-append, pass-left, pass-right, pass-if, or-refuse, or-end}
 use Rattle.answer.specs.declared.Answer.{Answer}
 use Rattle.answer.specs.declared.Out.{Out}
 use Rattle.answer.specs.declared.Out.the-variants.{Pass, Refuse}
 use Rattle.plan.specs.Guess.{layoutOf}
 use Rattle.channel.specs.Layout.{row}
 use Rattle.table.specs.Table.{eleven, readable}
-use Rattle.table.specs.Stages.{Common, commonChecks, userChecks, common-pass, readable-stages, readable-rest, readable-stopped}
+use Rattle.table.specs.Stages.{Common, userChecks, common-pass, readable-stages}
 use Rattle.frame.specs.Words.{wordCount}
 use Rattle.reader.specs.Table.{noRoom, check12, reading}
 
@@ -21,21 +21,14 @@ reading-stages bw a b room =
     first-append (eleven bw a b) (check12 bw a b room ∷ [])
     ∙ ap (λ (o : Out). firstOf (eleven bw a b) or o) (unfold firstOf in or-end (check12 bw a b room))
 
--- the whole reading, from its parts
-pub reading-is : (bw : ℕ) (a b : List ℕ) (room need : ℕ) (r o : Out)
-    → r ≡ readable bw a b → need ≡ wordCount bw a b → o ≡ (r or noRoom need room) → reading bw a b room ≡ o
-reading-is bw a b room need r o er en eo = reading-stages bw a b room ∙ sym (eo ∙ unfold check12 in rw (er, en))
+-- a refusal of 1 to 11 is the reading's
+pub reading-stopped : (bw : ℕ) (a b : List ℕ) (room : ℕ) (x : Answer) → readable bw a b ≡ Refuse x → reading bw a b room ≡ Refuse x
+reading-stopped bw a b room x e = reading-stages bw a b room ∙ or-refuse _ (check12 bw a b room) x e
 
--- the same, of a frame that passes 1 to 6
-pub reading-rest : (bw : ℕ) (a b : List ℕ) (room need : ℕ) (l r o : Out) → commonChecks bw a b ≡ Pass → l ≡ layoutOf (row bw a b)
-    → r ≡ (l or userChecks bw a b) → need ≡ wordCount bw a b → o ≡ (r or noRoom need room) → reading bw a b room ≡ o
-reading-rest bw a b room need l r o ec el er en eo =
-    reading-is bw a b room need r o (er ∙ ap (λ (q : Out). q or userChecks bw a b) el ∙ sym (readable-rest bw a b ec)) en eo
-
--- and of one that does not
-pub reading-stopped : (bw : ℕ) (a b : List ℕ) (room : ℕ) (x : Answer) → commonChecks bw a b ≡ Refuse x → reading bw a b room ≡ Refuse x
-unfolding _or_
-reading-stopped bw a b room x e = reading-stages bw a b room ∙ rw (← readable-stopped bw a b x e, e) refl
+-- the second half is all of it where the first passes
+pub reading-rest : (bw : ℕ) (a b : List ℕ) (room : ℕ) → readable bw a b ≡ userChecks bw a b
+    → reading bw a b room ≡ userChecks bw a b or check12 bw a b room
+reading-rest bw a b room e = reading-stages bw a b room ∙ ap (λ (o : Out). o or check12 bw a b room) e
 
 room-pass : (bw : ℕ) (a b : List ℕ) (room : ℕ) → check12 bw a b room ≡ Pass → wordCount bw a b ≤ room
 unfolding check12 noRoom

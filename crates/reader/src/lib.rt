@@ -5,9 +5,10 @@ ghost use mathlib.Core.Path.{_≡_};
 ghost use mathlib.Core.Bool.{true};
 ghost use lib.ListN.{length};
 ghost use Rattle.answer.specs.Answer.{_or_};
-ghost use Rattle.channel.specs.Layout.{row};
-ghost use Rattle.table.specs.Stages.{Sealed, commonChecks};
-ghost use Rattle.reader.specs.Table.{noRoom};
+ghost use Prim.Native.Nat.{_≤_};
+ghost use Rattle.channel.specs.Layout.{count};
+ghost use Rattle.table.specs.Stages.{Short, Sealed, userChecks};
+ghost use Rattle.reader.specs.Table.{noRoom, check12};
 ghost use Rattle.reader.specs.Result.{answerOf, wordsAfter};
 
 fn then_room(prev: Out, need: usize, room: usize) -> Out
@@ -16,41 +17,41 @@ fn then_room(prev: Out, need: usize, room: usize) -> Out
     answer::or_else(prev, answer::refuse_if(room < need, 12, 0, need))
 }
 
-// 7 to 12 of a frame that passes 1 to 6 and has this row, and its words where it is accepted.
-fn read_row(bw: u32, a: &[u8], b: &[u8], values: &[u16], words: &mut [u32], sealed: bool) -> Answer
-    requires { ⌜ (sealed ≡ true → Sealed bw (now a) (now b)) × (commonChecks bw (now a) (now b) ≡ Out.Pass) × (now values ≡ row bw (now a) (now b)) ⌝ }
-    ensures { λ r. ⌜ r ≡ answerOf bw (now (a .entry)) (now (b .entry)) (length (now (words .entry))) ⌝ }
-    ensures { λ _. ⌜ now (words .exit) ≡ wordsAfter bw (now (a .entry)) (now (b .entry)) (now (words .entry)) ⌝ }
+// 9 to 12, the second half, of a frame that passes 1 to 8 and has n and m User fields.
+fn check_users(bw: u32, a: &[u8], b: &[u8], n: usize, m: usize, room: usize, sealed: bool) -> Out
+    requires { ⌜ (sealed ≡ true → Sealed bw (now a) (now b)) × Short (now a) (now b) × (n ≤ 72) × (m ≤ 72) × (n ≡ count bw 1 (now a)) × (m ≡ count bw 2 (now b)) ⌝ }
+    ensures { λ r. ⌜ r ≡ (userChecks bw (now (a .entry)) (now (b .entry)) or check12 bw (now (a .entry)) (now (b .entry)) room) ⌝ }
 {
-    let n = channel::count_of(bw, 1, a);
-    let m = channel::count_of(bw, 2, b);
+    let seen = table::then_users(Out::Pass, bw, a, b, n, m, sealed);
     let need = 10 + (n + m);
-    let seen = table::then_users(plan::layout(values), bw, a, b, n, m, sealed);
-    let out = then_room(seen, need, words.len());
-    if let Out::Refuse(x) = out {
-        return x;
-    }
-    frame::put_frame(words, bw, a, b, values, n);
-    Answer {
-        number: 0,
-        channel: 0,
-        place: need,
-    }
+    then_room(seen, need, room)
 }
 
-// The reading, of channels that may be known to be sealed.
+// The reading in its two halves, of channels that may be known to be sealed.
 fn read_as(bandwidth: u32, cc1: &[u8], cc2: &[u8], words: &mut [u32], sealed: bool) -> Answer
     requires { ⌜ (sealed ≡ true → Sealed bandwidth (now cc1) (now cc2)) ⌝ }
     ensures { λ r. ⌜ r ≡ answerOf bandwidth (now (cc1 .entry)) (now (cc2 .entry)) (length (now (words .entry))) ⌝ }
     ensures { λ _. ⌜ now (words .exit) ≡ wordsAfter bandwidth (now (cc1 .entry)) (now (cc2 .entry)) (now (words .entry)) ⌝ }
 {
-    let common = table::common_checks(bandwidth, cc1, cc2, sealed);
-    if let Out::Refuse(x) = common {
+    let plan = table::plan_frame(bandwidth, cc1, cc2, sealed);
+    let planned = plan.out;
+    if let Out::Refuse(x) = planned {
         return x;
     }
-    let row = channel::fill_row(bandwidth, cc1, cc2);
+    let n = plan.fields1;
+    let m = plan.fields2;
+    let out = check_users(bandwidth, cc1, cc2, n, m, words.len(), sealed);
+    if let Out::Refuse(x) = out {
+        return x;
+    }
+    let row = plan.row;
     let p = channel::positions_of(bandwidth);
-    read_row(bandwidth, cc1, cc2, &row[..p], words, sealed)
+    frame::put_frame(words, bandwidth, cc1, cc2, &row[..p], plan.shared, n, m);
+    Answer {
+        number: 0,
+        channel: 0,
+        place: 10 + (n + m),
+    }
 }
 
 // Reads a frame: the answer, and on acceptance the words at the front of the lent buffer. A refusal writes nothing.

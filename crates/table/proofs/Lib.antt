@@ -1,3 +1,6 @@
 pub mod Rows
+pub mod Counts
+pub mod Carried
+pub mod Half
 pub mod Agree
 pub mod Exactly

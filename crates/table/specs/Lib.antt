@@ -1,3 +1,4 @@
 pub mod Table
 pub mod Stages
+pub mod Half
 pub mod Judged

@@ -16,6 +16,10 @@ use Rattle.channel.specs.Layout.{row}
 use Rattle.faults.specs.Checks.{tooLong}
 use Rattle.table.specs.Table.{check1, check2, check3, check4, check5, check6, check7, check8, check9, check10, check11, readable}
 
+-- 1 to 5
+unfoldable pub firstFive : ℕ → List ℕ → List ℕ → Out
+firstFive bw a b = check1 bw or check2 bw a b or check3 bw a b or check4 bw a b or check5 bw a b
+
 -- 1 to 6
 unfoldable pub commonChecks : ℕ → List ℕ → List ℕ → Out
 commonChecks bw a b = check1 bw or check2 bw a b or check3 bw a b or check4 bw a b or check5 bw a b or check6 bw a b
@@ -74,29 +78,30 @@ pub record Common (bw : ℕ) (a b : List ℕ) : Type 0 where
   pub known : bw ≤ 4
   pub short : Short a b
 
-pub common-pass : (bw : ℕ) (a b : List ℕ) → commonChecks bw a b ≡ Pass → Common bw a b
-unfolding commonChecks
-common-pass bw a b e =
-    let f = pass-left _ (check3 bw a b) (pass-left _ (check4 bw a b) (pass-left _ (check5 bw a b) (pass-left _ (check6 bw a b) e))) in
+-- 1 to 6 are 1 to 5 and 6
+pub common-five : (bw : ℕ) (a b : List ℕ) → commonChecks bw a b ≡ firstFive bw a b or check6 bw a b
+unfolding commonChecks firstFive
+common-five bw a b = refl
+
+-- so much is known where 1 to 5 pass
+pub five-pass : (bw : ℕ) (a b : List ℕ) → firstFive bw a b ≡ Pass → Common bw a b
+unfolding firstFive
+five-pass bw a b e =
+    let f = pass-left _ (check3 bw a b) (pass-left _ (check4 bw a b) (pass-left _ (check5 bw a b) e)) in
     record {
       known = unfold check1 in ltb-false 4 bw (pass-if _ _ (pass-left _ (check2 bw a b) f));
       short = short-pass bw a b f;
     }
+
+pub common-pass : (bw : ℕ) (a b : List ℕ) → commonChecks bw a b ≡ Pass → Common bw a b
+common-pass bw a b e = five-pass bw a b (pass-left _ (check6 bw a b) (sym (common-five bw a b) ∙ e))
 
 -- a check that runs only where the earlier ones pass
 pub pass-next : {p q r : Out} → p ≡ Pass → r ≡ q → r ≡ (p or q)
 unfolding _or_
 pass-next e f = rw e f
 
--- a refusal before the rest is the whole's
-pub stopped : (p q r : Out) (x : Answer) → p ≡ Refuse x → p ≡ (p or q) or r
-unfolding _or_
-stopped p q r x e = rw e
-
 -- the stages that are left where the common checks pass
 pub readable-rest : (bw : ℕ) (a b : List ℕ) → commonChecks bw a b ≡ Pass → readable bw a b ≡ layoutOf (row bw a b) or userChecks bw a b
 readable-rest bw a b e =
     readable-stages bw a b ∙ ap (λ (o : Out). o or layoutOf (row bw a b) or userChecks bw a b) e ∙ unfold _or_ in refl
-
-pub readable-stopped : (bw : ℕ) (a b : List ℕ) (x : Answer) → commonChecks bw a b ≡ Refuse x → commonChecks bw a b ≡ readable bw a b
-readable-stopped bw a b x e = stopped _ _ _ x e ∙ sym (readable-stages bw a b)

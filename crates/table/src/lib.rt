@@ -4,9 +4,10 @@ ghost use mathlib.Core.Path.{_≡_};
 ghost use mathlib.Core.Bool.{true};
 ghost use Prim.Native.Nat.{_≤_};
 ghost use Rattle.answer.specs.Answer.{_or_};
-ghost use Rattle.channel.specs.Layout.{count};
+ghost use Rattle.channel.specs.Layout.{row, count};
 ghost use Rattle.table.specs.Table.{check1, check2, check3, check4, check5, check6, check10, check11, readable};
-ghost use Rattle.table.specs.Stages.{Short, Sealed, commonChecks, userChecks};
+ghost use Rattle.table.specs.Stages.{Short, Sealed, firstFive, userChecks};
+ghost use Rattle.table.specs.Half.{allCarried, noPlan, plannedOf};
 
 // ---- the checks, each run only where the earlier ones pass; 4 and 10 not where the channels are known to be sealed
 
@@ -54,28 +55,95 @@ fn then_overflow(prev: Out, bw: u32, a: &[u8], b: &[u8]) -> Out
     faults::overflow_differs(bw, a, b)
 }
 
-fn then_not_carried(prev: Out, bw: u32, a: &[u8], b: &[u8]) -> Out
-    ensures { λ r. ⌜ r ≡ (prev or check6 bw (now (a .entry)) (now (b .entry))) ⌝ }
-{
-    if let Out::Refuse(_) = prev {
-        return prev;
-    }
-    answer::or_else(faults::not_carried(bw, 1, a), faults::not_carried(bw, 2, b))
-}
-
-// 1 to 6.
-pub fn common_checks(bw: u32, a: &[u8], b: &[u8], sealed: bool) -> Out
+// 1 to 5.
+fn first_five(bw: u32, a: &[u8], b: &[u8], sealed: bool) -> Out
     requires { ⌜ (sealed ≡ true → Sealed bw (now a) (now b)) ⌝ }
-    ensures { λ r. ⌜ r ≡ commonChecks bw (now (a .entry)) (now (b .entry)) ⌝ }
+    ensures { λ r. ⌜ r ≡ firstFive bw (now (a .entry)) (now (b .entry)) ⌝ }
 {
     let r = first_checks(bw, a, b);
     let r = then_cut_common(r, bw, a, b);
     let r = then_wrong_common(r, bw, a, b, sealed);
-    let r = then_overflow(r, bw, a, b);
-    then_not_carried(r, bw, a, b)
+    then_overflow(r, bw, a, b)
 }
 
-// ---- 9 to 11, of n fields in channel 1 and m in channel 2
+// ---- the first half: 1 to 8, and the plan of a frame that passes them
+
+// Whether every value of the row is carried. No value is left out early, so the loop has one way through.
+fn all_carried(row: &[u16]) -> bool
+    ensures { λ r. ⌜ r ≡ allCarried (now (row .entry)) ⌝ }
+{
+    let mut all = true;
+    let mut p: usize = 0;
+    while p < row.len() {
+        all = all & resource::is_carried(row[p]);
+        p += 1;
+    }
+    all
+}
+
+// 6, of a frame that has this row. The place of a value that is not carried is looked for only where there is one.
+fn not_carried(bw: u32, a: &[u8], b: &[u8], values: &[u16]) -> Out
+    requires { ⌜ (bw ≤ 4) × (now values ≡ row bw (now a) (now b)) ⌝ }
+    ensures { λ r. ⌜ r ≡ check6 bw (now (a .entry)) (now (b .entry)) ⌝ }
+{
+    if all_carried(values) {
+        return Out::Pass;
+    }
+    answer::or_else(faults::not_carried(bw, 1, a), faults::not_carried(bw, 2, b))
+}
+
+// What the first half tells of a frame: the outcome of 1 to 8 and, where it passes, its row, 0 past it, and the row's plan.
+pub struct Planned {
+    pub out: Out,
+    pub row: [u16; 16],
+    pub kinds: [u16; 16],
+    pub shared: u32,
+    pub fields1: usize,
+    pub fields2: usize,
+}
+
+fn refused(out: Out) -> Planned
+    ensures { λ r. ⌜ r ≡ noPlan out ⌝ }
+{
+    Planned {
+        out,
+        row: [0u16; 16],
+        kinds: [0u16; 16],
+        shared: 0,
+        fields1: 0,
+        fields2: 0,
+    }
+}
+
+// The row is filled once, and its plan made once.
+pub fn plan_frame(bw: u32, a: &[u8], b: &[u8], sealed: bool) -> Planned
+    requires { ⌜ (sealed ≡ true → Sealed bw (now a) (now b)) ⌝ }
+    ensures { λ r. ⌜ r ≡ plannedOf bw (now (a .entry)) (now (b .entry)) ⌝ }
+{
+    let five = first_five(bw, a, b, sealed);
+    if let Out::Refuse(_) = five {
+        return refused(five);
+    }
+    let row = channel::fill_row(bw, a, b);
+    let p = channel::positions_of(bw);
+    let six = not_carried(bw, a, b, &row[..p]);
+    if let Out::Refuse(_) = six {
+        return refused(six);
+    }
+    let plan = plan::plan_of(&row[..p]);
+    let out = plan.out;
+    let kinds = plan.kinds;
+    Planned {
+        out,
+        row,
+        kinds,
+        shared: plan.shared,
+        fields1: plan.fields1,
+        fields2: plan.fields2,
+    }
+}
+
+// ---- the second half, whatever the room: 9 to 11, of n fields in channel 1 and m in channel 2
 
 fn then_wrong_users(prev: Out, bw: u32, a: &[u8], b: &[u8], n: usize, m: usize, sealed: bool) -> Out
     requires { ⌜ (sealed ≡ true → Sealed bw (now a) (now b)) × (n ≤ 72) × (m ≤ 72) × (n ≡ count bw 1 (now a)) × (m ≡ count bw 2 (now b)) ⌝ }
@@ -118,17 +186,14 @@ pub fn then_users(prev: Out, bw: u32, a: &[u8], b: &[u8], n: usize, m: usize, se
     then_twice(r, bw, a, b, n, m)
 }
 
-// 1 to 11: what a frame is refused for, whatever the room.
+// 1 to 11, the two halves: what a frame is refused for, whatever the room.
 pub fn check_frame(bw: u32, a: &[u8], b: &[u8]) -> Out
     ensures { λ r. ⌜ r ≡ readable bw (now (a .entry)) (now (b .entry)) ⌝ }
 {
-    let common = common_checks(bw, a, b, false);
-    if let Out::Refuse(_) = common {
-        return common;
+    let planned = plan_frame(bw, a, b, false);
+    let out = planned.out;
+    if let Out::Refuse(_) = out {
+        return out;
     }
-    let row = channel::fill_row(bw, a, b);
-    let p = channel::positions_of(bw);
-    let n = channel::count_of(bw, 1, a);
-    let m = channel::count_of(bw, 2, b);
-    then_users(plan::layout(&row[..p]), bw, a, b, n, m, false)
+    then_users(out, bw, a, b, planned.fields1, planned.fields2, false)
 }

@@ -2,6 +2,8 @@
 use Rattle.frame.proofs.Grow.{part-tail, head-length, filled-put-length, laid-out}
 use Rattle.frame.specs.Words.{headerOf, userWordAt, wordsIn, wordCount}
 use Rattle.channel.specs.Layout.{count}
+use Rattle.channel.specs.Laws.{count-le}
+use Rattle.frame.proofs.Rows.{row-short, holds-1, holds-2}
 use borrow.Rule.Slice.PartMut.{putMid}
 use lib.ListN.{length, length-drop}
 use native.Mathlib.Omega.{arith}
@@ -16,7 +18,9 @@ unfolding wordCount
 put-head-requires c κs = omega arith
 
 add-at : tie.Need-add-at
-add-at c = search needs
+add-at c =
+    let s = c .before .before .before .before .before .before .before .before .args in
+    omega (arith, c .before .before .before .before .before .before .before .before .pre .4, count-le (s .bw) 1 (s .a .now))
 
 sub-put-users : tie.Need-sub-put-users
 unfolding wordCount
@@ -43,10 +47,13 @@ put-users-requires c κs =
     let s = c .before .before .before .before .before .before .before .before .before .args in
     let w₁ = c .before .before .before .put-head .last .0 in
     let l₁ = head-length (headerOf (s .bw) (s .row .now) (s .a .now)) (s .words .now) w₁ refl (omega arith) (c .before .before .before .put-head .ensures) in
-    (omega arith, omega arith, rw (part-tail w₁ 10 (omega arith)) (omega (arith, length-drop 10 w₁)))
+    let p = c .before .before .before .before .before .before .before .before .before .pre in
+    (omega arith, omega arith, rw (part-tail w₁ 10 (omega arith)) (omega (arith, length-drop 10 w₁)), row-short (s .bw) (s .a .now) (s .b .now) (p .1) (s .row .now) (p .2), holds-1 (s .bw) (s .a .now) (s .b .now) (p .1) (s .row .now) (p .2), p .3, p .4)
 
 mul-put-users : tie.Need-mul-put-users
-mul-put-users c = search needs
+mul-put-users c =
+    let s = c .before .before .before .before .before .before .before .before .before .before .before .before .args in
+    omega (arith, c .before .before .before .before .before .before .before .before .before .before .before .before .pre .4, count-le (s .bw) 1 (s .a .now))
 
 sub-put-users-2 : tie.Need-sub-put-users-2
 unfolding wordCount
@@ -54,7 +61,7 @@ sub-put-users-2 c =
     let s = c .before .before .before .before .before .before .before .before .before .before .before .before .args in
     let w₁ = c .before .before .before .before .before .before .put-head .last .0 in
     let l₁ = head-length (headerOf (s .bw) (s .row .now) (s .a .now)) (s .words .now) w₁ refl (omega arith) (c .before .before .before .before .before .before .put-head .ensures) in
-    let n = c .before .before .before .before .before .before .before .before .before .before .before .before .pre .2 in
+    let n = c .before .before .before .before .before .before .before .before .before .before .before .before .pre .4 in
     let l₂ = filled-put-length (userWordAt (s .bw) (s .row .now) 1 (s .a .now)) (count (s .bw) 1 (s .a .now)) w₁ 10 (c .before .before .put-users .last .0) (omega arith) (c .before .before .put-users .ensures) in
     omega arith
 
@@ -64,7 +71,7 @@ part-put-users-start-2 c =
     let s = c .before .before .before .before .before .before .before .before .before .before .before .before .args in
     let w₁ = c .before .before .before .before .before .before .put-head .last .0 in
     let l₁ = head-length (headerOf (s .bw) (s .row .now) (s .a .now)) (s .words .now) w₁ refl (omega arith) (c .before .before .before .before .before .before .put-head .ensures) in
-    let n = c .before .before .before .before .before .before .before .before .before .before .before .before .pre .2 in
+    let n = c .before .before .before .before .before .before .before .before .before .before .before .before .pre .4 in
     let l₂ = filled-put-length (userWordAt (s .bw) (s .row .now) 1 (s .a .now)) (count (s .bw) 1 (s .a .now)) w₁ 10 (c .before .before .put-users .last .0) (omega arith) (c .before .before .put-users .ensures) in
     omega arith
 
@@ -77,10 +84,11 @@ put-users-requires-2 c κs =
     let s = c .before .before .before .before .before .before .before .before .before .before .before .before .before .args in
     let w₁ = c .before .before .before .before .before .before .before .put-head .last .0 in
     let l₁ = head-length (headerOf (s .bw) (s .row .now) (s .a .now)) (s .words .now) w₁ refl (omega arith) (c .before .before .before .before .before .before .before .put-head .ensures) in
-    let n = c .before .before .before .before .before .before .before .before .before .before .before .before .before .pre .2 in
+    let n = c .before .before .before .before .before .before .before .before .before .before .before .before .before .pre .4 in
     let l₂ = filled-put-length (userWordAt (s .bw) (s .row .now) 1 (s .a .now)) (count (s .bw) 1 (s .a .now)) w₁ 10 (c .before .before .before .put-users .last .0) (omega arith) (c .before .before .before .put-users .ensures) in
     let w₂ = putMid 10 (length w₁ - 10) w₁ (c .before .before .before .put-users .last .0) in
-    (omega arith, omega arith, rw (part-tail w₂ (10 + s .n) (omega arith)) (omega (arith, length-drop (10 + s .n) w₂)))
+    let p = c .before .before .before .before .before .before .before .before .before .before .before .before .before .pre in
+    (omega arith, omega arith, rw (part-tail w₂ (10 + s .n) (omega arith)) (omega (arith, length-drop (10 + s .n) w₂)), row-short (s .bw) (s .a .now) (s .b .now) (p .1) (s .row .now) (p .2), holds-2 (s .bw) (s .a .now) (s .b .now) (p .1) (s .row .now) (p .2), p .3, p .5)
 
 same-length : tie.Need-same-length
 same-length c = search needs
@@ -90,7 +98,7 @@ unfolding wordCount wordsIn
 returns c =
     let s = c .before .before .before .before .before .before .before .before .before .before .before .before .before .before .before .before .args in
     let w₁ = c .before .before .before .before .before .before .before .before .before .before .put-head .last .0 in
-    let n = c .before .before .before .before .before .before .before .before .before .before .before .before .before .before .before .before .pre .2 in
+    let n = c .before .before .before .before .before .before .before .before .before .before .before .before .before .before .before .before .pre .4 in
     let w₂ = putMid 10 (length w₁ - 10) w₁ (c .before .before .before .before .before .before .put-users .last .0) in
     let f = userWordAt (s .bw) (s .row .now) 1 (s .a .now) in
     let g = userWordAt (s .bw) (s .row .now) 2 (s .b .now) in

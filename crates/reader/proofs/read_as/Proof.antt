@@ -1,68 +1,135 @@
 -- `reader::read_as` meets its contract. Assumes nothing.
-use Rattle.table.proofs.Rows.{front}
-use Rattle.table.specs.Stages.{common-pass}
-use Rattle.reader.specs.Stages.{reading-stopped}
-use Rattle.reader.specs.Result.{answerOf, wordsAfter}
-use Rattle.channel.specs.Laws.{row-length}
+use mathlib.Core.Path.{_≡_, sym, _∙_, ap}
+use native.Mathlib.Omega.{arith}
 use lib.ListN.{length}
-use mathlib.Core.Path.{sym, _∙_}
+use Rattle.channel.specs.Laws.{row-length}
+use Rattle.table.specs.Stages.{common-pass}
+use Rattle.table.proofs.Rows.{front, sixteen}
+use Rattle.table.proofs.Half.{planned-made}
+use Rattle.frame.specs.Words.{wordsOf}
+use Rattle.frame.specs.Counted.{counted}
+use Rattle.reader.specs.Result.{answerOf, wordsAfter}
+use Rattle.reader.specs.Stages.{reading-pass}
+use Rattle.reader.proofs.Halves.{first-refuses, second-says, formats}
 use borrow.Author.Needs.{needs}
 use Rattle.reader.proofs.read_as.Statement.{statement}
 use Rattle.reader.proofs.read_as.Tie as tie
 
-common-checks-requires : tie.Need-common-checks-requires
-common-checks-requires c κs = c .before .before .before .pre
+plan-frame-requires : tie.Need-plan-frame-requires
+plan-frame-requires c κs = search needs
 
-enum-known-common : tie.Need-enum-known-common
-enum-known-common c = search needs
+enum-known-planned : tie.Need-enum-known-planned
+enum-known-planned c = search needs
 
 returns : tie.Need-returns
 unfolding answerOf wordsAfter
 returns c =
     let s = c .before .before .before .before .before .before .before .args in
-    let e = reading-stopped (s .bandwidth) (s .cc1 .now) (s .cc2 .now) (length (s .words .now)) _ (sym (c .before .before .before .common-checks .ensures) ∙ c .before .common .given .1) in
+    let e = first-refuses (s .bandwidth) (s .cc1 .now) (s .cc2 .now) (length (s .words .now)) (c .before .before .before .plan-frame .ensures) _ (c .before .planned .given .1) in
     (rw e, rw e)
 
 enum-told : tie.Need-enum-told
 enum-told c = search needs
 
-fill-row-requires : tie.Need-fill-row-requires
-fill-row-requires c κs = common-pass _ _ _ (sym (c .before .before .common-checks .ensures) ∙ c .enum-told .given .1) .known
+check-users-requires : tie.Need-check-users-requires
+check-users-requires c κs =
+    let s = c .before .before .before .before .before .before .args in
+    let q = c .before .before .plan-frame .ensures in
+    let m = planned-made (s .bandwidth) (s .cc1 .now) (s .cc2 .now) _ q (c .enum-told .given .1) in
+    (c .before .before .before .before .before .before .pre, common-pass (s .bandwidth) (s .cc1 .now) (s .cc2 .now) (m .common) .short, m .most1, m .most2, m .count1, m .count2)
+
+enum-known-out : tie.Need-enum-known-out
+enum-known-out c = search needs
+
+returns-2 : tie.Need-returns-2
+unfolding answerOf wordsAfter
+returns-2 c =
+    let s = c .before .before .before .before .before .before .before .before .before .before .args in
+    let q = c .before .before .before .before .before .before .plan-frame .ensures in
+    let e = second-says (s .bandwidth) (s .cc1 .now) (s .cc2 .now) (length (s .words .now)) q _ _ (c .before .before .before .before .enum-told .given .1) (c .before .before .before .check-users .ensures) (c .before .out .given .1) in
+    (rw e, rw e)
+
+enum-told-2 : tie.Need-enum-told-2
+enum-told-2 c = search needs
 
 positions-of-requires : tie.Need-positions-of-requires
-positions-of-requires c κs = common-pass _ _ _ (sym (c .before .before .before .common-checks .ensures) ∙ c .before .enum-told .given .1) .known
+positions-of-requires c κs =
+    let s = c .before .before .before .before .before .before .before .before .before .before .args in
+    let q = c .before .before .before .before .before .before .plan-frame .ensures in
+    let m = planned-made (s .bandwidth) (s .cc1 .now) (s .cc2 .now) _ q (c .before .before .before .before .enum-told .given .1) in
+    common-pass (s .bandwidth) (s .cc1 .now) (s .cc2 .now) (m .common) .known
 
 array-share-prefix-row : tie.Need-array-share-prefix-row
-array-share-prefix-row c = search needs
+array-share-prefix-row c =
+    let s = c .before .before .before .before .before .before .before .before .before .before .before .before .args in
+    let q = c .before .before .before .before .before .before .before .before .plan-frame .ensures in
+    let m = planned-made (s .bandwidth) (s .cc1 .now) (s .cc2 .now) _ q (c .before .before .before .before .before .before .enum-told .given .1) in
+    let l : length (c .before .before .before .before .before .before .before .before .plan-frame .result .row) ≡ 16 = ap length (m .the-row) ∙ sixteen (s .bandwidth) (s .cc1 .now) (s .cc2 .now) (common-pass (s .bandwidth) (s .cc1 .now) (s .cc2 .now) (m .common) .known) in
+    omega (arith, c .before .positions-of .ensures .1)
 
-slice-aggregate-read-row : tie.Need-slice-aggregate-read-row
-slice-aggregate-read-row c =
-    let s = c .before .before .before .before .before .before .before .before .before .args in
-    rw (front (s .bandwidth) (s .cc1 .now) (s .cc2 .now) _ _ (c .before .positions-of .ensures .0) (c .before .before .fill-row .ensures)) (c .before .positions-of .ensures .0 ∙ sym (row-length (s .bandwidth) (s .cc1 .now) (s .cc2 .now)))
+slice-aggregate-put-frame : tie.Need-slice-aggregate-put-frame
+slice-aggregate-put-frame c =
+    let s = c .before .before .before .before .before .before .before .before .before .before .before .before .before .args in
+    let q = c .before .before .before .before .before .before .before .before .before .plan-frame .ensures in
+    let m = planned-made (s .bandwidth) (s .cc1 .now) (s .cc2 .now) _ q (c .before .before .before .before .before .before .before .enum-told .given .1) in
+    let f = front (s .bandwidth) (s .cc1 .now) (s .cc2 .now) _ _ (c .before .before .positions-of .ensures .0) (m .the-row) in
+    rw f (c .before .before .positions-of .ensures .0 ∙ sym (row-length (s .bandwidth) (s .cc1 .now) (s .cc2 .now)))
 
-read-row-requires : tie.Need-read-row-requires
-read-row-requires c κs =
-    let s = c .before .before .before .before .before .before .before .before .before .before .args in
-    (c .before .before .before .before .before .before .before .before .before .before .pre, sym (c .before .before .before .before .before .before .common-checks .ensures) ∙ c .before .before .before .before .enum-told .given .1, front (s .bandwidth) (s .cc1 .now) (s .cc2 .now) _ _ (c .before .before .positions-of .ensures .0) (c .before .before .before .fill-row .ensures))
+put-frame-requires : tie.Need-put-frame-requires
+put-frame-requires c κs =
+    let s = c .before .before .before .before .before .before .before .before .before .before .before .before .before .args in
+    let q = c .before .before .before .before .before .before .before .before .before .plan-frame .ensures in
+    let m = planned-made (s .bandwidth) (s .cc1 .now) (s .cc2 .now) _ q (c .before .before .before .before .before .before .before .enum-told .given .1) in
+    let f = front (s .bandwidth) (s .cc1 .now) (s .cc2 .now) _ _ (c .before .before .positions-of .ensures .0) (m .the-row) in
+    let e = second-says (s .bandwidth) (s .cc1 .now) (s .cc2 .now) (length (s .words .now)) q _ _ (c .before .before .before .before .before .before .before .enum-told .given .1) (c .before .before .before .before .before .before .check-users .ensures) (c .before .before .before .before .enum-told2 .given .1) in
+    let k = common-pass (s .bandwidth) (s .cc1 .now) (s .cc2 .now) (m .common) .known in
+    (reading-pass (s .bandwidth) (s .cc1 .now) (s .cc2 .now) (length (s .words .now)) e .room-enough, k, f, formats (s .bandwidth) (s .cc1 .now) (s .cc2 .now) _ m f, m .count1, m .count2)
+
+add-t15 : tie.Need-add-t15
+add-t15 c =
+    let s = c .before .before .before .before .before .before .before .before .before .before .before .before .before .before .before .before .args in
+    let q = c .before .before .before .before .before .before .before .before .before .before .before .before .plan-frame .ensures in
+    let m = planned-made (s .bandwidth) (s .cc1 .now) (s .cc2 .now) _ q (c .before .before .before .before .before .before .before .before .before .before .enum-told .given .1) in
+    omega (arith, m .most1, m .most2)
+
+add-t21 : tie.Need-add-t21
+add-t21 c =
+    let s = c .before .before .before .before .before .before .before .before .before .before .before .before .before .before .before .before .args in
+    let q = c .before .before .before .before .before .before .before .before .before .before .before .before .plan-frame .ensures in
+    let m = planned-made (s .bandwidth) (s .cc1 .now) (s .cc2 .now) _ q (c .before .before .before .before .before .before .before .before .before .before .enum-told .given .1) in
+    omega (arith, m .most1, m .most2)
 
 same-length : tie.Need-same-length
 same-length c = search needs
 
-returns-2 : tie.Need-returns-2
-returns-2 c = c .before .before .read-row .ensures
+returns-3 : tie.Need-returns-3
+unfolding answerOf wordsAfter wordsOf
+returns-3 c =
+    let s = c .before .before .before .before .before .before .before .before .before .before .before .before .before .before .before .before .args in
+    let q = c .before .before .before .before .before .before .before .before .before .before .before .before .plan-frame .ensures in
+    let m = planned-made (s .bandwidth) (s .cc1 .now) (s .cc2 .now) _ q (c .before .before .before .before .before .before .before .before .before .before .enum-told .given .1) in
+    let f = front (s .bandwidth) (s .cc1 .now) (s .cc2 .now) _ _ (c .before .before .before .before .before .positions-of .ensures .0) (m .the-row) in
+    let e = second-says (s .bandwidth) (s .cc1 .now) (s .cc2 .now) (length (s .words .now)) q _ _ (c .before .before .before .before .before .before .before .before .before .before .enum-told .given .1) (c .before .before .before .before .before .before .before .before .before .check-users .ensures) (c .before .before .before .before .before .before .before .enum-told2 .given .1) in
+    let need = counted (s .bandwidth) (s .cc1 .now) (s .cc2 .now) _ _ (m .count1) (m .count2) in
+    (rw (e, need), rw e (c .before .before .put-frame .ensures ∙ rw f))
 
 pub read-as-spec : {M : Type 1} → statement M
 read-as-spec =
     tie.close
     (tie.spec
-    common-checks-requires
-    enum-known-common
+    plan-frame-requires
+    enum-known-planned
     returns
     enum-told
-    fill-row-requires
+    check-users-requires
+    enum-known-out
+    returns-2
+    enum-told-2
     positions-of-requires
     array-share-prefix-row
-    slice-aggregate-read-row
-    read-row-requires
+    slice-aggregate-put-frame
+    put-frame-requires
+    add-t15
+    add-t21
     same-length
-    returns-2)
+    returns-3)

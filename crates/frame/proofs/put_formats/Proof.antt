@@ -1,0 +1,177 @@
+-- `frame::put_formats` meets its contract. Assumes nothing.
+use Prim.Native.Nat.{ℕ, _+_, _-_, _/_, _%_, _^_, _≤_, _<_}
+use mathlib.Core.Path.{_≡_, refl, _∙_, ap}
+use native.Mathlib.Omega.{arith}
+use lib.Dec.{eqb}
+use lib.ListN.{length, length-drop}
+use Rattle.answer.specs.Filled.{filled-length, filled, filled-start}
+use Rattle.resource.specs.Values.{fieldsOf}
+use Rattle.channel.specs.Laws.{count-le}
+use Rattle.channel.specs.Layout.{subfieldsIn, value, count}
+use Rattle.frame.specs.Words.{positionOf, runWord, before, userWordAt}
+use Rattle.frame.proofs.Givers.{count-before, before-none, before-next, before-count, run-words}
+use Rattle.frame.proofs.Grow.{part-tail, grown}
+use borrow.Author.Needs.{needs}
+use Rattle.frame.proofs.put_formats.Statement.{statement}
+use Rattle.frame.proofs.put_formats.Tie as tie
+
+abbrev Inv-loop : tie.InvT-loop
+Inv-loop out₀ bw c s row shared n j₀ k₀ out j k = (k ≤ n) × (j ≡ before bw s k) × (out ≡ filled (userWordAt bw row c s) j out₀) × (length out ≡ length out₀)
+
+abbrev μ-loop : tie.MeasureT-loop
+μ-loop out₀ bw c s row shared n j₀ k₀ out j k = n - k
+
+subfields-of-requires : tie.Need-subfields-of-requires Inv-loop μ-loop
+subfields-of-requires c κs = search needs
+
+loop-holds : tie.Need-loop-holds Inv-loop μ-loop
+loop-holds c = (omega arith, before-none _ _, filled-start _ _, refl)
+
+mul-p : tie.Need-mul-p Inv-loop μ-loop
+mul-p c = search needs
+
+sub-p : tie.Need-sub-p Inv-loop μ-loop
+sub-p c = search needs
+
+add-p : tie.Need-add-p Inv-loop μ-loop
+add-p c = search needs
+
+mul-fields-of : tie.Need-mul-fields-of Inv-loop μ-loop
+mul-fields-of c = search needs
+
+shared-slice-read-fields-of : tie.Need-shared-slice-read-fields-of Inv-loop μ-loop
+shared-slice-read-fields-of c =
+    let a = c .before .before .before .before .before .before .before .args in
+    let l = c .before .before .loop in
+    let k : l .k < subfieldsIn (a .bw) (a .c) = omega (arith, c .before .before .before .subfields-of .ensures .0) in
+    let i = c .before .before .before .before .before .before .before .pre .4 .inside (l .k) k in
+    i
+
+fields-of-requires : tie.Need-fields-of-requires Inv-loop μ-loop
+fields-of-requires c κs = search needs
+
+cast-m : tie.Need-cast-m Inv-loop μ-loop
+cast-m c = search needs
+
+mul-put-run : tie.Need-mul-put-run Inv-loop μ-loop
+mul-put-run c =
+    let a = c .before .before .before .before .before .before .before .before .args in
+    let l = c .before .before .before .loop in
+    let k : l .k < subfieldsIn (a .bw) (a .c) = omega (arith, c .before .before .before .before .subfields-of .ensures .0) in
+    let nx = before-next (a .bw) (a .c) (a .s .now) (l .k) k in
+    let bc = before-count (a .bw) (a .c) (a .s .now) (l .k) k in
+    omega (arith, count-le (a .bw) (a .c) (a .s .now))
+
+sub-put-run : tie.Need-sub-put-run Inv-loop μ-loop
+sub-put-run c =
+    let a = c .before .before .before .before .before .before .before .before .args in
+    let l = c .before .before .before .loop in
+    let k : l .k < subfieldsIn (a .bw) (a .c) = omega (arith, c .before .before .before .before .subfields-of .ensures .0) in
+    let nx = before-next (a .bw) (a .c) (a .s .now) (l .k) k in
+    let bc = before-count (a .bw) (a .c) (a .s .now) (l .k) k in
+    omega arith
+
+part-put-run-start : tie.Need-part-put-run-start Inv-loop μ-loop
+part-put-run-start c =
+    let a = c .before .before .before .before .before .before .before .before .args in
+    let l = c .before .before .before .loop in
+    let k : l .k < subfieldsIn (a .bw) (a .c) = omega (arith, c .before .before .before .before .subfields-of .ensures .0) in
+    let nx = before-next (a .bw) (a .c) (a .s .now) (l .k) k in
+    let bc = before-count (a .bw) (a .c) (a .s .now) (l .k) k in
+    omega arith
+
+part-put-run-end : tie.Need-part-put-run-end Inv-loop μ-loop
+part-put-run-end c = search needs
+
+cast-put-run : tie.Need-cast-put-run Inv-loop μ-loop
+cast-put-run c = search needs
+
+shr-put-run : tie.Need-shr-put-run Inv-loop μ-loop
+shr-put-run c =
+    let a = c .before .before .before .before .before .before .before .before .before .args in
+    let l = c .before .before .before .before .loop in
+    let k : l .k < subfieldsIn (a .bw) (a .c) = omega (arith, c .before .before .before .before .before .subfields-of .ensures .0) in
+    let i = c .before .before .before .before .before .before .before .before .before .pre .4 .inside (l .k) k in
+    omega arith
+
+put-run-requires : tie.Need-put-run-requires Inv-loop μ-loop
+put-run-requires c κs =
+    let a = c .before .before .before .before .before .before .before .before .before .args in
+    let l = c .before .before .before .before .loop in
+    let k : l .k < subfieldsIn (a .bw) (a .c) = omega (arith, c .before .before .before .before .before .subfields-of .ensures .0) in
+    let nx = before-next (a .bw) (a .c) (a .s .now) (l .k) k in
+    let bc = before-count (a .bw) (a .c) (a .s .now) (l .k) k in
+    let m : c .before .fields-of .result ≡ fieldsOf (value (a .bw) (a .s .now) (l .k)) = c .before .fields-of .ensures ∙ ap fieldsOf (c .before .before .before .before .before .before .before .before .before .pre .4 .holds (l .k) k) in
+    (rw (part-tail (l .out) (l .j) (omega arith)) (omega (arith, length-drop (l .j) (l .out))), omega (arith, count-le (a .bw) (a .c) (a .s .now)))
+
+add-j : tie.Need-add-j Inv-loop μ-loop
+add-j c =
+    let a = c .before .before .before .before .before .before .before .before .before .before .before .before .args in
+    let l = c .before .before .before .before .before .before .before .loop in
+    let k : l .k < subfieldsIn (a .bw) (a .c) = omega (arith, c .before .before .before .before .before .before .before .before .subfields-of .ensures .0) in
+    let nx = before-next (a .bw) (a .c) (a .s .now) (l .k) k in
+    let bc = before-count (a .bw) (a .c) (a .s .now) (l .k) k in
+    let m : c .before .before .before .before .fields-of .result ≡ fieldsOf (value (a .bw) (a .s .now) (l .k)) = c .before .before .before .before .fields-of .ensures ∙ ap fieldsOf (c .before .before .before .before .before .before .before .before .before .before .before .before .pre .4 .holds (l .k) k) in
+    omega (arith, count-le (a .bw) (a .c) (a .s .now))
+
+add-k : tie.Need-add-k Inv-loop μ-loop
+add-k c = search needs
+
+loop-less : tie.Need-loop-less Inv-loop μ-loop
+loop-less c = search needs
+
+loop-again : tie.Need-loop-again Inv-loop μ-loop
+loop-again c =
+    let a = c .before .before .before .before .before .before .before .before .before .before .before .before .args in
+    let l = c .before .before .before .before .before .before .before .loop in
+    let k : l .k < subfieldsIn (a .bw) (a .c) = omega (arith, c .before .before .before .before .before .before .before .before .subfields-of .ensures .0) in
+    let nx = before-next (a .bw) (a .c) (a .s .now) (l .k) k in
+    let bc = before-count (a .bw) (a .c) (a .s .now) (l .k) k in
+    let m : c .before .before .before .before .fields-of .result ≡ fieldsOf (value (a .bw) (a .s .now) (l .k)) = c .before .before .before .before .fields-of .ensures ∙ ap fieldsOf (c .before .before .before .before .before .before .before .before .before .before .before .before .pre .4 .holds (l .k) k) in
+    let p = positionOf (a .c) (l .k) in
+    let t = c .before .before .before .before .before .before .before .before .before .before .before .before .pre .5 .format p (c .before .before .before .before .before .before .before .before .before .before .before .before .pre .4 .inside (l .k) k) in
+    let f = userWordAt (a .bw) (a .row .now) (a .c) (a .s .now) in
+    let g = runWord (a .bw) (a .s .now) (l .j) (eqb (a .shared / 2 ^ p % 2) 1) in
+    let w : (i : ℕ) → i < c .before .before .before .before .fields-of .result → g i ≡ f (l .j + i) =
+    λ i h. rw (t, l .inv .1) (run-words (a .bw) (a .c) (a .s .now) (l .k) k (a .row .now) i (omega arith)) in
+    let e = grown f g (a .out .now) (l .out) (c .before .before .put-run .last .0) (l .j) (c .before .before .before .before .fields-of .result) (omega arith) (l .inv .2) w (c .before .before .put-run .ensures) in
+    (omega arith, omega arith, e, ap length e ∙ filled-length f (l .j + c .before .before .before .before .fields-of .result) (a .out .now) (omega arith))
+
+same-length : tie.Need-same-length Inv-loop μ-loop
+same-length c = c .before .loop .inv .3
+
+returns : tie.Need-returns Inv-loop μ-loop
+returns c =
+    let a = c .before .before .before .before .before .before .args in
+    let e : c .before .loop .k ≡ subfieldsIn (a .bw) (a .c) = omega (arith, c .before .before .subfields-of .ensures .0) in
+    let n : c .before .loop .j ≡ count (a .bw) (a .c) (a .s .now) = c .before .loop .inv .1 ∙ ap (before (a .bw) (a .s .now)) e ∙ count-before (a .bw) (a .c) (a .s .now) in
+    rw (← n) (c .before .loop .inv .2)
+
+pub put-formats-spec : {M : Type 1} → statement M
+put-formats-spec =
+    tie.close
+    (tie.spec
+    Inv-loop
+    μ-loop
+    subfields-of-requires
+    loop-holds
+    mul-p
+    sub-p
+    add-p
+    mul-fields-of
+    shared-slice-read-fields-of
+    fields-of-requires
+    cast-m
+    mul-put-run
+    sub-put-run
+    part-put-run-start
+    part-put-run-end
+    cast-put-run
+    shr-put-run
+    put-run-requires
+    add-j
+    add-k
+    loop-less
+    loop-again
+    same-length
+    returns)

@@ -1,0 +1,106 @@
+-- What the first half says of a frame. Assumes nothing.
+use mathlib.Core.Path.{_≡_, refl, sym, _∙_, ap}
+use mathlib.Core.List.{List}
+use Prim.Native.Nat.{ℕ, _/_, _%_, _^_, _≤_, _<_}
+use lib.Dec.{eqb}
+use lib.ListN.{length}
+use Rattle.answer.specs.Answer.{_or_}
+use Rattle.answer.specs.Order.{pass-left, pass-right, or-refuse, or-next, or-pass}
+use Rattle.answer.specs.declared.Answer.{Answer}
+use Rattle.answer.specs.declared.Out.{Out}
+use Rattle.answer.specs.declared.Out.the-variants.{Pass, Refuse}
+use Rattle.plan.specs.declared.Plan.{Plan}
+use Rattle.plan.specs.Plan.{at}
+use Rattle.plan.specs.Fields as F
+use Rattle.plan.specs.Guess.{onlyPlan, layoutOf}
+use Rattle.plan.specs.Value.{planOf, fieldsTo}
+use Rattle.plan.proofs.Value.{shared-bit}
+use Rattle.channel.specs.Layout.{positions, row, rowIn16, count}
+use Rattle.channel.specs.Laws.{row-length, count-le}
+use Rattle.table.specs.declared.Planned.{Planned}
+use Rattle.table.specs.Stages.{firstFive, commonChecks, userChecks, common-five, common-pass, readable-stages}
+use Rattle.table.specs.Table.{check6, readable}
+use Rattle.table.specs.Half.{noPlan, withPlan, plannedAt, plannedOf}
+use Rattle.table.proofs.Counts.{count-1, count-2}
+
+-- of a frame that the first half passes
+pub record Made (bw : ℕ) (a b : List ℕ) (p : Planned) : Type 0 where
+  pub common : commonChecks bw a b ≡ Pass
+  pub laid : layoutOf (row bw a b) ≡ Pass
+  pub the-row : p .row ≡ rowIn16 bw a b
+  pub count1 : p .fields1 ≡ count bw 1 a
+  pub count2 : p .fields2 ≡ count bw 2 b
+  pub most1 : p .fields1 ≤ 72
+  pub most2 : p .fields2 ≤ 72
+  pub formats : (q : ℕ) → q < positions bw → eqb (p .shared / 2 ^ q % 2) 1 ≡ F.shared (onlyPlan (at (row bw a b))) (at (row bw a b)) q
+
+-- the outcome of a result that is another
+pub out-is : {p q : Planned} {o : Out} → p ≡ q → p .out ≡ o → q .out ≡ o
+out-is e f = sym (ap (λ (p : Planned). p .out) e) ∙ f
+
+module _ (bw : ℕ) (a b : List ℕ) where
+  -- the three ways through it: stopped by 1 to 5, stopped by 6, planned
+  pub stopped-five : (o : Out) (x : Answer) → o ≡ firstFive bw a b → o ≡ Refuse x → noPlan o ≡ plannedOf bw a b
+  unfolding plannedOf
+  stopped-five o x e f =
+      let c : commonChecks bw a b ≡ Refuse x = common-five bw a b ∙ or-refuse _ (check6 bw a b) x (sym e ∙ f) in
+      rw (c, f)
+
+  pub stopped-six : (o : Out) (x : Answer) → firstFive bw a b ≡ Pass → o ≡ check6 bw a b → o ≡ Refuse x → noPlan o ≡ plannedOf bw a b
+  unfolding plannedOf
+  stopped-six o x p e f =
+      let c : commonChecks bw a b ≡ Refuse x = common-five bw a b ∙ or-next _ (check6 bw a b) p ∙ sym e ∙ f in
+      rw (c, f)
+
+  pub planned-six : (r : List ℕ) (p : Plan) → firstFive bw a b ≡ Pass → check6 bw a b ≡ Pass → r ≡ rowIn16 bw a b → p ≡ planOf (row bw a b)
+      → withPlan r p ≡ plannedOf bw a b
+  unfolding plannedOf
+  planned-six r p e f er ep =
+      let c : commonChecks bw a b ≡ Pass = common-five bw a b ∙ or-pass _ _ e f in
+      rw (c, er, ep)
+
+  -- the first refusal of 1 to 8
+  pub planned-out : plannedOf bw a b .out ≡ commonChecks bw a b or layoutOf (row bw a b)
+  unfolding plannedOf noPlan withPlan planOf _or_
+  planned-out = go (commonChecks bw a b)
+    where
+      go : (o : Out) → plannedAt o (rowIn16 bw a b) (planOf (row bw a b)) .out ≡ o or layoutOf (row bw a b)
+      go Pass = refl
+      go (Refuse x) = refl
+
+  made : commonChecks bw a b ≡ Pass → layoutOf (row bw a b) ≡ Pass → Made bw a b (withPlan (rowIn16 bw a b) (planOf (row bw a b)))
+  unfolding withPlan planOf
+  made c d =
+      let l : bw ≤ 4 = common-pass bw a b c .known in
+      let m : length (row bw a b) ≡ positions bw = row-length bw a b in
+      let n : fieldsTo 0 (at (row bw a b)) (length (row bw a b)) ≡ count bw 1 a = ap (fieldsTo 0 (at (row bw a b))) m ∙ sym (count-1 bw a b l) in
+      let k : fieldsTo 1 (at (row bw a b)) (length (row bw a b)) ≡ count bw 2 b = ap (fieldsTo 1 (at (row bw a b))) m ∙ sym (count-2 bw a b l) in
+      record {
+        common = c;
+        laid = d;
+        the-row = refl;
+        count1 = n;
+        count2 = k;
+        most1 = rw n (count-le bw 1 a);
+        most2 = rw k (count-le bw 2 b);
+        formats = λ q k. shared-bit (row bw a b) d q (rw m k);
+      }
+
+  pub planned-pass : plannedOf bw a b .out ≡ Pass → Made bw a b (plannedOf bw a b)
+  unfolding plannedOf
+  planned-pass e =
+      let f = sym planned-out ∙ e in
+      let c : commonChecks bw a b ≡ Pass = pass-left _ (layoutOf (row bw a b)) f in
+      rw c (made c (pass-right (commonChecks bw a b) _ f))
+
+  -- the first half's refusals are the whole's ..
+  pub planned-refuse : (x : Answer) → plannedOf bw a b .out ≡ Refuse x → readable bw a b ≡ Refuse x
+  planned-refuse x e = readable-stages bw a b ∙ or-refuse _ (userChecks bw a b) x (sym planned-out ∙ e)
+
+  -- .. and where it passes, the second half's
+  pub planned-rest : plannedOf bw a b .out ≡ Pass → readable bw a b ≡ userChecks bw a b
+  planned-rest e = readable-stages bw a b ∙ or-next _ (userChecks bw a b) (sym planned-out ∙ e)
+
+  -- what a result of the first half that passes is
+  pub planned-made : (p : Planned) → p ≡ plannedOf bw a b → p .out ≡ Pass → Made bw a b p
+  planned-made p e f = rw e (planned-pass (out-is e f))
