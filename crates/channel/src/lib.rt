@@ -1,7 +1,9 @@
 // Where everything lies in a channel, by bandwidth code: its fields, its row of values, its User fields and blocks.
 ghost use mathlib.Core.Path.{_≡_};
 ghost use Prim.Native.Nat.{_+_, _*_, _≤_, _<_};
-ghost use Rattle.channel.specs.Layout.{positions, present, firsts, seconds, firstBits, secondAt, secondBits, hasSecond, common, subfieldsIn, valueAt, value, rowAt, rowIn16, count, userAt, blockAt, covered, endOf};
+ghost use lib.ListN.{length};
+ghost use Rattle.channel.specs.Windows.{firstWindow, Turns};
+ghost use Rattle.channel.specs.Layout.{positions, present, firsts, seconds, firstBits, secondAt, secondBits, hasSecond, common, subfieldsIn, valueAt, value, rowIn16, count, userAt, blockAt, covered, endOf};
 
 // Whether the bandwidth has the channel.
 pub fn is_present(bw: u32, channel: u32) -> bool
@@ -130,30 +132,48 @@ pub fn count_of(bw: u32, channel: u32, s: &[u8]) -> usize
     sum
 }
 
-// The value at position p.
-fn row_value(bw: u32, a: &[u8], b: &[u8], p: usize) -> u16
-    requires { ⌜ p < 16 ⌝ }
-    ensures { λ r. ⌜ r ≡ rowAt bw (now (a .entry)) (now (b .entry)) p ⌝ }
+// The window at bit 0 from its first value on: a channel's values of the first part, the lowest first. 0 where the
+// bandwidth lacks the channel.
+fn first_window(bw: u32, channel: u32, s: &[u8]) -> u64
+    ensures { λ r. ⌜ r ≡ firstWindow bw channel (now (s .entry)) ⌝ }
 {
-    if p % 2 == 0 {
-        value_of(bw, a, p / 2)
+    if is_present(bw, channel) {
+        bits::wide_from(s, 0) >> 17
     } else {
-        value_of(bw, b, p / 2)
+        0
     }
 }
 
-// The row by rising position, and 0 past it.
+// The n lowest values of x and those of y, taking turns from position p on.
+fn put_turns(row: &mut [u16], p: usize, n: usize, x: u64, y: u64)
+    requires { ⌜ (n ≤ 6) × (p ≤ 4) × (p + 2 * n ≤ length (now row)) ⌝ }
+    ensures { λ _. ⌜ Turns (now (row .entry)) p n x y (now (row .exit)) ⌝ }
+{
+    let mut k: usize = 0;
+    while k < n {
+        row[p + 2 * k] = ((x >> (9 * k)) % 512) as u16;
+        row[p + 2 * k + 1] = ((y >> (9 * k)) % 512) as u16;
+        k += 1;
+    }
+}
+
+// The row by rising position, and 0 past it: each part of each channel through one window.
 pub fn fill_row(bw: u32, a: &[u8], b: &[u8]) -> [u16; 16]
     requires { ⌜ bw ≤ 4 ⌝ }
     ensures { λ r. ⌜ r ≡ rowIn16 bw (now (a .entry)) (now (b .entry)) ⌝ }
 {
-    let n = positions_of(bw);
+    let n = firsts_of(bw);
+    let x = first_window(bw, 1, a);
+    let y = first_window(bw, 2, b);
     let mut row = [0u16; 16];
-    let mut p: usize = 0;
-    while p < n {
-        row[p] = row_value(bw, a, b, p);
-        p += 1;
+    put_turns(&mut row, 0, n, x, y);
+    if !has_second(bw) {
+        return row;
     }
+    let m = seconds_of(bw);
+    let z = bits::wide_from(a, second_at(bw));
+    let w = bits::wide_from(b, second_at(bw));
+    put_turns(&mut row, 2 * n, m, z, w);
     row
 }
 

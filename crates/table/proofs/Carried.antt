@@ -12,7 +12,7 @@ use Rattle.answer.specs.declared.Out.the-variants.{Pass}
 use Rattle.resource.specs.Values.{carried}
 use Rattle.plan.specs.Plan.{at}
 use Rattle.plan.specs.Guess.{every}
-use Rattle.channel.specs.Layout.{positions, subfieldsIn, value, row}
+use Rattle.channel.specs.Layout.{positions, subfieldsIn, row}
 use Rattle.channel.specs.Laws.{place-1, place-2, row-length, row-even, row-odd, position-subfield}
 use Rattle.faults.specs.Passing.{notCarried-pass, pass-notCarried}
 use Rattle.table.specs.Table.{check6}

@@ -8,9 +8,8 @@ use lib.ListN.{length}
 use borrow.Author.Tests.{ltb-false}
 use Rattle.answer.specs.Answer.{_or_}
 use Rattle.answer.specs.Order.{first-chain, pass-left, pass-right, pass-if, or-assoc}
-use Rattle.answer.specs.declared.Answer.{Answer}
 use Rattle.answer.specs.declared.Out.{Out}
-use Rattle.answer.specs.declared.Out.the-variants.{Pass, Refuse}
+use Rattle.answer.specs.declared.Out.the-variants.{Pass}
 use Rattle.plan.specs.Guess.{layoutOf}
 use Rattle.channel.specs.Layout.{row}
 use Rattle.faults.specs.Checks.{tooLong}

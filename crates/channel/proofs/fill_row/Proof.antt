@@ -1,71 +1,84 @@
 -- `channel::fill_row` meets its contract. Assumes nothing.
-use Prim.Native.Nat.{ℕ, _-_, _≤_}
-use mathlib.Core.Path.{_≡_, _∙_, ap}
-use native.Mathlib.Omega.{arith}
-use lib.ListN.{replicate, set}
-use mathlib.Core.List.{List}
-use Rattle.answer.specs.Filled.{filled, filled-start, filled-step}
-use Rattle.channel.specs.Layout.{rowAt, rowIn16}
+use mathlib.Core.Path.{sym, _∙_}
+use Rattle.channel.proofs.Windows.{narrow-row, wide-row, not-true, not-false}
 use borrow.Author.Needs.{needs}
 use Rattle.channel.proofs.fill_row.Statement.{statement}
 use Rattle.channel.proofs.fill_row.Tie as tie
 
-abbrev Inv-loop : tie.InvT-loop
-Inv-loop bw a b n row₀ p₀ row p = (p ≤ n) × (row ≡ filled (rowAt bw a b) p (replicate 16 0))
+firsts-of-requires : tie.Need-firsts-of-requires
+firsts-of-requires c κs = search needs
 
-abbrev μ-loop : tie.MeasureT-loop
-μ-loop bw a b n row₀ p₀ row p = n - p
+first-window-requires : tie.Need-first-window-requires
+first-window-requires c κs = search needs
 
-positions-of-requires : tie.Need-positions-of-requires Inv-loop μ-loop
-positions-of-requires c κs = search needs
+first-window-requires-2 : tie.Need-first-window-requires-2
+first-window-requires-2 c κs = search needs
 
-loop-holds : tie.Need-loop-holds Inv-loop μ-loop
-loop-holds c = (search needs, filled-start _ _)
+slice-aggregate-put-turns : tie.Need-slice-aggregate-put-turns
+slice-aggregate-put-turns c = search needs
 
-row-value-requires : tie.Need-row-value-requires Inv-loop μ-loop
-row-value-requires c κs = search needs
+put-turns-requires : tie.Need-put-turns-requires
+put-turns-requires c κs = search needs
 
-mul-row : tie.Need-mul-row Inv-loop μ-loop
-mul-row c = search needs
+has-second-requires : tie.Need-has-second-requires
+has-second-requires c κs = search needs
 
-array-write-row : tie.Need-array-write-row Inv-loop μ-loop
-array-write-row c = search needs
-
-add-p : tie.Need-add-p Inv-loop μ-loop
-add-p c = search needs
-
-loop-less : tie.Need-loop-less Inv-loop μ-loop
-loop-less c = search needs
-
-loop-again : tie.Need-loop-again Inv-loop μ-loop
-loop-again c =
-    let a = c .before .before .before .before .before .before .args in
-    let l = c .before .before .loop in
-    let f = rowAt (a .bw) (a .a .now) (a .b .now) in (
-      omega arith,
-      ap (λ (r : List ℕ). set r (l .p) (c .row-value .result)) (l .inv .1)
-          ∙ filled-step f (l .p) (c .row-value .result) (replicate 16 0) (omega arith) (c .row-value .ensures),
-    )
-
-returns : tie.Need-returns Inv-loop μ-loop
-unfolding rowIn16
+returns : tie.Need-returns
 returns c =
-    let a = c .before .before .before .before .before .args in
-    let e : c .before .loop .p ≡ c .before .before .positions-of .result = omega arith in
-    c .before .loop .inv .1 ∙ ap (λ (n : ℕ). filled (rowAt (a .bw) (a .a .now) (a .b .now)) n (replicate 16 0)) (e ∙ c .before .before .positions-of .ensures .0)
+    let s = c .before .before .before .before .before .before .before .before .before .before .args in
+    let t = rw (c .before .before .before .before .before .before .before .firsts-of .ensures .0, c .before .before .before .before .before .before .first-window .ensures, c .before .before .before .before .before .first-window2 .ensures) at (c .before .before .before .put-turns .ensures) in
+    narrow-row (s .bw) (s .a .now) (s .b .now) _ (c .before .before .before .before .before .before .before .before .before .before .pre) (sym (c .before .has-second .ensures) ∙ not-true _ (c .if1 .taken)) t
+
+seconds-of-requires : tie.Need-seconds-of-requires
+seconds-of-requires c κs = search needs
+
+second-at-requires : tie.Need-second-at-requires
+second-at-requires c κs = search needs
+
+wide-from-requires : tie.Need-wide-from-requires
+wide-from-requires c κs = search needs
+
+second-at-requires-2 : tie.Need-second-at-requires-2
+second-at-requires-2 c κs = search needs
+
+wide-from-requires-2 : tie.Need-wide-from-requires-2
+wide-from-requires-2 c κs = search needs
+
+slice-aggregate-put-turns-2 : tie.Need-slice-aggregate-put-turns-2
+slice-aggregate-put-turns-2 c = search needs
+
+mul-put-turns : tie.Need-mul-put-turns
+mul-put-turns c = search needs
+
+put-turns-requires-2 : tie.Need-put-turns-requires-2
+put-turns-requires-2 c κs = search needs
+
+returns-2 : tie.Need-returns-2
+returns-2 c =
+    let s = c .before .before .before .before .before .before .before .before .before .before .before .before .before .before .before .before .before .before .args in
+    let t = rw (c .before .before .before .before .before .before .before .before .before .before .before .before .before .before .before .firsts-of .ensures .0, c .before .before .before .before .before .before .before .before .before .before .before .before .before .before .first-window .ensures, c .before .before .before .before .before .before .before .before .before .before .before .before .before .first-window2 .ensures) at (c .before .before .before .before .before .before .before .before .before .before .before .put-turns .ensures) in
+    let u = rw (c .before .before .before .before .before .before .before .before .before .before .before .before .before .before .before .firsts-of .ensures .0, c .before .before .before .before .before .before .before .seconds-of .ensures .0) at (c .before .put-turns2 .ensures) in
+    let x = rw (c .before .before .before .before .before .before .second-at .ensures .0) at (c .before .before .before .before .before .wide-from .ensures) in
+    let y = rw (c .before .before .before .before .second-at2 .ensures .0) at (c .before .before .before .wide-from2 .ensures) in
+    wide-row (s .bw) (s .a .now) (s .b .now) _ _ _ _ (c .before .before .before .before .before .before .before .before .before .before .before .before .before .before .before .before .before .before .pre) (sym (c .before .before .before .before .before .before .before .before .before .has-second .ensures) ∙ not-false _ (c .before .before .before .before .before .before .before .before .if1 .left)) t x y u
 
 pub fill-row-spec : {M : Type 1} → statement M
 fill-row-spec =
     tie.close
     (tie.spec
-    Inv-loop
-    μ-loop
-    positions-of-requires
-    loop-holds
-    row-value-requires
-    mul-row
-    array-write-row
-    add-p
-    loop-less
-    loop-again
-    returns)
+    firsts-of-requires
+    first-window-requires
+    first-window-requires-2
+    slice-aggregate-put-turns
+    put-turns-requires
+    has-second-requires
+    returns
+    seconds-of-requires
+    second-at-requires
+    wide-from-requires
+    second-at-requires-2
+    wide-from-requires-2
+    slice-aggregate-put-turns-2
+    mul-put-turns
+    put-turns-requires-2
+    returns-2)

@@ -1,7 +1,6 @@
 -- `table::refused` meets its contract. Assumes nothing.
 use mathlib.Core.Path.{refl}
 use Rattle.table.specs.Half.{noPlan}
-use borrow.Author.Needs.{needs}
 use Rattle.table.proofs.refused.Statement.{statement}
 use Rattle.table.proofs.refused.Tie as tie
 
