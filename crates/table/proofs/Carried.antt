@@ -11,12 +11,11 @@ use Rattle.answer.specs.Order.{pass-left, pass-right, or-pass}
 use Rattle.answer.specs.declared.Out.the-variants.{Pass}
 use Rattle.resource.specs.Values.{carried}
 use Rattle.plan.specs.Plan.{at}
-use Rattle.plan.specs.Guess.{every}
 use Rattle.channel.specs.Layout.{positions, subfieldsIn, row}
 use Rattle.channel.specs.Laws.{place-1, place-2, row-length, row-even, row-odd, position-subfield}
 use Rattle.faults.specs.Passing.{notCarried-pass, pass-notCarried}
 use Rattle.table.specs.Table.{check6}
-use Rattle.table.specs.Half.{allCarried}
+use Rattle.table.specs.Half.{every, allCarried}
 
 pub every-next : (t : ℕ → Bool) (n : ℕ) → every t n && t n ≡ every t (n + 1)
 every-next t n = rw add-one refl

@@ -2,14 +2,14 @@
 use mathlib.Core.Path.{_≡_, refl, sym, _∙_, ap}
 use mathlib.Core.Bool.{Bool, true, false, cond}
 use mathlib.Core.List.{List, [], _∷_, _++_}
-use Prim.Native.Nat.{ℕ, _+_, _-_}
+use Prim.Native.Nat.{ℕ, _+_, _-_, _/_}
 use lib.Dec.{ltb}
+use lib.ListN.{length}
 use Rattle.answer.specs.Answer.{no}
 use Rattle.answer.specs.Order.{Only, only-if, only-or, Gives, none, more, refuse-if}
 use Rattle.answer.specs.declared.Answer.{Answer}
 use Rattle.answer.specs.declared.Out.{Out}
-use Rattle.plan.specs.Guess.{unplanned, overEight, answer7, answer8}
-use Rattle.plan.specs.Layout.{segments}
+use Rattle.plan.specs.Guess.{firstWrong, firstOver, answer7, answer8}
 use Rattle.channel.specs.Layout.{row, count, userAt}
 use Rattle.faults.specs.Passing.{tooLong-only, cutCommon-only, wrongCommon-only, overflowDiffers-only, notCarried-only, cutUsers-only, wrongUsers-only}
 use Rattle.stations.specs.Stations.{stationTwice, stationPlace, firstRepeated}
@@ -58,11 +58,11 @@ module _ (bw : ℕ) (a b : List ℕ) where
 
   only-7 : Only 7 (check7 bw a b)
   unfolding check7 answer7
-  only-7 = only-if (ltb (unplanned (row bw a b)) (segments (row bw a b))) 7 0 (unplanned (row bw a b))
+  only-7 = only-if (ltb (firstWrong (row bw a b)) (length (row bw a b))) 7 0 (firstWrong (row bw a b) / 4)
 
   only-8 : Only 8 (check8 bw a b)
   unfolding check8 answer8
-  only-8 = only-if (ltb (overEight (row bw a b)) (segments (row bw a b))) 8 0 (overEight (row bw a b))
+  only-8 = only-if (ltb (firstOver (row bw a b)) (length (row bw a b))) 8 0 (firstOver (row bw a b) / 4)
 
   only-9 : Only 9 (check9 bw a b)
   unfolding check9

@@ -1,18 +1,22 @@
 -- What the first half of a reading tells: 1 to 8, and the plan of a frame that passes them. Assumes nothing.
-use mathlib.Core.Bool.{Bool}
+use mathlib.Core.Bool.{Bool, true, _&&_}
 use mathlib.Core.List.{List}
-use Prim.Native.Nat.{ℕ}
+use Prim.Native.Nat.{ℕ, zero, suc}
 use lib.ListN.{length, replicate}
 use Rattle.answer.specs.declared.Out.{Out}
 use Rattle.answer.specs.declared.Out.the-variants.{Pass, Refuse}
 use Rattle.resource.specs.Values.{carried}
 use Rattle.plan.specs.declared.Plan.{Plan}
 use Rattle.plan.specs.Plan.{at}
-use Rattle.plan.specs.Guess.{every}
 use Rattle.plan.specs.Value.{planOf}
 use Rattle.channel.specs.Layout.{row, rowIn16}
 use Rattle.table.specs.declared.Planned.{Planned}
 use Rattle.table.specs.Stages.{commonChecks}
+
+-- all below n pass
+abbrev pub every : (ℕ → Bool) → ℕ → Bool
+every t zero = true
+every t (suc n) = every t n && t n
 
 -- every value of the row is one that 01 lists
 unfoldable pub allCarried : List ℕ → Bool

@@ -5,8 +5,7 @@ use native.Mathlib.Omega.{arith}
 use lib.ListN.{length}
 use Rattle.resource.specs.Values.{carried}
 use Rattle.plan.specs.Plan.{at}
-use Rattle.plan.specs.Guess.{every}
-use Rattle.table.specs.Half.{allCarried}
+use Rattle.table.specs.Half.{every, allCarried}
 use Rattle.table.proofs.Carried.{every-next}
 use borrow.Author.Needs.{needs}
 use Rattle.table.proofs.all_carried.Statement.{statement}

@@ -82,7 +82,7 @@ returns-3 c =
     let e = sym (c .before .before .before .before .before .before .before .before .before .before .before .first-five .ensures) ∙ c .before .before .before .before .before .before .before .before .before .enum-told2 .given .1 in
     let f = sym (c .before .before .before .before .before .not-carried .ensures) ∙ c .before .before .before .enum-told4 .given .1 in
     let r = c .before .before .before .before .before .before .before .before .fill-row .ensures in
-    let p = c .before .plan-of .ensures ∙ ap planOf (front (s .bw) (s .a .now) (s .b .now) _ _ (c .before .before .before .before .before .before .before .positions-of .ensures .0) r) in
+    let p = c .before .plan-of .ensures .0 ∙ ap planOf (front (s .bw) (s .a .now) (s .b .now) _ _ (c .before .before .before .before .before .before .before .positions-of .ensures .0) r) in
     planned-six (s .bw) (s .a .now) (s .b .now) _ _ e f r p
 
 pub plan-frame-spec : {M : Type 1} → statement M
