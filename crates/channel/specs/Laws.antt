@@ -339,7 +339,7 @@ count-row bw a b l = go (decLt 0 bw) ∙ sym (total-cong (λ p. fieldsOf (getD (
 
 -- each channel's by the row's values at its own positions
 
-halves : (bw : ℕ) → bw ≤ 4 → ((positions bw + 1) / 2 ≡ subfieldsIn bw 1) × (positions bw / 2 ≡ subfieldsIn bw 2)
+pub halves : (bw : ℕ) → bw ≤ 4 → ((positions bw + 1) / 2 ≡ subfieldsIn bw 1) × (positions bw / 2 ≡ subfieldsIn bw 2)
 halves bw l = go (decLt 0 bw)
   where
     lone : (bw : ℕ) → bw ≡ 0 → ((positions bw + 1) / 2 ≡ subfieldsIn bw 1) × (positions bw / 2 ≡ subfieldsIn bw 2)

@@ -3,14 +3,14 @@
 use mathlib.Core.Path.{_≡_, sym, _∙_, ap}
 use mathlib.Core.List.{List}
 use Prim.Native.Nat.{ℕ, zero, suc, _+_, _-_, _*_, _/_, _%_, _≤_, _<_}
-use native.Mathlib.Decide.{decLt, ℕ-discrete}
+use native.Mathlib.Decide.{ℕ-discrete}
 use native.Mathlib.Omega.{arith}
 use lib.ListN.{length}
 use borrow.Author.Tests.{eq-eqb, ne-eqb}
 use Rattle.resource.specs.Values.{fieldsOf}
 use Rattle.plan.specs.Plan.{at}
-use Rattle.channel.specs.Layout.{positions, present, firsts, seconds, subfields, subfieldsIn, value, row, total, count}
-use Rattle.channel.specs.Laws.{half, subfields-wide, place-1, place-2, total-cong, row-length, row-even, row-odd}
+use Rattle.channel.specs.Layout.{subfieldsIn, value, row, total, count}
+use Rattle.channel.specs.Laws.{halves, place-1, place-2, total-cong, row-length, row-even, row-odd}
 use Rattle.records.specs.Owns.{fieldsBefore, ComesFrom}
 use Rattle.frame.specs.Words.{before, giver, positionOf}
 use Rattle.frame.proofs.Givers.{giver-is, before-next}
@@ -71,23 +71,8 @@ module _ (bw : ℕ) (a b : List ℕ) (l : bw ≤ 4) where
   same-2 : (k : ℕ) → k < subfieldsIn bw 2 → at r (2 * k + 1) ≡ value bw b k
   same-2 k m = row-odd bw a b k (place-2 bw k l m)
 
-  narrow : bw ≡ 0 → ((length r + 1 - 0) / 2 ≡ subfieldsIn bw 1) × ((length r + 1 - 1) / 2 ≡ subfieldsIn bw 2)
-  unfolding positions subfieldsIn present subfields firsts seconds
-  narrow e =
-      let n : positions bw ≡ 1 = rw e in
-      let h : subfieldsIn bw 1 ≡ 1 = rw e in
-      let k : subfieldsIn bw 2 ≡ 0 = rw e in
-      (omega (arith, row-length bw a b), omega (arith, row-length bw a b))
-
   sizes : ((length r + 1 - 0) / 2 ≡ subfieldsIn bw 1) × ((length r + 1 - 1) / 2 ≡ subfieldsIn bw 2)
-  sizes = go (decLt 0 bw)
-    where
-      go : Dec (0 < bw) → ((length r + 1 - 0) / 2 ≡ subfieldsIn bw 1) × ((length r + 1 - 1) / 2 ≡ subfieldsIn bw 2)
-      go (yes h) = (
-        omega (arith, row-length bw a b, half bw h l, subfields-wide bw 1 h),
-        omega (arith, row-length bw a b, half bw h l, subfields-wide bw 2 h),
-      )
-      go (no h) = narrow (omega arith)
+  sizes = (omega (arith, row-length bw a b, halves bw l .0), omega (arith, row-length bw a b, halves bw l .1))
 
   -- each channel's fields by the row are its own count
   pub row-count-1 : fieldsBefore 0 (at r) (length r) ≡ count bw 1 a

@@ -1,7 +1,7 @@
 // The radiotap words of a frame.
 ghost use mathlib.Core.Path.{_≡_};
 ghost use mathlib.Core.List.{_++_};
-ghost use Prim.Native.Nat.{_+_, _<_, _≤_};
+ghost use Prim.Native.Nat.{_+_, _≤_};
 ghost use lib.ListN.{length, drop};
 ghost use Rattle.answer.specs.Filled.{filled};
 ghost use Rattle.channel.specs.Layout.{count};

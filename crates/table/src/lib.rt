@@ -68,7 +68,7 @@ fn first_five(bw: u32, a: &[u8], b: &[u8], sealed: bool) -> Out
 
 // ---- the first half: 1 to 8, and the plan of a frame that passes them
 
-// Whether every value of the row is carried. No value is left out early, so the loop has one way through.
+// Whether every value of the row is carried. It looks at all of them, so that the loop has one way out.
 fn all_carried(row: &[u16]) -> bool
     ensures { λ r. ⌜ r ≡ allCarried (now (row .entry)) ⌝ }
 {
