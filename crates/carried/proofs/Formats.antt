@@ -1,5 +1,6 @@
 -- The reader's plan is 01's, and each User word is of the format that its field's owner has. Assumes nothing.
 use mathlib.Core.Path.{_≡_, refl, sym, _∙_, ap, subst}
+use mathlib.Core.Logic.{⊎-elim}
 use mathlib.Core.Bool.{Bool, true, false}
 use mathlib.Core.List.{List}
 use Prim.Native.Nat.{ℕ, _+_, _/_, _%_, _≤_, _<_}
@@ -14,19 +15,21 @@ use Rattle.answer.specs.declared.Answer.{Answer}
 use Rattle.answer.specs.declared.Out.the-variants.{Pass}
 use Rattle.bits.specs.Bits.{field}
 use Rattle.resource.specs.Values.{fieldsOf}
-use Rattle.plan.specs.declared.Owner.{Owner}
-use Rattle.plan.specs.declared.Owner.the-variants.{Itself, Pair, Whole, Three}
-use Rattle.plan.specs.Plan.{at, span, Place, Fits, Signals}
+use Rattle.resource.specs.Starts.{pieceAt}
+use Rattle.plan.specs.Kinds.{span}
+use Rattle.plan.specs.Plan.{at, Place, Fits, Signals}
 use Rattle.plan.specs.Fields.{share, fieldsIn, total, shared}
 use Rattle.plan.specs.Layout.{Laid}
 use Rattle.plan.specs.Guess.{layoutOf}
+use Rattle.plan.proofs.Table.{equal-or}
 use Rattle.plan.proofs.Laid.{layout-laid}
 use Rattle.plan.proofs.Demand.{accepted-plan, only-plan}
 use Rattle.records.specs.declared.Record.{Record}
-use Rattle.records.specs.Records.{inChannel, divides, pieceFields, recordsFrom, recordsOf, recordAt, blank}
+use Rattle.records.specs.Records.{inChannel, divides, pieceFields, pieceRecord, recordsFrom, recordsOf, recordAt, blank}
 use Rattle.records.specs.Owns.{fieldsBefore, ComesFrom, number, Owns, of-piece, of-place, lowest, ownerOf}
-use Rattle.records.proofs.Listing.{Located, located-record}
-use Rattle.records.proofs.Owners.{before-next, before-rise, in-own, some-pieces, no-pieces-left, divided-low, lowest-only, one-owner, owner-owns}
+use Rattle.records.proofs.Listing.{Located, located-record, own-record, larger-record}
+use Rattle.records.proofs.Lead.{lowest-only, itself-place}
+use Rattle.records.proofs.Owners.{before-next, before-rise, in-own, some-pieces, no-pieces-left, divided-low, one-owner, owner-owns}
 use Rattle.records.proofs.Shares.{low-share, share-fields, own-fieldsIn, home-piece, home-whole, owner-listed}
 use Rattle.channel.specs.Layout.{row, count, userAt}
 use Rattle.words.specs.Words.{nth, userWord}
@@ -50,43 +53,47 @@ one-channel p f = go (ℕ-discrete (p % 2) 0)
     go (yes e) = rw (eq-eqb (p % 2) 0 e, ne-eqb (p % 2) 1 (λ z. omega arith)) (omega arith)
     go (no d) = rw (ne-eqb (p % 2) 0 d, eq-eqb (p % 2) 1 (omega arith)) (omega arith)
 
-own-total : (row : ℕ → ℕ) (p : ℕ) → total Itself row p ≡ share Itself p (row p)
-own-total row p = rw (own-fieldsIn 0 row p, own-fieldsIn 1 row p) (one-channel p (share Itself p (row p)))
+own-total : (row : ℕ → ℕ) (p : ℕ) → total 0 row p ≡ share 0 p (row p)
+own-total row p = rw (own-fieldsIn 0 row p, own-fieldsIn 1 row p) (one-channel p (share 0 p (row p)))
 
 -- the resource at a place has the same fields seen from any of its places
-total-place : (x : Owner) (row : ℕ → ℕ) (p q : ℕ) → q / span x ≡ p / span x → total x row q ≡ total x row p
+total-place : (x : ℕ) (row : ℕ → ℕ) (p q : ℕ) → q / span x ≡ p / span x → total x row q ≡ total x row p
 unfolding fieldsIn
 total-place x row p q e = rw e
 
 -- ---- the fields of the resource that owns a field, and the position that the field comes from
-module _ (o : ℕ → Owner) (row : ℕ → ℕ) (n : ℕ) (s : Signals o row 0 n) where
+module _ (o row : ℕ → ℕ) (n : ℕ) (s : Signals o row 0 n) where
   abbrev rec : ℕ → Record
   rec i = getD (recordsFrom o row n) i blank
 
   -- a piece has one field, and its position gives none to a larger resource
-  piece-alone : (i p k : ℕ) → p < n → k < fieldsOf (row p) → o p ≡ Itself → divides (row p) ≡ true → i ≡ number o row p k
+  piece-alone : (i p k : ℕ) → p < n → k < fieldsOf (row p) → o p ≡ 0 → divides (row p) ≡ true → i ≡ number o row p k
       → leb 2 (together (rec i)) ≡ shared o row p
   unfolding pieceFields
   piece-alone i p k l h e d f =
-      let r : rec i ≡ recordAt Itself row p k =
-      ap rec f ∙ located-record o row n (number o row p k) p k (home-piece o row n s p k l h d) ∙ ap (λ (x : Owner). recordAt x row p k) e in
+      let r : rec i ≡ pieceRecord row p (pieceAt (row p) k) =
+      ap rec f ∙ located-record o row n (number o row p k) p k (home-piece o row n s p k l h d) ∙ own-record (o p) row p k e in
       let a : together (rec i) ≡ 1 = ap together r ∙ one-channel p (pieceFields (row p)) ∙ rw d in
       let z : total (o p) row p ≡ 0 =
-      ap (λ (x : Owner). total x row p) e ∙ own-total row p ∙ low-share Itself p (row p) (omega (arith, divided-low (row p) d)) in
+      ap (λ (x : ℕ). total x row p) e ∙ own-total row p ∙ low-share 0 p (row p) (omega (arith, divided-low (row p) d)) in
       rw (a, z)
 
   -- any other resource has all the fields of its places
-  all-places : (x : Owner) (p q : ℕ) → o p ≡ x → p < n → divides (row p) ≡ false → q / span x ≡ p / span x → together (recordAt x row q 0) ≡ total x row p
+  own-places : (p : ℕ) → p < n → divides (row p) ≡ false → o p ≡ 0 → together (recordAt (o p) row p 0) ≡ total (o p) row p
   unfolding pieceFields
-  all-places Itself p q e l d g =
-      let z : q ≡ p = omega arith in
-      rw z
-      (one-channel p (pieceFields (row p))
-      ∙ rw d
-      (sym (own-total row p ∙ share-fields Itself p (row p) (subst (λ (x : Owner). Fits x p (row p)) e (s .fits p (omega arith) l)) d)))
-  all-places Pair p q e l d g = total-place Pair row p q g
-  all-places Whole p q e l d g = total-place Whole row p q g
-  all-places (Three k) p q e l d g = total-place (Three k) row p q g
+  own-places p l d e =
+      ap together (own-record (o p) row p 0 e)
+      ∙ one-channel p (pieceFields (row p))
+      ∙ rw d (sym (rw e (own-total row p ∙ share-fields 0 p (row p) (subst (λ (x : ℕ). Fits x p (row p)) e (s .fits p (omega arith) l)) d)))
+
+  all-places : (p q : ℕ) → p < n → divides (row p) ≡ false → Place (o p) p q → together (recordAt (o p) row q 0) ≡ total (o p) row p
+  all-places p q l d m =
+      ⊎-elim
+      (λ e.
+      let z : q ≡ p = itself-place p q (subst (λ (x : ℕ). Place x p q) e m) in
+      rw z (own-places p l d e))
+      (λ e. ap together (larger-record (o p) row q 0 e) ∙ total-place (o p) row p q (m .0))
+      (equal-or (o p) 0)
 
   place-shared : (i p k q : ℕ) → p < n → k < fieldsOf (row p) → divides (row p) ≡ false → Place (o p) p q → q ≡ lowest (o p) p → i ≡ number o row q 0
       → leb 2 (together (rec i)) ≡ shared o row p
@@ -94,8 +101,8 @@ module _ (o : ℕ → Owner) (row : ℕ → ℕ) (n : ℕ) (s : Signals o row 0 
       let w : o q ≡ o p = s .entire p q (omega arith) l m .2 in
       let t : Located o row n (number o row q 0) q 0 = rw g (home-whole o row n s p l (omega arith) d) in
       let r : rec i ≡ recordAt (o p) row q 0 =
-      ap rec f ∙ located-record o row n (number o row q 0) q 0 t ∙ ap (λ (x : Owner). recordAt x row q 0) w in
-      ap (leb 2) (ap together r ∙ all-places (o p) p q refl l d (m .0))
+      ap rec f ∙ located-record o row n (number o row q 0) q 0 t ∙ ap (λ (x : ℕ). recordAt x row q 0) w in
+      ap (leb 2) (ap together r ∙ all-places p q l d m)
 
   -- where the field comes from, and that it is shared there exactly where its owner has two or more
   pub as-owned : (i c j : ℕ) → Owns o row n i c j → (p : ℕ) × (k : ℕ) × ComesFrom row n c j p k × (leb 2 (together (rec i)) ≡ shared o row p)
@@ -111,13 +118,13 @@ format x f v t e g = record {
   shared = λ l. g ∙ ap (λ (u : Bool). userWord u f) (sym e ∙ le-leb 2 (together x) l);
 }
 
-module _ (bw : ℕ) (a b : List ℕ) (l : bw ≤ 4) (o : ℕ → Owner) (s : Signals o (at (row bw a b)) 0 (length (row bw a b))) where
+module _ (bw : ℕ) (a b : List ℕ) (l : bw ≤ 4) (o : ℕ → ℕ) (s : Signals o (at (row bw a b)) 0 (length (row bw a b))) where
   abbrev r : List ℕ
   r = row bw a b
 
   -- the reader's own plan is this one
   reader-plan : (p : ℕ) → p < length r → shared o (at r) p ≡ sharedAt r p
-  reader-plan p h = ap (λ (x : Owner). leb 2 (total x (at r) p)) (only-plan r o s p h)
+  reader-plan p h = ap (λ (x : ℕ). leb 2 (total x (at r) p)) (only-plan r o s p h)
 
   -- of channel c, from 0, whose bytes are d
   owned-word : (c : ℕ) (d : List ℕ) → ((j p k : ℕ) → ComesFrom (at r) (length r) c j p k → positionOf (c + 1) (giver bw (c + 1) d j) ≡ p)

@@ -8,7 +8,6 @@ use mathlib.Core.List.{List}
 use Prim.Native.Nat.{ℕ, _+_, _≤_, _<_}
 use lib.ListN.{length, getD}
 use Rattle.bits.specs.Bits.{field}
-use Rattle.plan.specs.declared.Owner.{Owner}
 use Rattle.plan.specs.Plan.{at, Signals}
 use Rattle.plan.specs.Layout.{PlanOfEight}
 use Rattle.records.specs.declared.Record.{Record}
@@ -27,15 +26,15 @@ pub record WordOn (x : Record) (f v : ℕ) : Type 0 where
   pub shared : 2 ≤ together x → v ≡ userWord true f
 
 -- resource i of the plan o owns field j of channel c, from 0, of a frame of row r
-abbrev pub OwnsIn : (ℕ → Owner) → List ℕ → ℕ → ℕ → ℕ → Type 0
+abbrev pub OwnsIn : (ℕ → ℕ) → List ℕ → ℕ → ℕ → ℕ → Type 0
 OwnsIn o r i c j = Owns o (at r) (length r) i c j
 
 -- exactly one does, and it is one of the plan's
-abbrev pub OneOwner : (ℕ → Owner) → List ℕ → ℕ → ℕ → Type 0
+abbrev pub OneOwner : (ℕ → ℕ) → List ℕ → ℕ → ℕ → Type 0
 OneOwner o r c j = (i : ℕ) × (i < length (recordsOf o r)) × OwnsIn o r i c j × ((i′ : ℕ) → OwnsIn o r i′ c j → i′ ≡ i)
 
 -- the User fields of a frame whose channels are a and b, and their words among w, in any plan o that signals the frame's row
-pub record Formatted (bw : ℕ) (a b w : List ℕ) (o : ℕ → Owner) : Type 0 where
+pub record Formatted (bw : ℕ) (a b w : List ℕ) (o : ℕ → ℕ) : Type 0 where
   -- each field below a channel's count has one owner ..
   pub one-1 : (j : ℕ) → j < count bw 1 a → OneOwner o (row bw a b) 0 j
   pub one-2 : (j : ℕ) → j < count bw 2 b → OneOwner o (row bw a b) 1 j
@@ -48,4 +47,4 @@ pub record Formatted (bw : ℕ) (a b w : List ℕ) (o : ℕ → Owner) : Type 0 
 -- an accepted frame's row has a plan with at most eight fields on each resource, and in every plan that signals it the words are so
 pub record UserWords (bw : ℕ) (a b w : List ℕ) : Type 0 where
   pub a-plan : PlanOfEight (row bw a b) 0 (length (row bw a b))
-  pub each-plan : (o : ℕ → Owner) → Signals o (at (row bw a b)) 0 (length (row bw a b)) → Formatted bw a b w o
+  pub each-plan : (o : ℕ → ℕ) → Signals o (at (row bw a b)) 0 (length (row bw a b)) → Formatted bw a b w o

@@ -14,17 +14,18 @@ use Rattle.answer.specs.declared.Out.the-variants.{Pass, Refuse}
 use Rattle.bits.specs.Bits.{bit}
 use Rattle.check4.specs.Check.{check, step, register, sent}
 use Rattle.resource.specs.Names.{nameOf, numberOf}
-use Rattle.resource.specs.Values.{carried, pieces, fieldsOf, ownPieces}
+use Rattle.resource.specs.Values.{carried, pieces, fieldsOf, ownPieces, smallerAt}
 use Rattle.resource.specs.Index.{indexOf, resourceAt}
-use Rattle.plan.specs.declared.Owner.{Owner}
+use Rattle.plan.specs.Kinds.{kinds, kindAt, family, span, mask, takes, takesBlock, blankAt, mustName}
 use Rattle.plan.specs.Plan.{at, Signals}
 use Rattle.plan.specs.Fields.{gives, share, fieldsIn}
 use Rattle.plan.specs.Layout.{Plan, PlanOfEight, Laid, accepted, no-plan, over-eight}
-use Rattle.plan.specs.Guess.{threeOf, orElse, like996, like484, choose, onlyPlan, fitting, planned, withinEight, unplanned, overEight, answer7, answer8, layoutOf}
+use Rattle.plan.specs.Guess.{nameOf as kindNamed}
+use Rattle.plan.specs.Guess.{kindOf, orElse, tells, choose, onlyPlan, fitting, within, rightAt, firstWrong, firstOver, answer7, answer8, layoutOf}
 use Rattle.plan.proofs.Laid.{layout-laid}
 use Rattle.plan.proofs.Demand.{accepted-plan, plan-accepted, only-plan, plan-parts, parts-plan}
 use Rattle.records.specs.declared.Record.{Record}
-use Rattle.records.specs.Records.{divides, pieceFields, larger, listAt, recordsOf}
+use Rattle.records.specs.Records.{divides, pieceFields, lead, resources, larger, listAt, recordsOf}
 use Rattle.records.proofs.Listing.{same-records}
 
 -- a resource as 01 names it: its subcarriers, its index, its fields over both channels
@@ -46,7 +47,7 @@ Holds (gets-7 row) = Plan row 0 (length row) → ⊥
 Holds (gets-8 row) = Plan row 0 (length row) × (PlanOfEight row 0 (length row) → ⊥)
 Holds (gets-0 row rs) =
     PlanOfEight row 0 (length row)
-    × ((o : ℕ → Owner) → Signals o (at row) 0 (length row) → map shown (recordsOf o row) ≡ rs)
+    × ((o : ℕ → ℕ) → Signals o (at row) 0 (length row) → map shown (recordsOf o row) ≡ rs)
 Holds (has-check s n v) = check s 0 n ≡ v
 
 abbrev pub All : List Check → Type 0
@@ -137,7 +138,7 @@ all-hold [] e = tt
 all-hold (c ∷ cs) e = (holds c (e .0), all-hold cs (e .1))
 
 computed : AllComputed bench
-unfolding layoutOf answer7 answer8 unplanned overEight least planned withinEight fitting onlyPlan choose like996 like484 threeOf orElse gives share fieldsIn _or_ listAt pieceFields divides larger pieces fieldsOf ownPieces indexOf resourceAt carried bit step register sent check
+unfolding layoutOf answer7 answer8 firstWrong firstOver least rightAt within fitting onlyPlan choose tells orElse kindNamed kindOf mustName blankAt takesBlock takes mask span family kindAt kinds gives share fieldsIn _or_ listAt lead resources larger pieceFields divides pieces fieldsOf ownPieces smallerAt indexOf resourceAt carried bit step register sent check
 computed = (
   (refl, refl),
   (

@@ -18,7 +18,6 @@ use Rattle.answer.specs.Answer.{no}
 use Rattle.answer.specs.declared.Out.{Out}
 use Rattle.answer.specs.declared.Out.the-variants.{Pass, Refuse}
 use Rattle.bits.specs.Writes.{Small}
-use Rattle.plan.specs.declared.Owner.{Owner}
 use Rattle.plan.specs.Plan.{at, Signals}
 use Rattle.plan.specs.Layout.{PlanOfEight, Laid, accepted}
 use Rattle.plan.proofs.Laid.{laid-same}
@@ -36,21 +35,21 @@ use Rattle.carried.proofs.Channels.{some-channels}
 use Rattle.carried.proofs.Answers.{ReadAccepts, all-channels, no-reader-always-refuses}
 
 -- the resources of the plan o at the first n positions, and u a subcarrier of resource i, counted from the lower edge of the channel
-abbrev pub Tone : (ℕ → Owner) → (ℕ → ℕ) → ℕ → ℕ → ℕ → Type 0
+abbrev pub Tone : (ℕ → ℕ) → (ℕ → ℕ) → ℕ → ℕ → ℕ → Type 0
 Tone o row n i u = HasTone n (getD (recordsFrom o row n) i blank) u
 
 -- "no two resources share a subcarrier"
-abbrev pub Apart : (ℕ → Owner) → (ℕ → ℕ) → ℕ → Type 0
+abbrev pub Apart : (ℕ → ℕ) → (ℕ → ℕ) → ℕ → Type 0
 Apart o row n =
     (i j u : ℕ) → i < length (recordsFrom o row n) → j < length (recordsFrom o row n) → i ≢ j → Tone o row n i u → Tone o row n j u → ⊥
 
 -- "none has one in a punctured 20 MHz"
-abbrev pub NotPunctured : (ℕ → Owner) → (ℕ → ℕ) → ℕ → Type 0
+abbrev pub NotPunctured : (ℕ → ℕ) → (ℕ → ℕ) → ℕ → Type 0
 NotPunctured o row n =
     (i q u : ℕ) → i < length (recordsFrom o row n) → q < n → row q ≡ 26 → Punctured n q u → Tone o row n i u → ⊥
 
 -- each has 01's subcarriers, as many as its name says, so none is apart for want of them
-abbrev pub RightTones : (ℕ → Owner) → (ℕ → ℕ) → ℕ → Type 0
+abbrev pub RightTones : (ℕ → ℕ) → (ℕ → ℕ) → ℕ → Type 0
 RightTones o row n = (i : ℕ) → i < length (recordsFrom o row n) → RightRecord n (getD (recordsFrom o row n) i blank)
 
 pub record Third (b : ℕ) (row : List ℕ) : Type 1 where
@@ -58,18 +57,18 @@ pub record Third (b : ℕ) (row : List ℕ) : Type 1 where
   pub is-accepted : (x : Out) → Laid row x → PlanOfEight row 0 (length row) → x ≡ Pass
   pub has-plan : (x : Out) → Laid row x → x ≡ Pass → PlanOfEight row 0 (length row)
   -- "and only that plan does": at every position of the row, and so in its resources
-  pub only-that : (o o′ : ℕ → Owner) → Signals o (at row) 0 (length row) → Signals o′ (at row) 0 (length row)
+  pub only-that : (o o′ : ℕ → ℕ) → Signals o (at row) 0 (length row) → Signals o′ (at row) 0 (length row)
       → ((p : ℕ) → p < length row → o p ≡ o′ p) × (recordsOf o row ≡ recordsOf o′ row)
   -- "Otherwise it is refused, for its layout"
   pub refused-otherwise : (x : Out) → Laid row x → (PlanOfEight row 0 (length row) → ⊥)
       → (s : ℕ) × ((x ≡ Refuse (no 7 0 s)) ⊎ (x ≡ Refuse (no 8 0 s)))
   -- "In the plan no two resources share a subcarrier"
-  pub apart : (o : ℕ → Owner) → Signals o (at row) 0 (length row) → Apart o (at row) (length row)
+  pub apart : (o : ℕ → ℕ) → Signals o (at row) 0 (length row) → Apart o (at row) (length row)
   -- "none has one in a punctured 20 MHz"
-  pub not-punctured : (o : ℕ → Owner) → Signals o (at row) 0 (length row) → NotPunctured o (at row) (length row)
-  pub right-tones : (o : ℕ → Owner) → Signals o (at row) 0 (length row) → RightTones o (at row) (length row)
+  pub not-punctured : (o : ℕ → ℕ) → Signals o (at row) 0 (length row) → NotPunctured o (at row) (length row)
+  pub right-tones : (o : ℕ → ℕ) → Signals o (at row) 0 (length row) → RightTones o (at row) (length row)
   -- "each User field in either channel has exactly one resource": one of the plan's
-  pub one-resource : (o : ℕ → Owner) → Signals o (at row) 0 (length row) → (c j : ℕ) → j < fieldsBefore c (at row) (length row)
+  pub one-resource : (o : ℕ → ℕ) → Signals o (at row) 0 (length row) → (c j : ℕ) → j < fieldsBefore c (at row) (length row)
       → (i : ℕ) × (i < length (recordsOf o row)) × Owns o (at row) (length row) i c j × ((i′ : ℕ) → Owns o (at row) (length row) i′ c j → i′ ≡ i)
   -- of whole frames, "A row is accepted when channels that carry it pass checks 1 to 6 and get neither 7 nor 8." (01, "What a plan is").
   -- "any row of carried RU Allocation values of the number it needs": some channels, of bytes, carry it and pass 1 to 6

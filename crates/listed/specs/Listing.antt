@@ -11,7 +11,6 @@ use Rattle.answer.specs.declared.Answer.{Answer}
 use Rattle.answer.specs.declared.Out.{Out}
 use Rattle.answer.specs.declared.Out.the-variants.{Pass, Refuse}
 use Rattle.text.specs.Text.{upto}
-use Rattle.plan.specs.declared.Owner.{Owner}
 use Rattle.plan.specs.Plan.{at}
 use Rattle.plan.specs.Guess.{onlyPlan}
 use Rattle.channel.specs.Layout.{row, count}
@@ -31,9 +30,9 @@ use Rattle.lines.specs.Lines.{ruLine, staLine, refusalText, headText}
 abbrev pub recordLine : ℕ → Record → List ℕ
 recordLine n x = ruLine n (x .segment) (x .resource) (x .fields1 + x .fields2)
 
--- those whose lowest position is p, which is given to o
-abbrev pub listedAt : List ℕ → Owner → ℕ → List Record
-listedAt r o p = listAt o (at r) p
+-- those whose lowest position is p, which is given to c
+abbrev pub listedAt : List ℕ → ℕ → ℕ → List Record
+listedAt r c p = listAt c (at r) p
 
 -- the plan's resources, "by lowest position, then frequency"
 abbrev pub resources : List ℕ → List Record

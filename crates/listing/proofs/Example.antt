@@ -4,11 +4,13 @@ use mathlib.Core.List.{List, [], _∷_, _++_}
 use Prim.Native.Nat.{ℕ, _+_}
 use lib.ListN.{length}
 use Rattle.text.specs.Text.{codes, dec, signed, upto}
-use Rattle.plan.specs.Guess.{onlyPlan, choose, orElse, threeOf, like996, like484}
+use Rattle.answer.specs.Least.{least}
+use Rattle.plan.specs.Kinds.{kinds, kindAt, family, span, mask, takes, takesBlock, blankAt, mustName}
+use Rattle.plan.specs.Guess.{kindOf, nameOf, orElse, tells, choose, onlyPlan}
 use Rattle.resource.specs.Values.{carried, pieces, fieldsOf, ownPieces}
 use Rattle.resource.specs.Index.{indexOf, resourceAt, positionOf, placeOf}
 use Rattle.resource.specs.Runs.{offset106, wide, wideWith26, runsOf}
-use Rattle.records.specs.Records.{divides, pieceFields, listAt}
+use Rattle.records.specs.Records.{divides, pieceFields, lead, listAt}
 use Rattle.records.specs.Owns.{lowest, ownerAt, ownerOf}
 use Rattle.lines.specs.Lines.{nameText, comma, tonesText, ruHead, ruLine, staLine, headText}
 use Rattle.listed.specs.Listing.{resources, ruLines, ownerIn}
@@ -19,5 +21,5 @@ theRow = 50 ∷ 26 ∷ []
 pub worked-listing :
     headText 1 (length (resources theRow)) 2 0 ++ ruLines (length theRow) (resources theRow) ++ (staLine 11 (ownerIn theRow 2 0 + 1) ++ staLine 12 (ownerIn theRow 2 1 + 1))
     ≡ codes "answer=0\nbw=1\nresources=2\nfields1=2\nfields2=0\nstations=2\nru=106 index=1 segment=0 users=1 tones=-243:-138\nru=106+26 index=2 segment=0 users=1 tones=-136:-111,-109:-4\nsta=11 resource=1\nsta=12 resource=2\n"
-unfolding dec signed upto onlyPlan choose orElse threeOf like996 like484 carried pieces fieldsOf ownPieces indexOf resourceAt positionOf placeOf offset106 wide wideWith26 runsOf divides pieceFields listAt lowest ownerAt ownerOf nameText comma tonesText ruHead ruLine staLine headText ruLines ownerIn
+unfolding dec signed upto onlyPlan choose tells orElse nameOf kindOf mustName blankAt takesBlock takes mask span family kindAt kinds least carried pieces fieldsOf ownPieces indexOf resourceAt positionOf placeOf offset106 wide wideWith26 runsOf divides pieceFields lead listAt lowest ownerAt ownerOf nameText comma tonesText ruHead ruLine staLine headText ruLines ownerIn
 worked-listing = refl

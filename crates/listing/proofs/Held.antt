@@ -7,7 +7,6 @@ use native.Mathlib.Numerals.{add-one}
 use lib.ListN.{length, getD, length-append, List·getD-append}
 use lib.Seq.{getD-append-add}
 use Rattle.text.specs.Laws.{upto-cong, upto-append}
-use Rattle.plan.specs.declared.Owner.{Owner}
 use Rattle.plan.specs.Plan.{at}
 use Rattle.plan.specs.Guess.{onlyPlan}
 use Rattle.records.specs.declared.Record.{Record}
@@ -28,5 +27,5 @@ lines-append n xs ys =
     ∙ rw (upto-cong (λ i. recordLine n (getD (xs ++ ys) i blank)) (λ i. recordLine n (getD xs i blank)) (length xs) (λ i l. ap (recordLine n) (List·getD-append xs ys blank i l)), upto-cong (λ i. recordLine n (getD (xs ++ ys) (length xs + i) blank)) (λ i. recordLine n (getD ys i blank)) (length ys) (λ i l. ap (recordLine n) (getD-append-add xs ys i blank))))
 
 -- one position more
-pub lines-next : (n : ℕ) (o : ℕ → Owner) (row : ℕ → ℕ) (p : ℕ) → ruLines n (recordsFrom o row (p + 1)) ≡ ruLines n (recordsFrom o row p) ++ ruLines n (listAt (o p) row p)
+pub lines-next : (n : ℕ) (o row : ℕ → ℕ) (p : ℕ) → ruLines n (recordsFrom o row (p + 1)) ≡ ruLines n (recordsFrom o row p) ++ ruLines n (listAt (o p) row p)
 lines-next n o row p = rw (add-one p) (lines-append n (recordsFrom o row p) (listAt (o p) row p))

@@ -6,15 +6,14 @@ use lines::put_head;
 use lines::put_refusal;
 use lines::put_ru;
 use lines::put_sta;
-use plan::Owner;
 use records::Record;
 ghost use mathlib.Core.Path.{_≡_};
 ghost use Prim.Native.Nat.{_+_, _*_, _≤_, _<_};
 ghost use lib.ListN.{length, getD};
 ghost use Rattle.text.specs.Text.{Wrote, upto};
 ghost use Rattle.input.specs.Parse.{bytesAt, secondAt};
-ghost use Rattle.records.specs.Records.{leftOut};
-ghost use Rattle.records.specs.Tables.{kindsOf, numbersOf};
+ghost use Rattle.plan.specs.Value.{kindsOf};
+ghost use Rattle.records.specs.Tables.{numbersOf};
 ghost use Rattle.listing.specs.Owned.{ownedLine, ownersIn};
 ghost use Rattle.longest.specs.Longest.{longestAt};
 ghost use Rattle.listed.specs.Listing.{recordLine, listedAt, resources, ruLines, staLines, listingOf, listing, listAnswer, listAfter, frameText, programText};
@@ -31,18 +30,18 @@ fn put_record(out: &mut [u8], at: usize, n: u16, x: Record) -> usize
     put_ru(out, at, n, x.segment, resource, users)
 }
 
-// A line for each of the resources whose lowest position is p, which is given to o.
-fn put_position(out: &mut [u8], at: usize, row: &[u16], o: Owner, p: usize) -> usize
-    requires { ⌜ (at ≤ 50000) × (length (now row) ≤ 16) × (p < length (now row)) × (leftOut o < 4) ⌝ }
-    ensures { λ r. ⌜ Wrote (now (out .entry)) at (ruLines (length (now (row .entry))) (listedAt (now (row .entry)) o p)) (now (out .exit)) r ⌝ }
-    ensures bounded { λ r. ⌜ r ≤ at + 240 * length (listedAt (now (row .entry)) o p) ⌝ }
+// A line for each of the resources whose lowest position is p, which is given to this kind.
+fn put_position(out: &mut [u8], at: usize, row: &[u16], kind: u16, p: usize) -> usize
+    requires { ⌜ (at ≤ 50000) × (length (now row) ≤ 16) × (p < length (now row)) × (kind < 7) ⌝ }
+    ensures { λ r. ⌜ Wrote (now (out .entry)) at (ruLines (length (now (row .entry))) (listedAt (now (row .entry)) kind p)) (now (out .exit)) r ⌝ }
+    ensures bounded { λ r. ⌜ r ≤ at + 240 * length (listedAt (now (row .entry)) kind p) ⌝ }
 {
     let n = row.len() as u16;
-    let here = records::listed_of(o, p, row[p]);
+    let here = records::listed_of(kind, p, row[p]);
     let mut e = at;
     let mut k: u16 = 0;
     while k < here {
-        e = put_record(out, e, n, records::record_at(o, row, p, k));
+        e = put_record(out, e, n, records::record_at(kind, row, p, k));
         k += 1;
     }
     e
@@ -58,7 +57,7 @@ fn put_records(out: &mut [u8], at: usize, row: &[u16], kinds: &[u16; 16]) -> usi
     let mut o = at;
     let mut p: usize = 0;
     while p < n {
-        o = put_position(out, o, row, records::owner_in(kinds, row, p), p);
+        o = put_position(out, o, row, kinds[p], p);
         p += 1;
     }
     o
@@ -156,7 +155,8 @@ fn put_row(out: &mut [u8], bw: u32, a: &[u8], b: &[u8], row: &[u16], m: usize, k
     requires { ⌜ (m ≤ 72) × (k ≤ 72) × (length (now row) ≤ 16) ⌝ }
     ensures { λ r. ⌜ Wrote (now (out .entry)) 0 (listingOf bw (now (row .entry)) (now (a .entry)) (now (b .entry)) m k) (now (out .exit)) r ⌝ }
 {
-    let kinds = records::kinds_of(row);
+    let plan = plan::plan_of(row);
+    let kinds = plan.kinds;
     let before = records::numbers_before(&kinds, row);
     put_tabled(out, bw, a, b, row, &kinds, &before, m, k)
 }

@@ -16,20 +16,22 @@ use Rattle.bits.specs.Bits.{bit, field, differs}
 use Rattle.bits.specs.Writes.{Small}
 use Rattle.check4.specs.Check.{step, register, sent, check, right}
 use Rattle.resource.proofs.Test.{both-left, both-right, at-each}
-use Rattle.resource.specs.Values.{carried, pieces, fieldsOf, ownPieces}
+use Rattle.resource.specs.Values.{carried, pieces, fieldsOf, ownPieces, smallerAt}
 use Rattle.channel.specs.Layout.{positions, present, firsts, seconds, firstBits, secondAt, secondBits, hasSecond, common, subfields, subfieldsIn, valueAt, value, rowAt, row, total, count, userAt, blockAt, blocks, covered, endOf}
 use Rattle.faults.specs.Checks.{tooLong, cutCommon, wrongFirst, wrongSecond, wrongCommon, overflowDiffers, foreign, firstForeign, notCarried, cutUsers, wrongBlock, firstWrong, wrongUsersOf, wrongUsers}
 use Rattle.text.specs.Text.{dec, signed, upto}
 use Rattle.resource.specs.Index.{indexOf, resourceAt, positionOf, placeOf}
 use Rattle.resource.specs.Runs.{offset26, offset52, offset106, wide, narrow, narrow26, narrow52, narrow106, runsOf}
-use Rattle.records.specs.Records.{divides, pieceFields, listAt}
+use Rattle.records.specs.Records.{divides, pieceFields, lead, listAt}
 use Rattle.records.specs.Owns.{lowest, ownerAt, ownerOf}
 use Rattle.lines.specs.Lines.{nameText, comma, tonesText, ruHead, ruLine, staLine, headText}
 use Rattle.listed.specs.Listing.{ruLines, ownerIn, staLineAt, staLines, listingOf, listing}
 use Rattle.stations.specs.Stations.{firstRepeated, stationTwice}
 use Rattle.table.specs.Table.{check1, check2, check3, check4, check5, check6, check7, check8, check9, check10, check11, readable}
 use Rattle.plan.specs.Fields.{gives, share, fieldsIn}
-use Rattle.plan.specs.Guess.{threeOf, orElse, like996, like484, choose, onlyPlan, fitting, planned, withinEight, unplanned, overEight, answer7, answer8}
+use Rattle.plan.specs.Kinds.{kinds, kindAt, family, span, mask, takes, takesBlock, blankAt, mustName}
+use Rattle.plan.specs.Guess.{kindOf, nameOf, orElse, tells, choose, onlyPlan, fitting, within, rightAt, firstOver, answer7, answer8}
+use Rattle.plan.specs.Guess.{firstWrong as firstNotRight}
 use Rattle.longest.specs.Longest.{longest, longest-most}
 
 -- ---- frames whose values are all 0, with 0 for the overflow, STA-ID 2047, which may repeat, and 0 for the rest of each User field
@@ -56,7 +58,7 @@ second : ℕ → List ℕ
 second bw = cond (ltb 0 bw) (channel bw) []
 
 is-accepted : (bw : ℕ) → bw < 5 → readable bw (channel bw) (second bw) ≡ Pass
-unfolding times channel second count total present subfieldsIn subfields fieldsOf pieces carried positions row build rowAt value valueAt firsts seconds secondAt firstBits secondBits field bit wrongUsers wrongUsersOf firstWrong wrongBlock least blocks blockAt covered common hasSecond right check sent register step readable check1 check2 check3 check4 check5 check6 check7 check8 check9 check10 check11 tooLong cutCommon wrongFirst wrongSecond wrongCommon overflowDiffers differs foreign firstForeign notCarried cutUsers endOf userAt firstRepeated stationTwice answer7 answer8 unplanned overEight planned withinEight fitting onlyPlan choose orElse threeOf like996 like484 gives share fieldsIn firstOf _or_
+unfolding times channel second count total present subfieldsIn subfields fieldsOf pieces carried positions row build rowAt value valueAt firsts seconds secondAt firstBits secondBits field bit wrongUsers wrongUsersOf firstWrong wrongBlock least blocks blockAt covered common hasSecond right check sent register step readable check1 check2 check3 check4 check5 check6 check7 check8 check9 check10 check11 tooLong cutCommon wrongFirst wrongSecond wrongCommon overflowDiffers differs foreign firstForeign notCarried cutUsers endOf userAt firstRepeated stationTwice answer7 answer8 firstNotRight firstOver rightAt within fitting smallerAt onlyPlan choose tells orElse nameOf kindOf mustName blankAt takesBlock takes mask span family kindAt kinds gives share fieldsIn firstOf _or_
 is-accepted zero l = refl
 is-accepted (suc zero) l = refl
 is-accepted (suc (suc zero)) l = refl
@@ -65,7 +67,7 @@ is-accepted (suc (suc (suc (suc zero)))) l = refl
 is-accepted (suc (suc (suc (suc (suc bw))))) l = absurd (omega arith)
 
 as-long : (bw : ℕ) → bw < 5 → length (listing bw (channel bw) (second bw)) ≡ longest (2 ^ bw)
-unfolding times channel second count total present subfieldsIn subfields fieldsOf pieces carried positions row build rowAt value valueAt firsts seconds secondAt firstBits secondBits field bit common hasSecond userAt onlyPlan choose orElse threeOf like996 like484 fieldsIn dec signed upto ownPieces indexOf resourceAt positionOf placeOf offset26 wide runsOf divides pieceFields listAt lowest ownerAt ownerOf nameText comma tonesText ruHead ruLine staLine headText ruLines ownerIn staLineAt staLines listingOf listing offset52 offset106 narrow narrow26 narrow52 narrow106 longest
+unfolding times channel second count total present subfieldsIn subfields fieldsOf pieces carried positions row build rowAt value valueAt firsts seconds secondAt firstBits secondBits field bit common hasSecond userAt onlyPlan choose tells orElse nameOf kindOf mustName blankAt takesBlock takes mask span family kindAt kinds least fieldsIn dec signed upto ownPieces indexOf resourceAt positionOf placeOf offset26 wide runsOf divides pieceFields lead listAt lowest ownerAt ownerOf nameText comma tonesText ruHead ruLine staLine headText ruLines ownerIn staLineAt staLines listingOf listing offset52 offset106 narrow narrow26 narrow52 narrow106 longest
 as-long zero l = refl
 as-long (suc zero) l = refl
 as-long (suc (suc zero)) l = refl

@@ -32,15 +32,14 @@ use Rattle.resource.proofs.Fields.{fields-most}
 use Rattle.bits.specs.Fields.{field-lt}
 use Rattle.channel.specs.Layout.{positions, row, userAt}
 use Rattle.channel.specs.Laws.{positions-le, row-length}
-use Rattle.plan.specs.declared.Owner.{Owner}
-use Rattle.plan.specs.declared.Owner.the-variants.{Itself, Pair, Whole, Three}
+use Rattle.plan.specs.Kinds.{span}
 use Rattle.plan.specs.Plan.{at, Signals}
 use Rattle.plan.specs.Guess.{onlyPlan}
 use Rattle.records.specs.declared.Record.{Record}
 use Rattle.records.specs.Records.{inChannel, divides, pieceFields, pieceRecord, lead, listAt, recordsFrom, listed, blank}
 use Rattle.records.specs.Owns.{fieldsBefore, number, ownerAt, ownerOf}
 use Rattle.records.proofs.Sums.{sumTo, sum-cong}
-use Rattle.records.proofs.Listing.{list-length, records-most}
+use Rattle.records.proofs.Listing.{own-list, list-length, records-most}
 use Rattle.records.proofs.Owners.{found-left, in-most, divided-itself, divided-low, none-left}
 use Rattle.input.specs.declared.Parsed.{Parsed}
 use Rattle.input.specs.declared.Parsed.the-variants.{Wrong, Lines}
@@ -147,14 +146,10 @@ sizes-short : (n : ℕ) (rs : List Record) → sizes n rs ≤ 240 * length rs
 sizes-short n [] = omega arith
 sizes-short n (x ∷ rs) = omega (arith, sizes-short n rs, ru-short n (x .segment) (x .resource) (x .fields1 + x .fields2))
 
-module _ (o : ℕ → Owner) (row : ℕ → ℕ) where
+module _ (o row : ℕ → ℕ) where
   sizes-positions : (n m : ℕ) → sizes n (recordsFrom o row m) ≡ sumTo (λ p. sizes n (listAt (o p) row p)) m
   sizes-positions n zero = refl
   sizes-positions n (suc m) = sizes-append n (recordsFrom o row m) (listAt (o m) row m) ∙ omega (arith, sizes-positions n m)
-
-one-if : (t : Bool) → cond t 1 0 ≤ 1
-one-if true = omega arith
-one-if false = omega arith
 
 -- ---- the lines of the stations, by position
 -- a STA-ID has at most four digits
@@ -165,7 +160,7 @@ sta-most : (id x : ℕ) → id < 2048 → length (staLine id (x + 1)) ≤ staMos
 unfolding staLine
 sta-most id x l = simp length-append (omega (arith, dec-fit 3 id (omega arith)))
 
-module _ (o : ℕ → Owner) (row : ℕ → ℕ) where
+module _ (o row : ℕ → ℕ) where
   abbrev stas : ℕ → ℕ
   stas p = sumTo (λ k. staMost (ownerAt o row p k)) (fieldsOf (row p))
 
@@ -222,16 +217,15 @@ module _ (b p : ℕ) (h : b < 5) (l : p < 2 ^ b) where
       (every-below (λ v. wherever (divides v) (leb (most (2 ^ b) p v) (most (2 ^ b) p 0))) 51 (both-right (leb 416 (most (2 ^ b) p 0)) _ here) v (divided-low v d))
       (rw d tt))
 
-one-listed : (x : Owner) (p v : ℕ) → divides v ≡ false → listed x p v ≤ 1
+one-listed : (c p v : ℕ) → divides v ≡ false → listed c p v ≤ 1
 unfolding listed ownPieces
-one-listed Itself p v d = go (eqb v 28 || within 64 71 v)
+one-listed c p v d = go (eqb c 0) (eqb v 28 || within 64 71 v) (eqb (p % span c) (lead c))
   where
-    go : (t : Bool) → length (cond t (Part S242 1 ∷ []) (pieces v)) ≤ 1
-    go true = omega arith
-    go false = omega (arith, none-left v d)
-one-listed Pair p v d = one-if (eqb (p % 2) 0)
-one-listed Whole p v d = one-if (eqb (p % 4) 0)
-one-listed (Three k) p v d = one-if (eqb (p % 4) (lead (Three k)))
+    go : (s t u : Bool) → cond s (length (cond t (Part S242 1 ∷ []) (pieces v))) (cond u 1 0) ≤ 1
+    go true true u = omega arith
+    go true false u = omega (arith, none-left v d)
+    go false t true = omega arith
+    go false t false = omega arith
 
 fields-whole : (v : ℕ) → divides v ≡ false → fieldsOf v ≤ 8
 unfolding fieldsOf
@@ -247,15 +241,15 @@ unfolding positions
 below-16 b p h l = omega (arith, positions-le b (omega arith))
 
 -- ---- the text that is charged to a position
-module _ (o : ℕ → Owner) (row : ℕ → ℕ) (b : ℕ) (h : b < 5) (s : Signals o row 0 (2 ^ b)) where
+module _ (o row : ℕ → ℕ) (b : ℕ) (h : b < 5) (s : Signals o row 0 (2 ^ b)) where
   abbrev charge : ℕ → ℕ
   charge p = sizes (2 ^ b) (listAt (o p) row p) + stas o row p
 
   divided-charge : (p : ℕ) → p < 2 ^ b → divides (row p) ≡ true → charge p ≤ most (2 ^ b) p 0
-  unfolding listAt ownerAt
+  unfolding ownerAt
   divided-charge p l d =
-      let e : o p ≡ Itself = divided-itself (o p) p (row p) d (s .fits p (omega arith) l) in
-      let z : sizes (2 ^ b) (listAt (o p) row p) ≡ sizes (2 ^ b) (listAt Itself row p) = ap (λ (x : Owner). sizes (2 ^ b) (listAt x row p)) e in
+      let e : o p ≡ 0 = divided-itself (o p) p (row p) d (s .fits p (omega arith) l) in
+      let z : sizes (2 ^ b) (listAt (o p) row p) ≡ sizes (2 ^ b) (map (pieceRecord row p) (ownPieces (row p))) = ap (sizes (2 ^ b)) (own-list (o p) row p e) in
       let t : stas o row p ≤ sumTo (λ k. 19 + digits (9 * p + k + 1)) (fieldsOf (row p)) =
       sum-most (λ k. staMost (ownerAt o row p k)) (λ k. 19 + digits (9 * p + k + 1)) (fieldsOf (row p))
       (λ k m.

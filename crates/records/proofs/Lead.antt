@@ -1,16 +1,17 @@
 -- The lowest place of a kind, its upper places and its width: what the table of kinds says of them, each rule a test that the checker
 -- computes over its lines. Assumes nothing.
-use mathlib.Core.Path.{_≡_, refl, sym, _∙_}
-use mathlib.Core.Logic.{_≢_, _⊎_, inl, inr}
+use mathlib.Core.Path.{_≡_, refl, sym, _∙_, ap}
+use mathlib.Core.Logic.{_≢_, _⊎_, inl, inr, ⊎-elim}
 use mathlib.Core.Bool.{Bool, true, false, cond, _&&_}
 use Prim.Native.Nat.{ℕ, zero, suc, _+_, _-_, _*_, _/_, _%_, _^_, _≤_, _<_}
 use native.Mathlib.Omega.{arith}
 use native.Mathlib.Nat.{div-add-mod}
 use lib.Dec.{T, ltb, leb, eqb, eqb→eq}
+use lib.ListN.{List·getD-eq-default}
 use borrow.Author.Tests.{ltb-true, leb-true, eqb-true, eqb-false, eq-eqb, ne-eqb}
-use Rattle.answer.specs.Least.{least, least-holds, least-below}
-use Rattle.resource.proofs.Test.{both-left, both-right, below, every-below}
-use Rattle.plan.specs.Kinds.{kinds, kindAt, span, mask, takes}
+use Rattle.answer.specs.Least.{least, least-holds, least-le, least-below}
+use Rattle.resource.proofs.Test.{below-or, both-left, both-right, below, every-below}
+use Rattle.plan.specs.Kinds.{kind, kinds, kindAt, spanIn, span, mask, takes}
 use Rattle.plan.specs.Plan.{Place}
 use Rattle.plan.proofs.Table.{holds, is-true, by-test, at-span, at-place, span-some, span-is, spans, span-0, place-mod, takes-known}
 use Rattle.records.specs.Records.{lead}
@@ -57,6 +58,15 @@ module _ (c : ℕ) (h : c < 7) where
       let t : T (upper c j) = holds _ (least-holds (upper c) (span c) l) in
       (j, l, leb-true _ _ (is-true _ (both-left (leb (span c / 2) j) (takes c j) t)), is-true _ (both-right (leb (span c / 2) j) (takes c j) t))
 
+-- what lies past the table has no span
+span-past : (c : ℕ) → 7 ≤ c → span c ≡ 0
+unfolding span kindAt
+span-past c h = ap spanIn (List·getD-eq-default kinds (kind 0 0 0) {n = c} (unfold kinds in h))
+
+lead-le : (c : ℕ) → lead c ≤ span c
+unfolding lead
+lead-le c = least-le (takes c) (span c)
+
 -- none of its places is lower
 pub lead-low : (c j : ℕ) → j < span c → takes c j ≡ true → lead c ≤ j
 unfolding lead
@@ -73,7 +83,17 @@ pub lowest-only : (c p q : ℕ) → Place c p q → q % span c ≡ lead c → q 
 unfolding lowest
 lowest-only c p q h e = sym (div-add-mod q (span c)) ∙ rw (h .0, e)
 
--- it is no later one
+-- it is at most one position later, of any number, and no later where p is a place
+pub lowest-near : (c p : ℕ) → lowest c p ≤ p + 1
+unfolding lowest
+lowest-near c p = omega (arith, div-add-mod p (span c), lead-most)
+  where
+    lead-most : lead c ≤ 1
+    lead-most = ⊎-elim (λ h. omega (arith, lead-bit c h)) (λ h. none h) (below-or c 7)
+      where
+        none : 7 ≤ c → lead c ≤ 1
+        none h = omega (arith, lead-le c, span-past c h)
+
 pub lowest-below : (c p : ℕ) → takes c (p % span c) ≡ true → lowest c p ≤ p
 unfolding lowest
 lowest-below c p t =

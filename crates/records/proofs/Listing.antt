@@ -23,7 +23,7 @@ use Rattle.records.proofs.Lead.{lead-0}
 
 -- ---- at one position: its own pieces, or a larger resource once
 module _ (c : ℕ) (row : ℕ → ℕ) (p : ℕ) where
-  own-list : c ≡ 0 → listAt c row p ≡ map (pieceRecord row p) (ownPieces (row p))
+  pub own-list : c ≡ 0 → listAt c row p ≡ map (pieceRecord row p) (ownPieces (row p))
   unfolding listAt
   own-list e = rw (eq-eqb c 0 e)
 

@@ -14,11 +14,11 @@ use Rattle.listing.proofs.put_position.Statement.{statement}
 use Rattle.listing.proofs.put_position.Tie as tie
 
 abbrev Inv-loop : tie.InvT-loop
-Inv-loop out₀ at row o p n here e₀ k₀ out e k =
-    (k ≤ here) × Wrote out₀ at (upto (λ i. recordLine (length row) (getD (listedAt row o p) i blank)) k) out e × (e ≤ at + 240 * k)
+Inv-loop out₀ at row kind p n here e₀ k₀ out e k =
+    (k ≤ here) × Wrote out₀ at (upto (λ i. recordLine (length row) (getD (listedAt row kind p) i blank)) k) out e × (e ≤ at + 240 * k)
 
 abbrev μ-loop : tie.MeasureT-loop
-μ-loop out₀ at row o p n here e₀ k₀ out e k = here - k
+μ-loop out₀ at row kind p n here e₀ k₀ out e k = here - k
 
 cast-n : tie.Need-cast-n Inv-loop μ-loop
 cast-n c = search needs
@@ -51,8 +51,8 @@ loop-again : tie.Need-loop-again Inv-loop μ-loop
 loop-again c =
     let s = c .before .before .before .before .before .before .before .before .before .before .before .args in
     let l = c .before .before .before .before .before .before .loop in
-    let m : c .before .before .before .before .before .before .before .listed-of .result ≡ length (listedAt (s .row .now) (s .o) (s .p)) = c .before .before .before .before .before .before .before .listed-of .ensures .0 ∙ sym (list-length (s .o) (value (s .row .now)) (s .p)) in
-    let e : c .before .before .before .record-at .result ≡ getD (listedAt (s .row .now) (s .o) (s .p)) (l .k) blank = c .before .before .before .record-at .ensures ∙ sym (list-at (s .o) (value (s .row .now)) (s .p) (l .k) (omega arith)) in
+    let m : c .before .before .before .before .before .before .before .listed-of .result ≡ length (listedAt (s .row .now) (s .kind) (s .p)) = c .before .before .before .before .before .before .before .listed-of .ensures .0 ∙ sym (list-length (s .kind) (value (s .row .now)) (s .p)) in
+    let e : c .before .before .before .record-at .result ≡ getD (listedAt (s .row .now) (s .kind) (s .p)) (l .k) blank = c .before .before .before .record-at .ensures ∙ sym (list-at (s .kind) (value (s .row .now)) (s .p) (l .k) (omega arith)) in
     (omega arith, item _ _ (l .inv .1) (rw (ap (recordLine (length (s .row .now))) e) at (c .before .before .put-record .ensures .0)), omega arith)
 
 same-length : tie.Need-same-length Inv-loop μ-loop
@@ -62,7 +62,7 @@ returns : tie.Need-returns Inv-loop μ-loop
 unfolding ruLines
 returns c =
     let s = c .before .before .before .before .before .before .args in
-    let e : c .before .loop .k ≡ length (listedAt (s .row .now) (s .o) (s .p)) = omega (arith, c .before .before .listed-of .ensures .0, list-length (s .o) (value (s .row .now)) (s .p)) in
+    let e : c .before .loop .k ≡ length (listedAt (s .row .now) (s .kind) (s .p)) = omega (arith, c .before .before .listed-of .ensures .0, list-length (s .kind) (value (s .row .now)) (s .p)) in
     (rw e at (c .before .loop .inv .1), omega arith)
 
 pub put-position-spec : {M : Type 1} → statement M

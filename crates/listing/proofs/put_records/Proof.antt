@@ -10,6 +10,7 @@ use Rattle.plan.specs.Plan.{at as value}
 use Rattle.plan.specs.Guess.{onlyPlan}
 use Rattle.records.specs.Records.{listAt, recordsFrom}
 use Rattle.records.proofs.Listing.{next-length, records-most}
+use Rattle.records.proofs.Tables.{kind-in, kind-known}
 use Rattle.listed.specs.Listing.{ruLines}
 use Rattle.listing.proofs.Held.{lines-next}
 use Rattle.listing.proofs.put_records.Statement.{statement}
@@ -26,13 +27,22 @@ loop-holds : tie.Need-loop-holds Inv-loop μ-loop
 unfolding ruLines
 loop-holds c = (omega arith, no-item _ _ _, omega arith)
 
-owner-in-requires : tie.Need-owner-in-requires Inv-loop μ-loop
-owner-in-requires c κs = search needs
+mul-put-position : tie.Need-mul-put-position Inv-loop μ-loop
+mul-put-position c = omega arith
+
+element-copy-out-put-position : tie.Need-element-copy-out-put-position Inv-loop μ-loop
+element-copy-out-put-position c = omega arith
 
 put-position-requires : tie.Need-put-position-requires Inv-loop μ-loop
 put-position-requires c κs =
-    let r = c .before .before .before .before .before .before .args .row .now in
-    (omega (arith, records-most (onlyPlan (value r)) (value r) (c .before .before .before .loop .p)), omega arith, omega arith, c .owner-in .ensures .1)
+    let s = c .before .before .before .before .before .before .args in
+    let r = s .row .now in
+    let p = c .before .before .before .loop .p in (
+      omega (arith, records-most (onlyPlan (value r)) (value r) p),
+      omega arith,
+      omega arith,
+      kind-known (s .kinds .now) r p (c .before .before .before .before .before .before .pre .2) (omega arith),
+    )
 
 add-p : tie.Need-add-p Inv-loop μ-loop
 add-p c = omega arith
@@ -42,10 +52,12 @@ loop-less c = omega arith
 
 loop-again : tie.Need-loop-again Inv-loop μ-loop
 loop-again c =
-    let r = c .before .before .before .before .before .before .before .before .before .args .row .now in
+    let s = c .before .before .before .before .before .before .before .before .before .args in
+    let r = s .row .now in
     let l = c .before .before .before .before .before .before .loop in
     let o = onlyPlan (value r) in
-    let q = rw (c .before .before .before .owner-in .ensures .0) at (c .before .before .put-position .ensures) in
+    let k = kind-in (s .kinds .now) r (l .p) (c .before .before .before .before .before .before .before .before .before .pre .2) (omega arith) in
+    let q = rw k at (c .before .before .put-position .ensures) in
     (omega arith, rw (lines-next (length r) o (value r) (l .p)) (after {u = ruLines (length r) (listAt (o (l .p)) (value r) (l .p))} (l .inv .1) (q .0)), omega (arith, next-length o (value r) (l .p), q .1))
 
 same-length : tie.Need-same-length Inv-loop μ-loop
@@ -63,7 +75,8 @@ put-records-spec =
     Inv-loop
     μ-loop
     loop-holds
-    owner-in-requires
+    mul-put-position
+    element-copy-out-put-position
     put-position-requires
     add-p
     loop-less
