@@ -9,7 +9,6 @@ use crate::words::number;
 use crate::words::words;
 use answer::Answer;
 use answer::Out;
-use records::Plan;
 use records::Record;
 use resource::Pairing;
 use resource::Resource;
@@ -17,8 +16,9 @@ use resource::Run;
 use resource::Size;
 use resource::Tones;
 ghost use mathlib.Core.Path.{_≡_};
-ghost use Prim.Native.Nat.{_≤_};
+ghost use Prim.Native.Nat.{_≤_, _<_};
 ghost use lib.ListN.{length};
+ghost use Rattle.plan.specs.Value.{kindsOf};
 
 // Whether a line's words are a row of 1, 2, 4, 8 or 16 values.
 pub fn is_row(line: &[u8]) -> bool {
@@ -124,51 +124,72 @@ fn print_record(x: Record, n: u16) {
     print_subcarriers(n, x.segment, resource);
 }
 
-// The resources of a plan, in a channel of n positions.
-fn print_records(plan: Plan, n: u16)
-    requires { ⌜ (plan .count ≤ 144) × (length (plan .records) ≡ 144) ⌝ }
+// The resources whose lowest position is p, which is given to this kind.
+fn print_position(row: &[u16], kind: u16, p: usize)
+    requires { ⌜ (length (now row) ≤ 16) × (p < length (now row)) × (kind < 7) ⌝ }
 {
-    let count = plan.count;
-    let records = plan.records;
-    let mut i: usize = 0;
-    while i < count {
-        print_record(records[i], n);
-        i += 1;
+    let n = row.len() as u16;
+    let here = records::listed_of(kind, p, row[p]);
+    let mut k: u16 = 0;
+    while k < here {
+        print_record(records::record_at(kind, row, p, k), n);
+        k += 1;
     }
 }
 
-// The resources, from 1, that own the fields of a channel (0 or 1): 144 is told of the field after the last.
-fn print_owners(row: &[u16], channel: usize)
-    requires { ⌜ length (now row) ≤ 16 ⌝ }
+// The resources of a row, by the kinds of its plan.
+fn print_records(row: &[u16], kinds: &[u16; 16])
+    requires { ⌜ (length (now row) ≤ 16) × (now kinds ≡ kindsOf (now row)) ⌝ }
 {
+    let n = row.len();
+    let mut p: usize = 0;
+    while p < n {
+        print_position(row, kinds[p], p);
+        p += 1;
+    }
+}
+
+// The resources, from 1, that own the fields of a channel: 144 is told of the field after the last.
+fn print_owners(owners: &[u16; 72]) {
     let mut j: usize = 0;
-    while j < 144 {
-        let k = records::owner_of(row, channel, j);
+    while j < 72 {
+        let k = owners[j];
         if 144 <= k {
             return;
         }
-        next((k + 1) as u64);
+        next(k as u64 + 1);
         j += 1;
     }
+}
+
+// What an accepted row comes to, by the kinds of its plan.
+fn print_plan(row: &[u16], kinds: &[u16; 16])
+    requires { ⌜ (length (now row) ≤ 16) × (now kinds ≡ kindsOf (now row)) ⌝ }
+{
+    let before = records::numbers_before(kinds, row);
+    print_answer(Answer {
+        number: 0,
+        channel: 0,
+        place: records::count_in(&before, row) as usize,
+    });
+    print_records(row, kinds);
+    text(b" ;");
+    let first = records::owners_of(kinds, &before, row, 0);
+    print_owners(&first);
+    let second = records::owners_of(kinds, &before, row, 1);
+    print_owners(&second);
 }
 
 fn print_row(row: &[u16])
     requires { ⌜ length (now row) ≤ 16 ⌝ }
 {
-    if let Out::Refuse(x) = plan::layout(row) {
+    let plan = plan::plan_of(row);
+    let kinds = plan.kinds;
+    if let Out::Refuse(x) = plan.out {
         print_answer(x);
         return;
     }
-    let plan = records::plan_of(row);
-    print_answer(Answer {
-        number: 0,
-        channel: 0,
-        place: plan.count,
-    });
-    print_records(plan, row.len() as u16);
-    text(b" ;");
-    print_owners(row, 0);
-    print_owners(row, 1);
+    print_plan(row, &kinds);
 }
 
 // The values of a line, in the row lent, and what they come to.

@@ -5,19 +5,25 @@ use Rattle.vectors.proofs.rows.print_owners.Statement.{statement}
 use Rattle.vectors.proofs.rows.print_owners.Tie as tie
 
 abbrev Inv-loop : tie.InvT-loop
-Inv-loop row channel j₀ j = j ≤ 144
+Inv-loop owners j₀ j = j ≤ 72
 
 abbrev μ-loop : tie.MeasureT-loop
-μ-loop row channel j₀ j = 144 - j
+μ-loop owners j₀ j = 72 - j
 
 loop-holds : tie.Need-loop-holds Inv-loop μ-loop
 loop-holds c = search needs
 
-owner-of-requires : tie.Need-owner-of-requires Inv-loop μ-loop
-owner-of-requires c κs = search needs
+mul-k : tie.Need-mul-k Inv-loop μ-loop
+mul-k c = search needs
+
+element-copy-out-k : tie.Need-element-copy-out-k Inv-loop μ-loop
+element-copy-out-k c = search needs
 
 returns : tie.Need-returns Inv-loop μ-loop
 returns c = search needs
+
+cast-next : tie.Need-cast-next Inv-loop μ-loop
+cast-next c = search needs
 
 add-next : tie.Need-add-next Inv-loop μ-loop
 add-next c = search needs
@@ -44,8 +50,10 @@ print-owners-spec =
     Inv-loop
     μ-loop
     loop-holds
-    owner-of-requires
+    mul-k
+    element-copy-out-k
     returns
+    cast-next
     add-next
     next-requires
     add-j

@@ -1,29 +1,36 @@
 -- `vectors::rows::print_records` is safe and ends. Assumes nothing.
 use Prim.Native.Nat.{_≤_, _-_}
+use native.Mathlib.Omega.{arith}
+use Rattle.records.proofs.Tables.{kind-known}
 use borrow.Author.Needs.{needs}
 use Rattle.vectors.proofs.rows.print_records.Statement.{statement}
 use Rattle.vectors.proofs.rows.print_records.Tie as tie
 
 abbrev Inv-loop : tie.InvT-loop
-Inv-loop n count records i₀ i = i ≤ count
+Inv-loop row kinds n p₀ p = p ≤ n
 
 abbrev μ-loop : tie.MeasureT-loop
-μ-loop n count records i₀ i = count - i
+μ-loop row kinds n p₀ p = n - p
 
 loop-holds : tie.Need-loop-holds Inv-loop μ-loop
 loop-holds c = search needs
 
-mul-print-record : tie.Need-mul-print-record Inv-loop μ-loop
-mul-print-record c = search needs
+mul-print-position : tie.Need-mul-print-position Inv-loop μ-loop
+mul-print-position c = search needs
 
-array-copy-out-print-record : tie.Need-array-copy-out-print-record Inv-loop μ-loop
-array-copy-out-print-record c = search needs
+element-copy-out-print-position : tie.Need-element-copy-out-print-position Inv-loop μ-loop
+element-copy-out-print-position c = search needs
 
-print-record-requires : tie.Need-print-record-requires Inv-loop μ-loop
-print-record-requires c κs = search needs
+print-position-requires : tie.Need-print-position-requires Inv-loop μ-loop
+print-position-requires c κs =
+    let s = c .before .before .before .before .args in (
+      omega arith,
+      omega arith,
+      kind-known (s .kinds .now) (s .row .now) (c .before .before .loop .p) (c .before .before .before .before .pre .1) (omega arith),
+    )
 
-add-i : tie.Need-add-i Inv-loop μ-loop
-add-i c = search needs
+add-p : tie.Need-add-p Inv-loop μ-loop
+add-p c = search needs
 
 loop-less : tie.Need-loop-less Inv-loop μ-loop
 loop-less c = search needs
@@ -41,10 +48,10 @@ print-records-spec =
     Inv-loop
     μ-loop
     loop-holds
-    mul-print-record
-    array-copy-out-print-record
-    print-record-requires
-    add-i
+    mul-print-position
+    element-copy-out-print-position
+    print-position-requires
+    add-p
     loop-less
     loop-again
     returns)
