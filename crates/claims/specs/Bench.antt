@@ -25,7 +25,7 @@ use Rattle.plan.specs.Guess.{kindOf, orElse, tells, choose, onlyPlan, fitting, 
 use Rattle.plan.proofs.Laid.{layout-laid}
 use Rattle.plan.proofs.Demand.{accepted-plan, plan-accepted, only-plan, plan-parts, parts-plan}
 use Rattle.records.specs.declared.Record.{Record}
-use Rattle.records.specs.Records.{divides, pieceFields, lead, resources, larger, listAt, recordsOf}
+use Rattle.records.specs.Records.{divides, pieceFields, lead, resourceColumn, larger, listAt, recordsOf}
 use Rattle.records.proofs.Listing.{same-records}
 
 -- a resource as 01 names it: its subcarriers, its index, its fields over both channels
@@ -138,7 +138,7 @@ all-hold [] e = tt
 all-hold (c ∷ cs) e = (holds c (e .0), all-hold cs (e .1))
 
 computed : AllComputed bench
-unfolding layoutOf answer7 answer8 firstWrong firstOver least rightAt within fitting onlyPlan choose tells orElse kindNamed kindOf mustName blankAt takesBlock takes mask span family kindAt kinds gives share fieldsIn _or_ listAt lead resources larger pieceFields divides pieces fieldsOf ownPieces smallerAt indexOf resourceAt carried bit step register sent check
+unfolding layoutOf answer7 answer8 firstWrong firstOver least rightAt within fitting onlyPlan choose tells orElse kindNamed kindOf mustName blankAt takesBlock takes mask span family kindAt kinds gives share fieldsIn _or_ listAt lead resourceColumn larger pieceFields divides pieces fieldsOf ownPieces smallerAt indexOf resourceAt carried bit step register sent check
 computed = (
   (refl, refl),
   (

@@ -28,13 +28,14 @@ one-most false = omega arith
 pub only-below : (row : ℕ → ℕ) (p : ℕ) → lowest (onlyPlan row p) p ≤ p
 only-below row p = lowest-below (onlyPlan row p) p (only-takes row p)
 
-module _ (o : ℕ → ℕ) (row : ℕ → ℕ) where
+module _ (o row : ℕ → ℕ) where
   -- ---- the numbers of a position's owners: rising by one where the position is divided, else all the same
   pub owner-next : (p k : ℕ) → ownerAt o row p (k + 1) ≡ ownerAt o row p k + cond (divides (row p)) 1 0
   unfolding ownerAt
   owner-next p k = go (divides (row p))
     where
-      go : (t : Bool) → cond t (number o row p (k + 1)) (number o row (lowest (o p) p) 0) ≡ cond t (number o row p k) (number o row (lowest (o p) p) 0) + cond t 1 0
+      go : (t : Bool) → cond t (number o row p (k + 1)) (number o row (lowest (o p) p) 0)
+          ≡ cond t (number o row p k) (number o row (lowest (o p) p) 0) + cond t 1 0
       go true = omega arith
       go false = omega arith
 
@@ -56,12 +57,22 @@ module _ (o : ℕ → ℕ) (row : ℕ → ℕ) where
       ∙ ap (λ (i : ℕ). filled (ownerOf o row c n) i d) s
 
   -- ---- all entered: past the last field there is no owner
-  pub entered : (c n : ℕ) (w : List ℕ) → fieldsBefore c row n ≤ 72 → w ≡ filled (ownerOf o row c n) (fieldsBefore c row n) (replicate 72 144) → w ≡ build (ownerOf o row c n) 72
-  entered c n w l e = build-is (ownerOf o row c n) 144 w 72 (ap length e ∙ filled-length (ownerOf o row c n) (fieldsBefore c row n) (replicate 72 144) (omega (arith, length-replicate {A = ℕ} 72 144)) ∙ length-replicate {A = ℕ} 72 144) (λ i h. ap (λ (v : List ℕ). getD v i 144) e ∙ at-each i h (below-or i (fieldsBefore c row n)))
+  pub entered : (c n : ℕ) (w : List ℕ) → fieldsBefore c row n ≤ 72 → w ≡ filled (ownerOf o row c n) (fieldsBefore c row n) (replicate 72 144)
+      → w ≡ build (ownerOf o row c n) 72
+  entered c n w l e =
+      let room : fieldsBefore c row n ≤ length (replicate {A = ℕ} 72 144) = omega (arith, length-replicate {A = ℕ} 72 144) in
+      let wide : length w ≡ 72 =
+      ap length e ∙ filled-length (ownerOf o row c n) (fieldsBefore c row n) (replicate 72 144) room ∙ length-replicate {A = ℕ} 72 144 in
+      build-is (ownerOf o row c n) 144 w 72 wide
+      (λ i h. ap (λ (v : List ℕ). getD v i 144) e ∙ at-each i h (below-or i (fieldsBefore c row n)))
     where
-      at-each : (i : ℕ) → i < 72 → (i < fieldsBefore c row n) ⊎ (fieldsBefore c row n ≤ i) → getD (filled (ownerOf o row c n) (fieldsBefore c row n) (replicate 72 144)) i 144 ≡ ownerOf o row c n i
+      at-each : (i : ℕ) → i < 72 → (i < fieldsBefore c row n) ⊎ (fieldsBefore c row n ≤ i)
+          → getD (filled (ownerOf o row c n) (fieldsBefore c row n) (replicate 72 144)) i 144 ≡ ownerOf o row c n i
       at-each i l (inl h) = getD-filled (ownerOf o row c n) (fieldsBefore c row n) (replicate 72 144) i 144 h
-      at-each i l (inr h) = getD-kept (ownerOf o row c n) (fieldsBefore c row n) (replicate 72 144) i 144 h ∙ getD-replicate {A = ℕ} 72 i 144 144 l ∙ sym (nothing o row c n i h)
+      at-each i l (inr h) =
+          getD-kept (ownerOf o row c n) (fieldsBefore c row n) (replicate 72 144) i 144 h
+          ∙ getD-replicate {A = ℕ} 72 i 144 144 l
+          ∙ sym (nothing o row c n i h)
 
 -- ---- a channel has at most nine fields of each of its positions, every second
 module _ (c : ℕ) (row : ℕ → ℕ) where
@@ -78,7 +89,9 @@ module _ (c : ℕ) (row : ℕ → ℕ) where
   by-pairs zero = omega arith
   by-pairs (suc n) =
       let e : 2 * suc n ≡ suc (suc (2 * n)) = omega arith in
-      rw e (omega (arith, by-pairs n, one-of-two (2 * n) (fieldsOf (row (2 * n))) (fieldsOf (row (suc (2 * n)))) (omega arith) (fields-most (row (2 * n))) (fields-most (row (suc (2 * n))))))
+      let f = row (2 * n) in
+      let g = row (suc (2 * n)) in
+      rw e (omega (arith, by-pairs n, one-of-two (2 * n) (fieldsOf f) (fieldsOf g) (omega arith) (fields-most f) (fields-most g)))
 
   pub few-fields : (n : ℕ) → n ≤ 16 → fieldsBefore c row n ≤ 72
   few-fields n l = omega (arith, before-rise c row n 16 l, by-pairs 8)

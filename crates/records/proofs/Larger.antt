@@ -23,19 +23,19 @@ use Rattle.resource.specs.Tones.{tonesOf}
 use Rattle.resource.proofs.Test.{wherever, met, below, every-below}
 use Rattle.resource.proofs.Apart.{pair-inside, whole-inside, three-inside}
 use Rattle.resource.proofs.Agree.{Right, piece-right, three-right, tones-found, three-found}
-use Rattle.records.specs.Records.{resources, larger}
+use Rattle.records.specs.Records.{resourceColumn, larger}
 
 -- ---- the resource
 pub larger-1 : (q : ℕ) → larger 1 q ≡ resourceAt q (Part S484 1)
-unfolding larger resources
+unfolding larger resourceColumn
 larger-1 q = refl
 
 pub larger-2 : (q : ℕ) → larger 2 q ≡ resourceAt q (Part S996 1)
-unfolding larger resources
+unfolding larger resourceColumn
 larger-2 q = refl
 
 pub larger-joined : (k q : ℕ) → k < 4 → larger (suc (suc (suc k))) q ≡ leavingOut k
-unfolding larger resources
+unfolding larger resourceColumn
 larger-joined zero q h = refl
 larger-joined (suc zero) q h = refl
 larger-joined (suc (suc zero)) q h = refl

@@ -104,7 +104,7 @@ list-at c row p k h = go (eqb c 0) (eqb (p % span c) (lead c)) k h
     go false false k l = absurd (omega arith)
 
 -- ---- over the positions
-module _ (o : ℕ → ℕ) (row : ℕ → ℕ) where
+module _ (o row : ℕ → ℕ) where
   pub next-length : (n : ℕ) → length (recordsFrom o row (n + 1)) ≡ length (recordsFrom o row n) + length (listAt (o n) row n)
   next-length n = rw (add-one n) (length-append (recordsFrom o row n) (listAt (o n) row n))
 
@@ -122,12 +122,15 @@ module _ (o : ℕ → ℕ) (row : ℕ → ℕ) where
       (eq-or-lt-of-le (le-of-suc-le-suc h))
 
   -- the k-th that is listed at p
-  pub nth-record : (p n k : ℕ) → p < n → k < length (listAt (o p) row p) → getD (recordsFrom o row n) (length (recordsFrom o row p) + k) blank ≡ getD (listAt (o p) row p) k blank
+  pub nth-record : (p n k : ℕ) → p < n → k < length (listAt (o p) row p)
+      → getD (recordsFrom o row n) (length (recordsFrom o row p) + k) blank ≡ getD (listAt (o p) row p) k blank
   nth-record p zero k h l = absurd (omega arith)
   nth-record p (suc n) k h l =
       ⊎-elim
       (λ (e : p ≡ n). rw (← e) (getD-append-add (recordsFrom o row p) (listAt (o p) row p) k blank))
-      (λ (m : p < n). List·getD-append (recordsFrom o row n) (listAt (o n) row n) blank (length (recordsFrom o row p) + k) (omega (arith, records-rise p n m)) ∙ nth-record p n k m l)
+      (λ (m : p < n).
+      List·getD-append (recordsFrom o row n) (listAt (o n) row n) blank (length (recordsFrom o row p) + k) (omega (arith, records-rise p n m))
+      ∙ nth-record p n k m l)
       (eq-or-lt-of-le (le-of-suc-le-suc h))
 
 -- two plans that agree give the same list
@@ -141,7 +144,7 @@ here-is row p v h c e f g =
     g ∙ ap (λ (x : ℕ). listed x p v) e ∙ ap (listed (onlyPlan row p) p) f ∙ sym (list-length (onlyPlan row p) row p)
 
 -- ---- every number is that of a resource that is listed at some position
-pub record Located (o : ℕ → ℕ) (row : ℕ → ℕ) (n i p m : ℕ) : Type 0 where
+pub record Located (o row : ℕ → ℕ) (n i p m : ℕ) : Type 0 where
   pub inside : p < n
   pub place : m < length (listAt (o p) row p)
   pub numbered : i ≡ length (recordsFrom o row p) + m
@@ -149,7 +152,7 @@ pub record Located (o : ℕ → ℕ) (row : ℕ → ℕ) (n i p m : ℕ) : Type 
 abbrev pub Somewhere : (ℕ → ℕ) → (ℕ → ℕ) → ℕ → ℕ → Type 0
 Somewhere o row n i = (p : ℕ) × (m : ℕ) × Located o row n i p m
 
-module _ (o : ℕ → ℕ) (row : ℕ → ℕ) where
+module _ (o row : ℕ → ℕ) where
   before-that : (n i : ℕ) → Somewhere o row n i → Somewhere o row (suc n) i
   before-that n i w = (w .0, w .1, record { inside = omega (arith, w .2 .inside); place = w .2 .place; numbered = w .2 .numbered })
 
@@ -176,7 +179,11 @@ module _ (o : ℕ → ℕ) (row : ℕ → ℕ) where
 
   -- one number, one place
   pub located-once : (n i p m q l : ℕ) → Located o row n i p m → Located o row n i q l → (p ≡ q) × (m ≡ l)
-  located-once n i p m q l a b = ⊎-elim (λ h. absurd (apart p m q l h a b)) (λ h. ⊎-elim (λ e. same (sym e)) (λ g. absurd (apart q l p m g b a)) (eq-or-lt-of-le h)) (below-or p q)
+  located-once n i p m q l a b =
+      ⊎-elim
+      (λ h. absurd (apart p m q l h a b))
+      (λ h. ⊎-elim (λ e. same (sym e)) (λ g. absurd (apart q l p m g b a)) (eq-or-lt-of-le h))
+      (below-or p q)
     where
       apart : (p m q l : ℕ) → p < q → Located o row n i p m → Located o row n i q l → ⊥
       apart p m q l h a b = omega (arith, records-rise o row p q h, a .place, a .numbered, b .numbered)

@@ -33,7 +33,7 @@ module _ (c : ℕ) (row : ℕ → ℕ) where
       (eq-or-lt-of-le h)
 
 -- ---- what the program's search finds
-module _ (o : ℕ → ℕ) (row : ℕ → ℕ) (c : ℕ) where
+module _ (o row : ℕ → ℕ) (c : ℕ) where
   pub found : (p n j : ℕ) → p < n → fieldsBefore c row p ≤ j → j < fieldsBefore c row (p + 1) → ownerOf o row c n j ≡ ownerAt o row p (j - fieldsBefore c row p)
   unfolding ownerOf
   found p zero j h a b = absurd (omega arith)
@@ -48,7 +48,8 @@ module _ (o : ℕ → ℕ) (row : ℕ → ℕ) (c : ℕ) where
   nothing zero j h = refl
   nothing (suc n) j h = rw (le-ltb j (fieldsBefore c row n) (omega (arith, before-rise c row n (suc n) (omega arith))), le-ltb j (fieldsBefore c row (suc n)) h)
 
-  pub found-left : (p n j left : ℕ) → p < n → j ≡ fieldsBefore c row p + left → left < inChannel c p (fieldsOf (row p)) → ownerOf o row c n j ≡ ownerAt o row p left
+  pub found-left : (p n j left : ℕ) → p < n → j ≡ fieldsBefore c row p + left → left < inChannel c p (fieldsOf (row p))
+      → ownerOf o row c n j ≡ ownerAt o row p left
   found-left p n j left h e l =
       let d : j - fieldsBefore c row p ≡ left = omega arith in
       found p n j h (omega arith) (omega (arith, before-next c row p)) ∙ ap (ownerAt o row p) d
@@ -98,7 +99,7 @@ comes row (suc n) c j h =
     ⊎-elim (λ l. earlier row n c j (comes row n c j l)) (λ l. latest row n c j l h) (below-or j (fieldsBefore c row n))
 
 -- and the program's search goes by it
-pub search-comes : (o : ℕ → ℕ) (row : ℕ → ℕ) (n c j p k : ℕ) → ComesFrom row n c j p k → ownerOf o row c n j ≡ ownerAt o row p k
+pub search-comes : (o row : ℕ → ℕ) (n c j p k : ℕ) → ComesFrom row n c j p k → ownerOf o row c n j ≡ ownerAt o row p k
 search-comes o row n c j p k w =
     found-left o row c p n j k (w .inside) (w .follows) (rw (in-own c p (fieldsOf (row p)) (w .channel)) (w .kth))
 
@@ -145,7 +146,7 @@ divided-itself c p v e (blank t f) =
 divided-itself c p v e (smaller f) = f .0
 
 -- ---- exactly one resource owns a field, the one that the program finds
-module _ (o : ℕ → ℕ) (row : ℕ → ℕ) (n : ℕ) where
+module _ (o row : ℕ → ℕ) (n : ℕ) where
   pub owner-only : (i c j : ℕ) → Owns o row n i c j → i ≡ ownerOf o row c n j
   unfolding ownerAt
   owner-only i c j (of-piece p k w e l f) =

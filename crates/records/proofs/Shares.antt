@@ -26,13 +26,15 @@ use Rattle.records.specs.declared.Record.{Record}
 use Rattle.records.specs.Records.{inChannel, divides, pieceFields, listAt, recordsFrom, recordAt}
 use Rattle.records.specs.Records.{blank as noRecord}
 use Rattle.records.specs.Owns.{fieldsBefore, ComesFrom, number, Owns, lowest, ownerAt, ownerOf, Counts, none, one-more, no-more, shareOf, allShares}
-use Rattle.records.proofs.Sums.{sumTo, sumFrom, sum-cong, sum-one, sum-past, sum-window, from-cong, tally, tally-cong, tally-split, tally-none, tally-all, tally-once, all-placed}
+use Rattle.records.proofs.Sums.{sumTo, sumFrom, sum-cong, sum-one, sum-past, sum-window, from-cong}
+use Rattle.records.proofs.Sums.{tally, tally-cong, tally-split, tally-none, tally-all, tally-once, all-placed}
 use Rattle.records.proofs.Lead.{lowest-place, lowest-only, itself-place, itself-lowest}
-use Rattle.records.proofs.Listing.{Located, located, located-record, located-once, own-length, own-record, larger-record, larger-one, once-lead, records-rise}
+use Rattle.records.proofs.Listing.{Located, located, located-record, located-once, records-rise}
+use Rattle.records.proofs.Listing.{own-length, own-record, larger-record, larger-one, once-lead}
 use Rattle.records.proofs.Owners.{none-left, divided-not, found-left, divided-low, divided-itself, owner-only, owner-owns, search-comes, comes}
 
 -- ---- the fields that come from one position
-module _ (o : ℕ → ℕ) (row : ℕ → ℕ) (i : ℕ) where
+module _ (o row : ℕ → ℕ) (i : ℕ) where
   abbrev pub cnt : ℕ → ℕ
   cnt p = tally (λ k. eqb (ownerAt o row p k) i) (fieldsOf (row p))
 
@@ -152,7 +154,7 @@ sum-shares c [] = refl
 sum-shares c (r ∷ rs) = sum-first (λ i. shareOf c (getD (r ∷ rs) i noRecord)) (length rs) ∙ rw (sum-shares c rs)
 
 -- ---- of a plan that signals the row: resource i, listed at q as its m-th
-module _ (o : ℕ → ℕ) (row : ℕ → ℕ) (n : ℕ) (s : Signals o row 0 n) where
+module _ (o row : ℕ → ℕ) (n : ℕ) (s : Signals o row 0 n) where
   fit : (p : ℕ) → p < n → Fits (o p) p (row p)
   fit p h = s .fits p (omega arith) h
 
@@ -325,7 +327,8 @@ module _ (o : ℕ → ℕ) (row : ℕ → ℕ) (n : ℕ) (s : Signals o row 0 n)
       past-end : (c p : ℕ) → n ≤ p → H c p ≡ 0
       past-end c p h = by (equal-or (p / span (o q)) (q / span (o q))) (takes-cases (o q) (p % span (o q)))
         where
-          by : (p / span (o q) ≡ q / span (o q)) ⊎ (p / span (o q) ≢ q / span (o q)) → Takes (o q) (p % span (o q)) ⊎ (Takes (o q) (p % span (o q)) → ⊥) → H c p ≡ 0
+          by : (p / span (o q) ≡ q / span (o q)) ⊎ (p / span (o q) ≢ q / span (o q)) → Takes (o q) (p % span (o q)) ⊎ (Takes (o q) (p % span (o q)) → ⊥)
+              → H c p ≡ 0
           by (inl f) (inl t) = absurd (omega (arith, s .entire q p (omega arith) (w .inside) (f, t) .1))
           by (inl f) (inr t) = in-window c p f ∙ not-taken c p t
           by (inr f) t = off-window c p f
@@ -337,7 +340,8 @@ module _ (o : ℕ → ℕ) (row : ℕ → ℕ) (n : ℕ) (s : Signals o row 0 n)
           let k = kind q (w .inside) in
           sum-cong (λ p. inChannel c p (G p)) (H c) n (share-here c)
           ∙ sym (sum-past (H c) n (n + 4) (omega arith) (past-end c))
-          ∙ sum-window (H c) a (span (o q)) (n + 4) (window-room (o q) q k n (w .inside)) (λ p l. off-window c p (window-below (o q) q k p l)) (λ p l. off-window c p (window-above (o q) q k p l))
+          ∙ sum-window (H c) a (span (o q)) (n + 4) (window-room (o q) q k n (w .inside))
+          (λ p l. off-window c p (window-below (o q) q k p l)) (λ p l. off-window c p (window-above (o q) q k p l))
           ∙ from-cong (H c) (λ p. channelShare c (o q) p (row p)) a (span (o q)) (λ j l. in-window c (a + j) (window-in (o q) q k j l))
           ∙ from-shares c (o q) row a (span (o q))
 
@@ -413,5 +417,6 @@ module _ (o : ℕ → ℕ) (row : ℕ → ℕ) (n : ℕ) (s : Signals o row 0 n)
   pub shares-all : (c : ℕ) → c < 2 → allShares c (recordsFrom o row n) ≡ fieldsBefore c row n
   shares-all c h =
       sym (sum-shares c (recordsFrom o row n))
-      ∙ sum-cong (λ i. shareOf c (getD (recordsFrom o row n) i noRecord)) (λ i. tally (λ j. eqb (ownerOf o row c n j) i) (fieldsBefore c row n)) (length (recordsFrom o row n)) (λ i l. sym (owned i c l h))
+      ∙ sum-cong (λ i. shareOf c (getD (recordsFrom o row n) i noRecord)) (λ i. tally (λ j. eqb (ownerOf o row c n j) i) (fieldsBefore c row n))
+      (length (recordsFrom o row n)) (λ i l. sym (owned i c l h))
       ∙ all-placed (ownerOf o row c n) (fieldsBefore c row n) (length (recordsFrom o row n)) (owner-listed c)

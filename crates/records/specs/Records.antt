@@ -47,8 +47,8 @@ unfoldable pub lead : ℕ → ℕ
 lead c = least (takes c) (span c)
 
 -- one column more of the table of kinds, by line: the resource at position q of its segment, with its index
-unfoldable pub resources : ℕ → List Resource
-resources q =
+unfoldable pub resourceColumn : ℕ → List Resource
+resourceColumn q =
     resourceAt q (Part S242 1)
     ∷ resourceAt q (Part S484 1)
     ∷ resourceAt q (Part S996 1)
@@ -60,7 +60,7 @@ resources q =
 
 -- that of kind c
 unfoldable pub larger : ℕ → ℕ → Resource
-larger c q = getD (resources q) c (Single S26 0)
+larger c q = getD (resourceColumn q) c (Single S26 0)
 
 -- "A resource's fields are those of all its places"
 abbrev pub largerRecord : ℕ → (ℕ → ℕ) → ℕ → Record

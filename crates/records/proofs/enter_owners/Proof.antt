@@ -9,16 +9,22 @@ use Rattle.plan.specs.Guess.{onlyPlan}
 use Rattle.plan.specs.Plan.{at}
 use lib.ListN.{length, replicate, length-replicate}
 use mathlib.Core.Bool.{Bool, cond}
+use mathlib.Core.List.{List}
 use mathlib.Core.Path.{_≡_, sym, ap, _∙_}
-use Prim.Native.Nat.{ℕ, _+_, _-_, _≤_}
+use Prim.Native.Nat.{ℕ, _+_, _-_, _≤_, _<_}
 use native.Mathlib.Omega.{arith}
 use borrow.Author.Needs.{needs}
 use Rattle.records.proofs.enter_owners.Statement.{statement}
 use Rattle.records.proofs.enter_owners.Tie as tie
 
+-- the fields that the position gives the channel
+fields-here : (x p : ℕ) (r : List ℕ) {v f g : ℕ} → v ≡ at r p → f ≡ fieldsOf v → g ≡ inChannel x p f → g ≡ inChannel x p (fieldsOf (at r p))
+fields-here x p r a b d = d ∙ ap (inChannel x p) (b ∙ ap fieldsOf a)
+
 abbrev Inv-loop : tie.InvT-loop
 Inv-loop owners₀ kinds before row channel p j v f step number₀ k₀ owners number k =
-    (k ≤ f) × (number ≡ ownerAt (onlyPlan (at row)) (at row) p k) × (owners ≡ filled (ownerOf (onlyPlan (at row)) (at row) channel (length row)) (j + k) (replicate 72 144))
+    (k ≤ f) × (number ≡ ownerAt (onlyPlan (at row)) (at row) p k)
+    × (owners ≡ filled (ownerOf (onlyPlan (at row)) (at row) channel (length row)) (j + k) (replicate 72 144))
 
 abbrev μ-loop : tie.MeasureT-loop
 μ-loop owners₀ kinds before row channel p j v f step number₀ k₀ owners number k = f - k
@@ -37,10 +43,12 @@ cast-f c = search needs
 
 returns : tie.Need-returns Inv-loop μ-loop
 returns c =
-    let s = c .before .before .before .before .before .args in
-    let f : c .before .in-channel .result ≡ inChannel (s .channel) (s .p) (fieldsOf (at (s .row .now) (s .p))) = c .before .in-channel .ensures ∙ ap (inChannel (s .channel) (s .p)) (c .before .before .fields-of .ensures ∙ ap fieldsOf (c .before .before .before .value-at .ensures)) in
-    let few = few-here (s .channel) (at (s .row .now)) (s .p) (length (s .row .now)) (c .before .before .before .before .before .pre .0 .1) (c .before .before .before .before .before .pre .0 .0) in
-    (omega (arith, before-next (s .channel) (at (s .row .now)) (s .p), c .before .before .before .before .before .pre .1 .0), c .before .before .before .before .before .pre .1 .1)
+    let u = c .before in
+    let t = u .before .before .before .before in
+    let s = t .args in
+    let f = fields-here (s .channel) (s .p) (s .row .now) (u .before .before .value-at .ensures) (u .before .fields-of .ensures) (u .in-channel .ensures) in
+    let few = few-here (s .channel) (at (s .row .now)) (s .p) (length (s .row .now)) (t .pre .0 .1) (t .pre .0 .0) in
+    (omega (arith, before-next (s .channel) (at (s .row .now)) (s .p), t .pre .1 .0), t .pre .1 .1)
 
 is-divided-requires : tie.Need-is-divided-requires Inv-loop μ-loop
 is-divided-requires c κs = search needs
@@ -53,37 +61,52 @@ first-owner-requires c κs = search needs
 
 loop-holds : tie.Need-loop-holds Inv-loop μ-loop
 loop-holds c =
-    let s = c .before .before .before .before .before .before .before .before .args in
-    let e : s .j ≡ s .j + 0 = omega arith in
-    (omega arith, c .first-owner .ensures, c .before .before .before .before .before .before .before .before .pre .1 .1 ∙ ap (λ (i : ℕ). filled (ownerOf (onlyPlan (at (s .row .now))) (at (s .row .now)) (s .channel) (length (s .row .now))) i (replicate 72 144)) e)
+    let t = c .before .before .before .before .before .before .before .before in
+    let s = t .args in
+    let r = s .row .now in
+    let e : s .j ≡ s .j + 0 = omega arith in (
+      omega arith,
+      c .first-owner .ensures,
+      t .pre .1 .1 ∙ ap (λ (i : ℕ). filled (ownerOf (onlyPlan (at r)) (at r) (s .channel) (length r)) i (replicate 72 144)) e,
+    )
 
 add-owners : tie.Need-add-owners Inv-loop μ-loop
 add-owners c =
-    let s = c .before .before .before .before .before .before .before .before .before .before .args in
-    let f : c .before .before .before .before .before .before .in-channel .result ≡ inChannel (s .channel) (s .p) (fieldsOf (at (s .row .now) (s .p))) = c .before .before .before .before .before .before .in-channel .ensures ∙ ap (inChannel (s .channel) (s .p)) (c .before .before .before .before .before .before .before .fields-of .ensures ∙ ap fieldsOf (c .before .before .before .before .before .before .before .before .value-at .ensures)) in
-    let few = few-here (s .channel) (at (s .row .now)) (s .p) (length (s .row .now)) (c .before .before .before .before .before .before .before .before .before .before .pre .0 .1) (c .before .before .before .before .before .before .before .before .before .before .pre .0 .0) in
-    omega (arith, c .before .before .before .before .before .before .before .before .before .before .pre .1 .0)
+    let u = c .before .before .before .before .before .before in
+    let t = u .before .before .before .before in
+    let s = t .args in
+    let f = fields-here (s .channel) (s .p) (s .row .now) (u .before .before .value-at .ensures) (u .before .fields-of .ensures) (u .in-channel .ensures) in
+    let few = few-here (s .channel) (at (s .row .now)) (s .p) (length (s .row .now)) (t .pre .0 .1) (t .pre .0 .0) in
+    omega (arith, t .pre .1 .0)
 
 mul-owners : tie.Need-mul-owners Inv-loop μ-loop
 mul-owners c =
-    let s = c .before .before .before .before .before .before .before .before .before .before .args in
-    let f : c .before .before .before .before .before .before .in-channel .result ≡ inChannel (s .channel) (s .p) (fieldsOf (at (s .row .now) (s .p))) = c .before .before .before .before .before .before .in-channel .ensures ∙ ap (inChannel (s .channel) (s .p)) (c .before .before .before .before .before .before .before .fields-of .ensures ∙ ap fieldsOf (c .before .before .before .before .before .before .before .before .value-at .ensures)) in
-    let few = few-here (s .channel) (at (s .row .now)) (s .p) (length (s .row .now)) (c .before .before .before .before .before .before .before .before .before .before .pre .0 .1) (c .before .before .before .before .before .before .before .before .before .before .pre .0 .0) in
-    omega (arith, c .before .before .before .before .before .before .before .before .before .before .pre .1 .0)
+    let u = c .before .before .before .before .before .before in
+    let t = u .before .before .before .before in
+    let s = t .args in
+    let f = fields-here (s .channel) (s .p) (s .row .now) (u .before .before .value-at .ensures) (u .before .fields-of .ensures) (u .in-channel .ensures) in
+    let few = few-here (s .channel) (at (s .row .now)) (s .p) (length (s .row .now)) (t .pre .0 .1) (t .pre .0 .0) in
+    omega (arith, t .pre .1 .0)
 
 element-write-owners : tie.Need-element-write-owners Inv-loop μ-loop
 element-write-owners c =
-    let s = c .before .before .before .before .before .before .before .before .before .before .args in
-    let f : c .before .before .before .before .before .before .in-channel .result ≡ inChannel (s .channel) (s .p) (fieldsOf (at (s .row .now) (s .p))) = c .before .before .before .before .before .before .in-channel .ensures ∙ ap (inChannel (s .channel) (s .p)) (c .before .before .before .before .before .before .before .fields-of .ensures ∙ ap fieldsOf (c .before .before .before .before .before .before .before .before .value-at .ensures)) in
-    let few = few-here (s .channel) (at (s .row .now)) (s .p) (length (s .row .now)) (c .before .before .before .before .before .before .before .before .before .before .pre .0 .1) (c .before .before .before .before .before .before .before .before .before .before .pre .0 .0) in
-    omega (arith, c .before .before .before .before .before .before .before .before .before .before .pre .1 .0)
+    let u = c .before .before .before .before .before .before in
+    let t = u .before .before .before .before in
+    let s = t .args in
+    let f = fields-here (s .channel) (s .p) (s .row .now) (u .before .before .value-at .ensures) (u .before .fields-of .ensures) (u .in-channel .ensures) in
+    let few = few-here (s .channel) (at (s .row .now)) (s .p) (length (s .row .now)) (t .pre .0 .1) (t .pre .0 .0) in
+    omega (arith, t .pre .1 .0)
 
 add-number : tie.Need-add-number Inv-loop μ-loop
 add-number c =
-    let s = c .before .before .before .before .before .before .before .before .before .before .args in
-    let f : c .before .before .before .before .before .before .in-channel .result ≡ inChannel (s .channel) (s .p) (fieldsOf (at (s .row .now) (s .p))) = c .before .before .before .before .before .before .in-channel .ensures ∙ ap (inChannel (s .channel) (s .p)) (c .before .before .before .before .before .before .before .fields-of .ensures ∙ ap fieldsOf (c .before .before .before .before .before .before .before .before .value-at .ensures)) in
-    let few = few-here (s .channel) (at (s .row .now)) (s .p) (length (s .row .now)) (c .before .before .before .before .before .before .before .before .before .before .pre .0 .1) (c .before .before .before .before .before .before .before .before .before .before .pre .0 .0) in
-    omega (arith, owner-most (onlyPlan (at (s .row .now))) (at (s .row .now)) (s .p) (c .before .loop .k) (only-below (at (s .row .now)) (s .p)), c .before .before .before .one-if .ensures, one-most (c .before .before .before .before .is-divided .result))
+    let u = c .before .before .before .before .before .before in
+    let t = u .before .before .before .before in
+    let s = t .args in
+    let f = fields-here (s .channel) (s .p) (s .row .now) (u .before .before .value-at .ensures) (u .before .fields-of .ensures) (u .in-channel .ensures) in
+    let few = few-here (s .channel) (at (s .row .now)) (s .p) (length (s .row .now)) (t .pre .0 .1) (t .pre .0 .0) in
+    let r = at (s .row .now) in
+    let most = owner-most (onlyPlan r) r (s .p) (c .before .loop .k) (only-below r (s .p)) in
+    omega (arith, most, c .before .before .before .one-if .ensures, one-most (c .before .before .before .before .is-divided .result))
 
 add-k : tie.Need-add-k Inv-loop μ-loop
 add-k c = omega arith
@@ -93,31 +116,43 @@ loop-less c = omega arith
 
 loop-again : tie.Need-loop-again Inv-loop μ-loop
 loop-again c =
-    let s = c .before .before .before .before .before .before .before .before .before .before .args in
-    let f : c .before .before .before .before .before .before .in-channel .result ≡ inChannel (s .channel) (s .p) (fieldsOf (at (s .row .now) (s .p))) = c .before .before .before .before .before .before .in-channel .ensures ∙ ap (inChannel (s .channel) (s .p)) (c .before .before .before .before .before .before .before .fields-of .ensures ∙ ap fieldsOf (c .before .before .before .before .before .before .before .before .value-at .ensures)) in
-    let few = few-here (s .channel) (at (s .row .now)) (s .p) (length (s .row .now)) (c .before .before .before .before .before .before .before .before .before .before .pre .0 .1) (c .before .before .before .before .before .before .before .before .before .before .pre .0 .0) in
+    let u = c .before .before .before .before .before .before in
+    let t = u .before .before .before .before in
+    let s = t .args in
+    let f = fields-here (s .channel) (s .p) (s .row .now) (u .before .before .value-at .ensures) (u .before .fields-of .ensures) (u .in-channel .ensures) in
+    let few = few-here (s .channel) (at (s .row .now)) (s .p) (length (s .row .now)) (t .pre .0 .1) (t .pre .0 .0) in
     let l = c .before .loop in
-    let o = onlyPlan (at (s .row .now)) in
-    let st : c .before .before .before .one-if .result ≡ cond (divides (at (s .row .now) (s .p))) 1 0 = c .before .before .before .one-if .ensures ∙ ap (λ (t : Bool). cond t 1 0) (c .before .before .before .before .is-divided .ensures ∙ ap divides (c .before .before .before .before .before .before .before .before .value-at .ensures)) in (
+    let r = at (s .row .now) in
+    let o = onlyPlan r in
+    let d = c .before .before .before in
+    let step = d .one-if .result in
+    let st : step ≡ cond (divides (r (s .p))) 1 0 =
+    d .one-if .ensures ∙ ap (λ (x : Bool). cond x 1 0) (d .before .is-divided .ensures ∙ ap divides (u .before .before .value-at .ensures)) in
+    let room : s .j + l .k < length (replicate {A = ℕ} 72 144) = omega (arith, length-replicate {A = ℕ} 72 144, t .pre .1 .0) in (
       omega arith,
-      ap (λ (x : ℕ). x + c .before .before .before .one-if .result) (l .inv .1) ∙ ap (λ (x : ℕ). ownerAt o (at (s .row .now)) (s .p) (l .k) + x) st ∙ sym (owner-next o (at (s .row .now)) (s .p) (l .k)),
-      enter o (at (s .row .now)) (s .channel) (length (s .row .now)) (s .p) (s .j) (l .k) _ (l .number) (l .owners) (replicate 72 144) (c .before .before .before .before .before .before .before .before .before .before .pre .0 .1) (c .before .before .before .before .before .before .before .before .before .before .pre .1 .0) (c .loop-test .taken) f (l .inv .1) (omega (arith, length-replicate {A = ℕ} 72 144, c .before .before .before .before .before .before .before .before .before .before .pre .1 .0)) (l .inv .2),
+      ap (λ (x : ℕ). x + step) (l .inv .1) ∙ ap (λ (x : ℕ). ownerAt o r (s .p) (l .k) + x) st ∙ sym (owner-next o r (s .p) (l .k)),
+      enter o r (s .channel) (length (s .row .now)) (s .p) (s .j) (l .k) _ (l .number) (l .owners) (replicate 72 144)
+          (t .pre .0 .1) (t .pre .1 .0) (c .loop-test .taken) f (l .inv .1) room (l .inv .2),
     )
 
 add-result : tie.Need-add-result Inv-loop μ-loop
 add-result c =
-    let s = c .before .before .before .before .before .before .before .before .before .before .args in
-    let f : c .before .before .before .before .before .before .in-channel .result ≡ inChannel (s .channel) (s .p) (fieldsOf (at (s .row .now) (s .p))) = c .before .before .before .before .before .before .in-channel .ensures ∙ ap (inChannel (s .channel) (s .p)) (c .before .before .before .before .before .before .before .fields-of .ensures ∙ ap fieldsOf (c .before .before .before .before .before .before .before .before .value-at .ensures)) in
-    let few = few-here (s .channel) (at (s .row .now)) (s .p) (length (s .row .now)) (c .before .before .before .before .before .before .before .before .before .before .pre .0 .1) (c .before .before .before .before .before .before .before .before .before .before .pre .0 .0) in
-    omega (arith, c .before .before .before .before .before .before .before .before .before .before .pre .1 .0)
+    let u = c .before .before .before .before .before .before in
+    let t = u .before .before .before .before in
+    let s = t .args in
+    let f = fields-here (s .channel) (s .p) (s .row .now) (u .before .before .value-at .ensures) (u .before .fields-of .ensures) (u .in-channel .ensures) in
+    let few = few-here (s .channel) (at (s .row .now)) (s .p) (length (s .row .now)) (t .pre .0 .1) (t .pre .0 .0) in
+    omega (arith, t .pre .1 .0)
 
 returns-2 : tie.Need-returns-2 Inv-loop μ-loop
 returns-2 c =
-    let s = c .before .before .before .before .before .before .before .before .before .before .args in
-    let f : c .before .before .before .before .before .before .in-channel .result ≡ inChannel (s .channel) (s .p) (fieldsOf (at (s .row .now) (s .p))) = c .before .before .before .before .before .before .in-channel .ensures ∙ ap (inChannel (s .channel) (s .p)) (c .before .before .before .before .before .before .before .fields-of .ensures ∙ ap fieldsOf (c .before .before .before .before .before .before .before .before .value-at .ensures)) in
-    let few = few-here (s .channel) (at (s .row .now)) (s .p) (length (s .row .now)) (c .before .before .before .before .before .before .before .before .before .before .pre .0 .1) (c .before .before .before .before .before .before .before .before .before .before .pre .0 .0) in
-    let e : c .before .loop .k ≡ c .before .before .before .before .before .before .in-channel .result = omega arith in
-    (omega (arith, before-next (s .channel) (at (s .row .now)) (s .p), c .before .before .before .before .before .before .before .before .before .before .pre .1 .0), rw (← e) (c .before .loop .inv .2))
+    let u = c .before .before .before .before .before .before in
+    let t = u .before .before .before .before in
+    let s = t .args in
+    let f = fields-here (s .channel) (s .p) (s .row .now) (u .before .before .value-at .ensures) (u .before .fields-of .ensures) (u .in-channel .ensures) in
+    let few = few-here (s .channel) (at (s .row .now)) (s .p) (length (s .row .now)) (t .pre .0 .1) (t .pre .0 .0) in
+    let e : c .before .loop .k ≡ u .in-channel .result = omega arith in
+    (omega (arith, before-next (s .channel) (at (s .row .now)) (s .p), t .pre .1 .0), rw (← e) (c .before .loop .inv .2))
 
 pub enter-owners-spec : {M : Type 1} → statement M
 enter-owners-spec =

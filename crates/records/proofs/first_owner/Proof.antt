@@ -30,7 +30,9 @@ unfolding ownerAt
 returns c =
     let s = c .before .before .before .before .before .args in
     let q = c .before .before .before .before .before .pre in
-    ap (λ (w : List ℕ). getD w (s .p) 0) (q .3) ∙ number-at (s .row .now) (s .p) (omega arith) ∙ rw (← c .before .before .before .value-at .ensures, ← c .before .before .is-divided .ensures, c .before .if1 .taken) (omega arith)
+    ap (λ (w : List ℕ). getD w (s .p) 0) (q .3)
+    ∙ number-at (s .row .now) (s .p) (omega arith)
+    ∙ rw (← c .before .before .before .value-at .ensures, ← c .before .before .is-divided .ensures, c .before .if1 .taken) (omega arith)
 
 mul-lowest-of : tie.Need-mul-lowest-of
 mul-lowest-of c = search needs
@@ -51,12 +53,14 @@ element-copy-out-result-2 : tie.Need-element-copy-out-result-2
 element-copy-out-result-2 c =
     let s = c .before .before .before .before .before .before .args in
     let q = c .before .before .before .before .before .before .pre in
-    let l : c .lowest-of .result ≤ s .p = rw (c .lowest-of .ensures .0, kind-in (s .kinds .now) (s .row .now) (s .p) (q .2) (q .1)) (only-below (at (s .row .now)) (s .p)) in
+    let k = kind-in (s .kinds .now) (s .row .now) (s .p) (q .2) (q .1) in
+    let l : c .lowest-of .result ≤ s .p = rw (c .lowest-of .ensures .0, k) (only-below (at (s .row .now)) (s .p)) in
     omega arith
 
 returns-2 : tie.Need-returns-2
 unfolding ownerAt
 returns-2 c =
+    let d = c .before .before .before in
     let s = c .before .before .before .before .before .before .before .args in
     let q = c .before .before .before .before .before .before .before .pre in
     let r = s .row .now in
@@ -64,7 +68,7 @@ returns-2 c =
     c .before .lowest-of .ensures .0 ∙ ap (λ (x : ℕ). lowest x (s .p)) (kind-in (s .kinds .now) r (s .p) (q .2) (q .1)) in
     ap (λ (w : List ℕ). getD w (c .before .lowest-of .result) 0) (q .3)
     ∙ number-at r (c .before .lowest-of .result) (omega (arith, only-below (at r) (s .p)))
-    ∙ rw (← c .before .before .before .before .before .value-at .ensures, ← c .before .before .before .before .is-divided .ensures, c .before .before .before .if1 .left, ← e) (omega arith)
+    ∙ rw (← d .before .before .value-at .ensures, ← d .before .is-divided .ensures, d .if1 .left, ← e) (omega arith)
 
 pub first-owner-spec : {M : Type 1} → statement M
 first-owner-spec =

@@ -1,5 +1,5 @@
 -- `records::larger_of` meets its contract. Assumes nothing.
-use Rattle.records.specs.Records.{resources, larger}
+use Rattle.records.specs.Records.{resourceColumn, larger}
 use Rattle.records.proofs.Larger.{larger-high}
 use Rattle.resource.specs.Index.{resourceAt, indexOf}
 use native.Mathlib.Omega.{arith}
@@ -17,15 +17,15 @@ sub-t11 : tie.Need-sub-t11
 sub-t11 c = search needs
 
 returns : tie.Need-returns
-unfolding larger resources resourceAt indexOf
+unfolding larger resourceColumn resourceAt indexOf
 returns c = rw (c .match .keys1)
 
 returns-2 : tie.Need-returns-2
-unfolding larger resources resourceAt indexOf
+unfolding larger resourceColumn resourceAt indexOf
 returns-2 c = rw (c .match .keys2)
 
 returns-3 : tie.Need-returns-3
-unfolding larger resources resourceAt indexOf
+unfolding larger resourceColumn resourceAt indexOf
 returns-3 c = rw (c .match .keys3)
 
 returns-4 : tie.Need-returns-4

@@ -19,7 +19,9 @@ pieces-of-requires c κs = search needs
 
 returns : tie.Need-returns
 unfolding listed
-returns c = with-most (c .pieces-of .result) (c .before .before .args .kind) (c .before .before .args .p) (c .before .before .args .v) (c .pieces-of .ensures ∙ rw (eq-eqb _ 0 (c .before .if1 .taken)))
+returns c =
+    let s = c .before .before .args in
+    with-most (c .pieces-of .result) (s .kind) (s .p) (s .v) (c .pieces-of .ensures ∙ rw (eq-eqb (s .kind) 0 (c .before .if1 .taken)))
 
 lowest-of-requires : tie.Need-lowest-of-requires
 lowest-of-requires c κs = search needs

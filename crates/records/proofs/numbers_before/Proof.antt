@@ -17,7 +17,8 @@ use Rattle.records.proofs.numbers_before.Tie as tie
 
 abbrev Inv-loop : tie.InvT-loop
 Inv-loop kinds row n before₀ sum₀ p₀ before sum p =
-    (p ≤ n) × (length before ≡ 17) × (sum ≡ length (recordsFrom (onlyPlan (at row)) (at row) p)) × (before ≡ filled (λ q. length (recordsFrom (onlyPlan (at row)) (at row) q)) p (replicate 17 0))
+    (p ≤ n) × (length before ≡ 17) × (sum ≡ length (recordsFrom (onlyPlan (at row)) (at row) p))
+    × (before ≡ filled (λ q. length (recordsFrom (onlyPlan (at row)) (at row) q)) p (replicate 17 0))
 
 abbrev μ-loop : tie.MeasureT-loop
 μ-loop kinds row n before₀ sum₀ p₀ before sum p = n - p
@@ -42,11 +43,13 @@ value-at-requires c κs = search needs
 
 listed-of-requires : tie.Need-listed-of-requires Inv-loop μ-loop
 listed-of-requires c κs =
-    let s = c .before .before .before .before .before .args in
-    (kind-known (s .kinds .now) (s .row .now) (c .before .before .before .loop .p) (c .before .before .before .before .before .pre .1) (omega arith), omega arith)
+    let t = c .before .before .before .before .before in
+    (kind-known (t .args .kinds .now) (t .args .row .now) (c .before .before .before .loop .p) (t .pre .1) (omega arith), omega arith)
 
 add-sum : tie.Need-add-sum Inv-loop μ-loop
-add-sum c = let r = c .before .before .before .before .before .before .args .row .now in omega (arith, records-most (onlyPlan (at r)) (at r) (c .before .before .before .before .loop .p))
+add-sum c =
+    let r = c .before .before .before .before .before .before .args .row .now in
+    omega (arith, records-most (onlyPlan (at r)) (at r) (c .before .before .before .before .loop .p))
 
 add-p : tie.Need-add-p Inv-loop μ-loop
 add-p c = omega arith
@@ -56,13 +59,17 @@ loop-less c = omega arith
 
 loop-again : tie.Need-loop-again Inv-loop μ-loop
 loop-again c =
-    let r = c .before .before .before .before .before .before .args .row .now in
+    let t = c .before .before .before .before .before .before in
+    let r = t .args .row .now in
     let l = c .before .before .before .before .loop in
-    let h : c .listed-of .result ≡ length (listAt (onlyPlan (at r) (l .p)) (at r) (l .p)) = here-is (at r) _ _ _ _ (kind-in (c .before .before .before .before .before .before .args .kinds .now) r (l .p) (c .before .before .before .before .before .before .pre .1) (omega arith)) (c .before .value-at .ensures) (c .listed-of .ensures .0) in (
+    let k = kind-in (t .args .kinds .now) r (l .p) (t .pre .1) (omega arith) in
+    let h : c .listed-of .result ≡ length (listAt (onlyPlan (at r) (l .p)) (at r) (l .p)) =
+    here-is (at r) _ _ _ _ k (c .before .value-at .ensures) (c .listed-of .ensures .0) in (
       omega arith,
       length-set (l .before) (l .p) (l .sum) ∙ l .inv .1,
       omega (arith, h, next-length (onlyPlan (at r)) (at r) (l .p)),
-      ap (λ (w : List ℕ). set w (l .p) (l .sum)) (l .inv .3) ∙ filled-step _ (l .p) (l .sum) (replicate 17 0) (omega (arith, length-replicate {A = ℕ} 17 0)) (l .inv .2),
+      ap (λ (w : List ℕ). set w (l .p) (l .sum)) (l .inv .3)
+          ∙ filled-step _ (l .p) (l .sum) (replicate 17 0) (omega (arith, length-replicate {A = ℕ} 17 0)) (l .inv .2),
     )
 
 mul-before-2 : tie.Need-mul-before-2 Inv-loop μ-loop
@@ -78,7 +85,9 @@ returns c =
     let l = c .before .loop in
     let e : l .p ≡ length r = omega arith in
     let f : ℕ → ℕ = λ q. length (recordsFrom (onlyPlan (at r)) (at r) q) in
-    ap (λ (w : List ℕ). set w (l .p) (l .sum)) (l .inv .3) ∙ filled-step f (l .p) (l .sum) (replicate 17 0) (omega (arith, length-replicate {A = ℕ} 17 0)) (l .inv .2) ∙ ap (λ (q : ℕ). filled f (q + 1) (replicate 17 0)) e
+    ap (λ (w : List ℕ). set w (l .p) (l .sum)) (l .inv .3)
+    ∙ filled-step f (l .p) (l .sum) (replicate 17 0) (omega (arith, length-replicate {A = ℕ} 17 0)) (l .inv .2)
+    ∙ ap (λ (q : ℕ). filled f (q + 1) (replicate 17 0)) e
 
 pub numbers-before-spec : {M : Type 1} → statement M
 numbers-before-spec =

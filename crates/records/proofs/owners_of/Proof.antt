@@ -42,7 +42,8 @@ returns c =
     let r = s .row .now in
     let e : c .before .loop .p ≡ length r = omega arith in
     let j : c .before .loop .j ≡ fieldsBefore (s .channel) (at r) (length r) = rw (← e) (c .before .loop .inv .1) in
-    entered (onlyPlan (at r)) (at r) (s .channel) (length r) (c .before .loop .owners) (few-fields (s .channel) (at r) (length r) (c .before .before .before .pre .0)) (rw (← j) (c .before .loop .inv .2))
+    let few = few-fields (s .channel) (at r) (length r) (c .before .before .before .pre .0) in
+    entered (onlyPlan (at r)) (at r) (s .channel) (length r) (c .before .loop .owners) few (rw (← j) (c .before .loop .inv .2))
 
 pub owners-of-spec : {M : Type 1} → statement M
 owners-of-spec =

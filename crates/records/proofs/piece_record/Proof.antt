@@ -25,7 +25,9 @@ in-channel-requires-2 : tie.Need-in-channel-requires-2
 in-channel-requires-2 c κs = search needs
 
 returns : tie.Need-returns
-returns c = rw (c .before .before .resource-at .ensures, c .before .in-channel .ensures, c .in-channel2 .ensures, c .before .before .before .piece-fields .ensures)
+returns c =
+    let d = c .before .before in
+    rw (d .resource-at .ensures, c .before .in-channel .ensures, c .in-channel2 .ensures, d .before .piece-fields .ensures)
 
 pub piece-record-spec : {M : Type 1} → statement M
 piece-record-spec =
