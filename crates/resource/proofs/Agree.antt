@@ -13,7 +13,7 @@ use Rattle.resource.specs.declared.Resource.{Resource}
 use Rattle.resource.specs.Names.{nameOf}
 use Rattle.resource.specs.Index.{indexOf, resourceAt, leavingOut, isPiece, fromPositions, exists, positionOf, placeOf}
 use Rattle.resource.specs.Tones.{Span, sameℤ, tonesAt, tonesOfThree, tonesOf}
-use Rattle.resource.specs.Runs.{spanOf, count, rising, runsOf, wide, wideWith26, three, narrow, narrowWith26, offset26, offset52, offset106, narrow26, narrow52, narrow106}
+use Rattle.resource.specs.Runs.{spanOf, count, rising, runsOf, placesRuns, wide, wideWith26, narrow, narrowWith26, offset26, offset52, offset106, narrow26, narrow52, narrow106}
 use Rattle.resource.proofs.Test.{both-left, both-right, wherever, met}
 use Rattle.resource.proofs.Everywhere.{every-piece, at-piece, everywhere, at-position}
 
@@ -62,7 +62,7 @@ abbrev agrees-at : ℕ → ℕ → ℕ → Bool
 agrees-at n g p = every-piece (λ x. wherever (leb (fromPositions x) n) (agrees n g p x)) && wherever (leb 4 n) (agrees-three n g p)
 
 agree : T (everywhere agrees-at)
-unfolding indexOf resourceAt isPiece fromPositions positionOf placeOf tonesAt tonesOfThree runsOf wide wideWith26 three narrow narrowWith26 offset26 offset52 offset106 narrow26 narrow52 narrow106
+unfolding indexOf resourceAt isPiece fromPositions positionOf placeOf tonesAt tonesOfThree runsOf placesRuns wide wideWith26 narrow narrowWith26 offset26 offset52 offset106 narrow26 narrow52 narrow106
 agree = tt
 
 -- what is shown of a resource: 01's subcarriers, as many as its name says, in rising maximal runs

@@ -2,23 +2,24 @@
 -- Assumes nothing.
 use mathlib.Core.Path.{_≡_, sym}
 use mathlib.Core.Logic.{_≢_, _⊎_, inl, inr, ⊎-elim}
-use mathlib.Core.Bool.{Bool, true, false, cond, _&&_}
+use mathlib.Core.Bool.{Bool, not, _&&_}
 use mathlib.Core.List.{List, [], _∷_, _++_}
 use Prim.Native.Nat.{ℕ, zero, suc, _+_, _-_, _*_, _/_, _%_, _^_, _≤_, _<_}
 use native.Mathlib.Nat.{eq-or-lt-of-le}
 use native.Mathlib.Omega.{arith}
 use borrow.Author.Tests.{lt-leb, le-leb, le-ltb, ne-eqb}
-use lib.Dec.{T, leb, eqb, leb→le, le→leb}
+use lib.Dec.{T, T-not, leb, eqb, leb→le, le→leb, eqb→eq}
 use lib.ListN.{length, getD}
 use Rattle.resource.specs.declared.Size.the-variants.{S484, S996}
 use Rattle.resource.specs.declared.Piece.{Piece}
 use Rattle.resource.specs.declared.Piece.the-variants.{Part}
 use Rattle.resource.specs.declared.Run.{Run}
-use Rattle.resource.specs.Values.{pieces, ownPieces}
+use Rattle.resource.specs.Values.{set-at, pieces, ownPieces}
 use Rattle.resource.specs.Index.{indexOf, resourceAt, leavingOut, positionOf, placeOf}
-use Rattle.resource.specs.Runs.{In, the242, runsOf, wide, wideWith26, three, narrow, narrowWith26, offset26, offset52, offset106, narrow26, narrow52, narrow106}
-use Rattle.resource.proofs.Test.{below-or, both-left, both-right, below, every-below}
+use Rattle.resource.specs.Runs.{In, placesRuns, runsOf, wide, wideWith26, narrow, narrowWith26, offset26, offset52, offset106, narrow26, narrow52, narrow106}
+use Rattle.resource.proofs.Test.{below-or, both-left, both-right, wherever, met, below, every-below}
 use Rattle.resource.proofs.Everywhere.{everywhere, at-position}
+use Rattle.resource.proofs.Places.{places-inside}
 
 -- ---- runs that rise from b on and end below e; one may touch the next
 abbrev pub ascending : ℕ → ℕ → List Run → Bool
@@ -97,7 +98,7 @@ abbrev ascends : ℕ → ℕ → ℕ → ℕ → Bool
 ascends n g p v = ascending (256 * (4 * g + p)) (256 * (4 * g + p) + 256) (gather (runs-at n g p) (ownPieces v))
 
 ascend : T (everywhere (λ n g p. below (ascends n g p) 72))
-unfolding pieces ownPieces indexOf resourceAt positionOf placeOf runsOf wide wideWith26 three narrow narrowWith26 offset26 offset52 offset106 narrow26 narrow52 narrow106
+unfolding pieces ownPieces indexOf resourceAt positionOf placeOf runsOf placesRuns wide wideWith26 narrow narrowWith26 offset26 offset52 offset106 narrow26 narrow52 narrow106
 ascend = tt
 
 -- from 51 on no value divides its position, and from 72 on none leaves it to itself
@@ -137,57 +138,40 @@ module _ (b g p v : ℕ) (h : b < 5) (i : p < 4) (j : 4 * g + p < 2 ^ b) where
       (λ q. ⊎-elim (λ f. n (sym f)) (λ f. let z = r l k f c o m in omega arith) (eq-or-lt-of-le q))
       (below-or k l)
 
--- ---- the larger resources
-edge-low : (t : Bool) → (3 ≤ cond t 12 3) × (cond t 12 3 ≤ 12)
-edge-low true = (omega arith, omega arith)
-edge-low false = (omega arith, omega arith)
+-- ---- the larger resources: inside their places (`Places.antt`)
+pair-places : T (below (λ i. below (λ q. wherever (set-at q (3 * 4 ^ i)) (eqb (q / 2) i)) 4) 2)
+pair-places = tt
 
--- a 242's subcarriers lie in its position
-in-242 : (p u : ℕ) → (the242 p .lo ≤ u) × (u ≤ the242 p .hi) → u / 256 ≡ p
-in-242 p u h = let e = edge-low (eqb (p % 2) 0) in omega arith
+pair-place : (i q : ℕ) → i < 2 → q < 4 → T (set-at q (3 * 4 ^ i)) → q / 2 ≡ i
+pair-place i q h l t =
+    eqb→eq (q / 2) i
+    (met (set-at q (3 * 4 ^ i)) (eqb (q / 2) i)
+    (every-below (λ q. wherever (set-at q (3 * 4 ^ i)) (eqb (q / 2) i)) 4
+    (every-below (λ i. below (λ q. wherever (set-at q (3 * 4 ^ i)) (eqb (q / 2) i)) 4) 2 pair-places i h) q l) t)
 
-in-two : (a c u : ℕ) → In u (the242 a ∷ the242 c ∷ []) → (u / 256 ≡ a) ⊎ (u / 256 ≡ c)
-in-two a c u (inl h) = inl (in-242 a u h)
-in-two a c u (inr (inl h)) = inr (in-242 c u h)
-in-two a c u (inr (inr h)) = absurd h
+three-places : T (below (λ k. not (set-at k (15 - 2 ^ k))) 4)
+three-places = tt
 
-in-three : (a c d u : ℕ) → In u (the242 a ∷ the242 c ∷ the242 d ∷ []) → (u / 256 ≡ a) ⊎ ((u / 256 ≡ c) ⊎ (u / 256 ≡ d))
-in-three a c d u (inl h) = inl (in-242 a u h)
-in-three a c d u (inr h) = inr (in-two c d u h)
-
--- of more than one position
-module _ (n g : ℕ) (m : n ≢ 1) where
+module _ (n g : ℕ) where
   -- a 484's in its pair
   pub pair-inside : (p u : ℕ) → p < 4 → In u (runsOf n g (resourceAt p (Part S484 1))) → u / 256 / 2 ≡ (4 * g + p) / 2
-  unfolding runsOf resourceAt indexOf positionOf wide
+  unfolding runsOf resourceAt indexOf
   pair-inside p u h i =
-      let q = 4 * g + 2 * (p / 2 + 1 - 1) in
-      ⊎-elim (λ e. omega arith) (λ e. omega arith) (in-two (2 * (q / 2)) (2 * (q / 2) + 1) u (rw (ne-eqb n 1 m) at i))
+      let e : p / 2 + 1 - 1 ≡ p / 2 = omega arith in
+      let f = places-inside g (3 * 4 ^ (p / 2)) u (rw e at i) in
+      let k = pair-place (p / 2) (u / 256 % 4) (omega arith) (omega arith) (f .1) in
+      omega (arith, f .0)
 
   -- a 996's in its segment
   pub whole-inside : (p u : ℕ) → In u (runsOf n g (resourceAt p (Part S996 1))) → u / 256 / 4 ≡ g
-  unfolding runsOf resourceAt indexOf positionOf wide
-  whole-inside p u i =
-      let j : In u (wide (4 * g + 0) S996 0) = rw (ne-eqb n 1 m) at i in
-      ⊎-elim (λ e. omega arith) (⊎-elim (λ e. omega arith) (λ e. absurd e)) j
+  unfolding runsOf resourceAt indexOf
+  whole-inside p u i = places-inside g 15 u i .0
 
--- a 484+242's in its segment, and not in the position that it leaves out
-three-places : (g k x y z u : ℕ) → x < 4 → y < 4 → z < 4 → x ≢ k → y ≢ k → z ≢ k
-    → In u (the242 (4 * g + x) ∷ the242 (4 * g + y) ∷ the242 (4 * g + z) ∷ []) → (u / 256 / 4 ≡ g) × (u / 256 ≢ 4 * g + k)
-three-places g k x y z u a c d nx ny nz i =
-    ⊎-elim (place x a nx) (⊎-elim (place y c ny) (place z d nz)) (in-three (4 * g + x) (4 * g + y) (4 * g + z) u i)
-  where
-    place : (j : ℕ) → j < 4 → j ≢ k → u / 256 ≡ 4 * g + j → (u / 256 / 4 ≡ g) × (u / 256 ≢ 4 * g + k)
-    place j l n e = (omega arith, λ f. n (omega arith))
-
-pub three-inside : (n g k u : ℕ) → k < 4 → In u (runsOf n g (leavingOut k)) → (u / 256 / 4 ≡ g) × (u / 256 ≢ 4 * g + k)
-unfolding runsOf three
-three-inside n g zero u h i =
-    three-places g 0 1 2 3 u (omega arith) (omega arith) (omega arith) (λ e. omega arith) (λ e. omega arith) (λ e. omega arith) i
-three-inside n g (suc zero) u h i =
-    three-places g 1 0 2 3 u (omega arith) (omega arith) (omega arith) (λ e. omega arith) (λ e. omega arith) (λ e. omega arith) i
-three-inside n g (suc (suc zero)) u h i =
-    three-places g 2 0 1 3 u (omega arith) (omega arith) (omega arith) (λ e. omega arith) (λ e. omega arith) (λ e. omega arith) i
-three-inside n g (suc (suc (suc zero))) u h i =
-    three-places g 3 0 1 2 u (omega arith) (omega arith) (omega arith) (λ e. omega arith) (λ e. omega arith) (λ e. omega arith) i
-three-inside n g (suc (suc (suc (suc k)))) u h i = absurd (omega arith)
+  -- a 484+242's in its segment, and not in the position that it leaves out
+  pub three-inside : (k u : ℕ) → k < 4 → In u (runsOf n g (leavingOut k)) → (u / 256 / 4 ≡ g) × (u / 256 ≢ 4 * g + k)
+  unfolding runsOf
+  three-inside k u h i =
+      let e : k + 1 - 1 ≡ k = omega arith in
+      let f = places-inside g (15 - 2 ^ k) u (rw e at i) in
+      let out = T-not (set-at k (15 - 2 ^ k)) (every-below (λ k. not (set-at k (15 - 2 ^ k))) 4 three-places k h) in
+      (f .0, λ (d : u / 256 ≡ 4 * g + k). let q : u / 256 % 4 ≡ k = omega arith in out (rw q at (f .1)))

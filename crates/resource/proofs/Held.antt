@@ -2,8 +2,9 @@
 use mathlib.Core.Path.{_≡_, refl}
 use mathlib.Core.Bool.{Bool, true, false, cond}
 use mathlib.Core.List.{List, [], _∷_}
-use Prim.Native.Nat.{ℕ, zero, suc, _+_, _-_, _*_, _%_, _≤_, _<_}
+use Prim.Native.Nat.{ℕ, zero, suc, _+_, _-_, _*_, _/_, _%_, _^_, _≤_, _<_}
 use native.Mathlib.Omega.{arith}
+use native.Mathlib.Numerals.{add-one}
 use lib.Dec.{eqb}
 use lib.ListN.{length, getD}
 use Rattle.resource.specs.declared.Size.{Size}
@@ -12,8 +13,10 @@ use Rattle.resource.specs.declared.Pairing.the-variants.{P106And26, P484
 use Rattle.resource.specs.declared.Resource.{Resource}
 use Rattle.resource.specs.declared.Resource.the-variants.{Single, Joined}
 use Rattle.resource.specs.declared.Run.{Run}
+use Rattle.resource.specs.declared.Tones.{Tones}
 use Rattle.resource.specs.Index.{positionOf, placeOf}
-use Rattle.resource.specs.Runs.{noRun, held, runsOf, wide, wideWith26, three, narrow, narrowWith26}
+use Rattle.resource.specs.Runs.{noRun, held, inPosition, runsOf, wide, wideWith26, narrow, narrowWith26}
+use Rattle.resource.proofs.Places.{places-few}
 
 few : (t : Bool) (a b : List Run) → length a ≤ 3 → length b ≤ 3 → length (cond t a b) ≤ 3
 few true a b h l = h
@@ -33,17 +36,26 @@ unfolding wide
 wide-few p S26 j = omega arith
 wide-few p S52 j = omega arith
 wide-few p S106 j = omega arith
-wide-few p S242 j = omega arith
+wide-few p S242 j = places-few (4 * (p / 4)) (2 ^ (p % 4))
 wide-few p S484 j = omega arith
 wide-few p S996 j = omega arith
 
+in-few : (n g : ℕ) (s : Size) (i : ℕ) → length (inPosition n g s i) ≤ 3
+in-few n g s i =
+    few (eqb n 1) (narrow s (placeOf s i)) (wide (4 * g + positionOf s i) s (placeOf s i)) (narrow-few s (placeOf s i)) (wide-few (4 * g + positionOf s i) s (placeOf s i))
+
 -- a resource has at most three runs
 pub runs-few : (n g : ℕ) (r : Resource) → length (runsOf n g r) ≤ 3
-unfolding runsOf wideWith26 narrowWith26 three
-runs-few n g (Single s i) = few (eqb n 1) (narrow s (placeOf s i)) (wide (4 * g + positionOf s i) s (placeOf s i)) (narrow-few s (placeOf s i)) (wide-few (4 * g + positionOf s i) s (placeOf s i))
+unfolding runsOf wideWith26 narrowWith26
+runs-few n g (Single S26 i) = in-few n g S26 i
+runs-few n g (Single S52 i) = in-few n g S52 i
+runs-few n g (Single S106 i) = in-few n g S106 i
+runs-few n g (Single S242 i) = in-few n g S242 i
+runs-few n g (Single S484 i) = places-few (4 * g) (3 * 4 ^ (i - 1))
+runs-few n g (Single S996 i) = places-few (4 * g) 15
 runs-few n g (Joined P106And26 i) =
     few (eqb n 1) _ _ (few (eqb ((i - 1) % 2) 0) _ _ (omega arith) (omega arith)) (few (eqb ((i - 1) % 2) 0) _ _ (omega arith) (omega arith))
-runs-few n g (Joined P484And242 i) = omega arith
+runs-few n g (Joined P484And242 i) = places-few (4 * g) (15 - 2 ^ (i - 1))
 
 -- three are held, and of these the resource's runs are the first
 pub held-three : (rs : List Run) → length (held rs .runs) ≡ 3
@@ -56,6 +68,17 @@ held-three (a ∷ b ∷ c ∷ rs) = refl
 pub held-count : (rs : List Run) → held rs .count ≡ length rs
 unfolding held
 held-count rs = refl
+
+-- one run more, before the others
+pub held-before : (a : Run) (rs : List Run) (t : Tones) → t ≡ held rs
+    → record { count = t .count + 1; runs = a ∷ getD (t .runs) 0 noRun ∷ getD (t .runs) 1 noRun ∷ [] } ≡ held (a ∷ rs)
+unfolding held
+held-before a rs t e = rw e (go rs)
+  where
+    go : (rs : List Run) → record { count = held rs .count + 1; runs = a ∷ getD (held rs .runs) 0 noRun ∷ getD (held rs .runs) 1 noRun ∷ [] } ≡ held (a ∷ rs)
+    go [] = refl
+    go (x ∷ []) = refl
+    go (x ∷ y ∷ rs) = rw (add-one (suc (suc (length rs))))
 
 pub held-at : (rs : List Run) (k : ℕ) → length rs ≤ 3 → k < length rs → getD (held rs .runs) k noRun ≡ getD rs k noRun
 unfolding held

@@ -3,6 +3,8 @@ pub mod Fields
 pub mod Everywhere
 pub mod Index
 pub mod Agree
+pub mod Places
 pub mod Apart
 pub mod Starts
 pub mod Held
+pub mod Pieces

@@ -3,7 +3,7 @@
 use mathlib.Core.Logic.{_⊎_}
 use mathlib.Core.Bool.{Bool, true, cond, _&&_}
 use mathlib.Core.List.{List, [], _∷_, _++_}
-use Prim.Native.Nat.{ℕ, suc, _+_, _-_, _*_, _/_, _%_, _≤_}
+use Prim.Native.Nat.{ℕ, suc, _+_, _-_, _*_, _/_, _%_, _^_, _≤_}
 use lib.Dec.{leb, eqb}
 use lib.IntN.{ℤ, pos, _-ℤ_}
 use lib.ListN.{length, take, getD}
@@ -14,6 +14,7 @@ use Rattle.resource.specs.declared.Resource.{Resource}
 use Rattle.resource.specs.declared.Resource.the-variants.{Single, Joined}
 use Rattle.resource.specs.declared.Run.{Run}
 use Rattle.resource.specs.declared.Tones.{Tones}
+use Rattle.resource.specs.Values.{set-at}
 use Rattle.resource.specs.Index.{positionOf, placeOf}
 use Rattle.resource.specs.Tones.{Span, _to_}
 
@@ -64,27 +65,32 @@ offset106 j = getD (1 ∷ 135 ∷ []) j 0
 abbrev pub the242 : ℕ → Run
 the242 p = runOf (edge p) 242
 
+-- ---- a resource of whole positions: the places that it has of the four positions from b on, where its segment begins, as a mask m,
+-- bit j for place j. "484 is its two 242s, 484+242 its three; 996 is -500 to -3 and 3 to 500": where it has all four, the two runs of
+-- the 996; else the 242 of each of its places, rising. `proofs/Places.antt` has 01's kinds one by one.
+abbrev pub the242If : Bool → ℕ → List Run
+the242If t p = cond t (the242 p ∷ []) []
+
+unfoldable pub placesRuns : ℕ → ℕ → List Run
+placesRuns b m =
+    cond (set-at 0 m && set-at 1 m && set-at 2 m && set-at 3 m)
+    (runOf (256 * b + 12) 498 ∷ runOf (256 * b + 515) 498 ∷ [])
+    (the242If (set-at 0 m) b ++ (the242If (set-at 1 m) (b + 1) ++ (the242If (set-at 2 m) (b + 2) ++ the242If (set-at 3 m) (b + 3))))
+
+-- ---- the j-th of its size at position p, a 484 and a 996 having more than a position
 unfoldable pub wide : ℕ → Size → ℕ → List Run
 wide p S26 j = runOf (edge p + offset26 j) 26 ∷ []
 wide p S52 j = runOf (edge p + offset52 j) 52 ∷ []
 wide p S106 j = runOf (edge p + offset106 j) 106 ∷ []
-wide p S242 j = the242 p ∷ []
-wide p S484 j = the242 (2 * (p / 2)) ∷ the242 (2 * (p / 2) + 1) ∷ []
-wide p S996 j = runOf (1024 * (p / 4) + 12) 498 ∷ runOf (1024 * (p / 4) + 515) 498 ∷ []
+wide p S242 j = placesRuns (4 * (p / 4)) (2 ^ (p % 4))
+wide p S484 j = []
+wide p S996 j = []
 
 unfoldable pub wideWith26 : ℕ → ℕ → List Run
 wideWith26 p j =
     cond (eqb j 0)
     (runOf (edge p + 1) 106 ∷ runOf (edge p + 108) 26 ∷ [])
     (runOf (edge p + 108) 26 ∷ runOf (edge p + 135) 106 ∷ [])
-
--- the 242s of segment g but for place k
-unfoldable pub three : ℕ → ℕ → List Run
-three g k =
-    the242 (4 * g + cond (eqb k 0) 1 0)
-    ∷ the242 (4 * g + cond (leb k 1) 2 1)
-    ∷ the242 (4 * g + cond (leb k 2) 3 2)
-    ∷ []
 
 -- ---- at 20 MHz
 -- where the j-th of its kind starts; the middle 26 is in two parts
@@ -109,11 +115,20 @@ unfoldable pub narrowWith26 : ℕ → List Run
 narrowWith26 j = cond (eqb j 0) (runOf 6 119 ∷ runOf 132 13 ∷ []) (runOf 112 13 ∷ runOf 132 119 ∷ [])
 
 -- ---- the runs of a resource of segment g in a channel of n positions, found by its size and index
+-- one that lies in a single position
+abbrev pub inPosition : ℕ → ℕ → Size → ℕ → List Run
+inPosition n g s i = cond (eqb n 1) (narrow s (placeOf s i)) (wide (4 * g + positionOf s i) s (placeOf s i))
+
 unfoldable pub runsOf : ℕ → ℕ → Resource → List Run
-runsOf n g (Single s i) = cond (eqb n 1) (narrow s (placeOf s i)) (wide (4 * g + positionOf s i) s (placeOf s i))
+runsOf n g (Single S26 i) = inPosition n g S26 i
+runsOf n g (Single S52 i) = inPosition n g S52 i
+runsOf n g (Single S106 i) = inPosition n g S106 i
+runsOf n g (Single S242 i) = inPosition n g S242 i
+runsOf n g (Single S484 i) = placesRuns (4 * g) (3 * 4 ^ (i - 1))
+runsOf n g (Single S996 i) = placesRuns (4 * g) 15
 runsOf n g (Joined P106And26 i) =
     cond (eqb n 1) (narrowWith26 ((i - 1) % 2)) (wideWith26 (4 * g + (i - 1) / 2) ((i - 1) % 2))
-runsOf n g (Joined P484And242 i) = three g (i - 1)
+runsOf n g (Joined P484And242 i) = placesRuns (4 * g) (15 - 2 ^ (i - 1))
 
 -- ---- as the program holds them: at most three
 abbrev pub noRun : Run

@@ -67,6 +67,15 @@ pieces v =
 unfoldable pub fieldsOf : ℕ → ℕ
 fieldsOf v = cond (ltb v 64) (length (pieces v)) (cond (carried v) (v % 8 + 1) 0)
 
+-- the value divides its position into smaller pieces
+unfoldable pub divides : ℕ → Bool
+divides v = not (eqb (length (pieces v)) 0)
+
+-- the fields of each piece of a position that is given to itself: "Values 0 to 25, 48 and 50 give one field to each of their pieces"; a
+-- whole 242 has all of its value's, 28 none
+unfoldable pub pieceFields : ℕ → ℕ
+pieceFields v = cond (divides v) 1 (fieldsOf v)
+
 -- the pieces of a position that is given to itself: 28 and 64 to 71 leave it whole, a 242
 unfoldable pub ownPieces : ℕ → List Piece
 ownPieces v = cond (eqb v 28 || within 64 71 v) (Part S242 1 ∷ []) (pieces v)

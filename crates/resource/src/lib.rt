@@ -1,13 +1,15 @@
 // The values of the RU Allocation subfield, the resources they speak of, and the subcarriers of a resource (01, "Values of the RU
 // Allocation subfield" and "Index and subcarriers").
 ghost use mathlib.Core.Path.{_≡_};
-ghost use Prim.Native.Nat.{_+_, _-_, _*_, _%_, _≤_, _<_};
+ghost use Prim.Native.Nat.{_+_, _-_, _*_, _/_, _%_, _≤_, _<_};
 ghost use lib.ListN.{length};
-ghost use mathlib.Core.List.{[], _∷_};
-ghost use Rattle.resource.specs.Values.{carried, fieldsOf, ownPieces, smallerAt, familyOf};
-ghost use Rattle.resource.specs.Starts.{starts, nthFrom, pieceFrom, pieceAt};
-ghost use Rattle.resource.specs.Index.{indexOf, resourceAt, past19, positionOf, placeOf};
-ghost use Rattle.resource.specs.Runs.{runOf, edge, the242, offset26, offset52, offset106, wide, wideWith26, three, narrow26, narrow52, narrow106, narrow, narrowWith26, runsOf, noRun, held};
+ghost use mathlib.Core.Bool.{true, cond};
+ghost use mathlib.Core.List.{List, [], _∷_, _++_};
+ghost use lib.Dec.{eqb};
+ghost use Rattle.resource.specs.Values.{carried, fieldsOf, divides, pieceFields, ownPieces, smallerAt, familyOf};
+ghost use Rattle.resource.specs.Starts.{starts, nthFrom, pieceFrom, pieceAt, numberedOf};
+ghost use Rattle.resource.specs.Index.{indexOf, resourceAt, isPiece, fromPositions};
+ghost use Rattle.resource.specs.Runs.{runOf, edge, the242, offset26, offset52, offset106, wide, wideWith26, the242If, placesRuns, narrow26, narrow52, narrow106, narrow, narrowWith26, runsOf, noRun, held};
 
 // A single resource's number of subcarriers.
 pub enum Size {
@@ -107,6 +109,23 @@ pub fn is_smaller(j: u16, v: u16) -> bool
     }
 }
 
+// The value divides its position into smaller pieces.
+pub fn is_divided(v: u16) -> bool
+    ensures { λ r. ⌜ r ≡ divides v ⌝ }
+{
+    match v {
+        0..=25 | 48 | 50 => true,
+        _ => false,
+    }
+}
+
+// The fields of each piece of a position that is given to itself.
+pub fn piece_fields(v: u16) -> u16
+    ensures { λ r. ⌜ r ≡ pieceFields v ⌝ }
+{
+    if is_divided(v) { 1 } else { fields_of(v) }
+}
+
 // How many pieces a position has that is given to itself.
 pub fn pieces_of(v: u16) -> u16
     ensures { λ r. ⌜ r ≡ length (ownPieces v) ⌝ }
@@ -198,12 +217,13 @@ fn index_of(p: u16, size: Size, i: u16) -> u16
     }
 }
 
-// The resource that the k-th piece of a value is at position p of the channel.
-pub fn resource_at(v: u16, p: u16, k: u16) -> Resource
-    ensures { λ r. ⌜ r ≡ resourceAt (p % 4) (pieceAt v k) ⌝ }
+// The resource that a piece of a value is at position p of the channel.
+pub fn resource_at(p: u16, x: Piece) -> Resource
+    requires { ⌜ numberedOf x ≤ 9 ⌝ }
+    ensures { λ r. ⌜ r ≡ resourceAt (p % 4) x ⌝ }
 {
     let q = p % 4;
-    match piece_at(v, k) {
+    match x {
         Piece::Part(size, i) => Resource::Single(size, index_of(q, size, i)),
         Piece::With26(i) => Resource::Joined(Pairing::P106And26, 2 * q + i),
     }
@@ -247,15 +267,6 @@ fn two_runs(a: Run, b: Run) -> Tones
     Tones {
         count: 2,
         runs: [a, b, no_run()],
-    }
-}
-
-fn three_runs(a: Run, b: Run, c: Run) -> Tones
-    ensures { λ r. ⌜ r ≡ held (a ∷ b ∷ c ∷ []) ⌝ }
-{
-    Tones {
-        count: 3,
-        runs: [a, b, c],
     }
 }
 
@@ -328,11 +339,8 @@ fn wide_tones(p: u32, size: Size, j: u16) -> Tones
         Size::S52 => one_run(run_of(edge_of(p) + offset_52(j), 52)),
         Size::S106 => one_run(run_of(edge_of(p) + offset_106(j), 106)),
         Size::S242 => one_run(run_242(p)),
-        Size::S484 => two_runs(run_242(2 * (p / 2)), run_242(2 * (p / 2) + 1)),
-        Size::S996 => two_runs(
-            run_of(1024 * (p / 4) + 12, 498),
-            run_of(1024 * (p / 4) + 515, 498),
-        ),
+        Size::S484 => no_tones(),
+        Size::S996 => no_tones(),
     }
 }
 
@@ -345,20 +353,6 @@ fn wide_joined(p: u32, j: u16) -> Tones
         two_runs(run_of(e + 1, 106), run_of(e + 108, 26))
     } else {
         two_runs(run_of(e + 108, 26), run_of(e + 135, 106))
-    }
-}
-
-// The three 242s of segment g but for place k.
-fn three_tones(g: u32, k: u16) -> Tones
-    requires { ⌜ g < 65536 ⌝ }
-    ensures { λ r. ⌜ r ≡ held (three g k) ⌝ }
-{
-    let p = 4 * g;
-    match k {
-        0 => three_runs(run_242(p + 1), run_242(p + 2), run_242(p + 3)),
-        1 => three_runs(run_242(p), run_242(p + 2), run_242(p + 3)),
-        2 => three_runs(run_242(p), run_242(p + 1), run_242(p + 3)),
-        _ => three_runs(run_242(p), run_242(p + 1), run_242(p + 2)),
     }
 }
 
@@ -432,80 +426,61 @@ fn narrow_joined(j: u16) -> Tones
     }
 }
 
-// One less, or 0.
-fn one_less(i: u16) -> u16
-    ensures { λ r. ⌜ r ≡ i - 1 ⌝ }
+// The runs of the j-th single resource of its size at position p of a channel of n.
+fn part_tones(n: u16, p: u16, size: Size, j: u16) -> Tones
+    ensures { λ r. ⌜ r ≡ held (cond (eqb n 1) (narrow size j) (wide p size j)) ⌝ }
 {
-    if i == 0 { 0 } else { i - 1 }
-}
-
-// The 26 of index i, counted from 0 in its segment.
-fn past_19(i: u16) -> u16
-    ensures { λ r. ⌜ r ≡ past19 i ⌝ }
-{
-    if i < 19 { one_less(i) } else { i - 2 }
-}
-
-// The position in its segment of the single resource of index i.
-fn position_of(size: Size, i: u16) -> u32
-    ensures { λ r. ⌜ (r ≡ positionOf size i) × (r < 131072) ⌝ }
-{
-    match size {
-        Size::S26 => (past_19(i) / 9) as u32,
-        Size::S52 => (one_less(i) / 4) as u32,
-        Size::S106 => (one_less(i) / 2) as u32,
-        Size::S242 => one_less(i) as u32,
-        Size::S484 => 2 * (one_less(i) as u32),
-        Size::S996 => 0,
-    }
-}
-
-// Its place there among those of its size, from 0.
-fn place_of(size: Size, i: u16) -> u16
-    ensures { λ r. ⌜ r ≡ placeOf size i ⌝ }
-{
-    match size {
-        Size::S26 => past_19(i) % 9,
-        Size::S52 => one_less(i) % 4,
-        Size::S106 => one_less(i) % 2,
-        Size::S242 => 0,
-        Size::S484 => 0,
-        Size::S996 => 0,
-    }
-}
-
-fn single_tones(n: u16, g: u16, size: Size, i: u16) -> Tones
-    ensures { λ r. ⌜ r ≡ held (runsOf n g (Resource.Single size i)) ⌝ }
-{
-    let j = place_of(size, i);
     if n == 1 {
         return narrow_tones(size, j);
     }
-    wide_tones(4 * (g as u32) + position_of(size, i), size, j)
+    wide_tones(p as u32, size, j)
 }
 
-fn joined_tones(n: u16, g: u16, pairing: Pairing, i: u16) -> Tones
-    ensures { λ r. ⌜ r ≡ held (runsOf n g (Resource.Joined pairing i)) ⌝ }
+fn with_26_tones(n: u16, p: u16, j: u16) -> Tones
+    ensures { λ r. ⌜ r ≡ held (cond (eqb n 1) (narrowWith26 j) (wideWith26 p j)) ⌝ }
 {
-    let k = one_less(i);
-    match pairing {
-        Pairing::P106And26 => {
-            if n == 1 {
-                narrow_joined(k % 2)
-            } else {
-                wide_joined(4 * (g as u32) + (k / 2) as u32, k % 2)
-            }
-        }
-        Pairing::P484And242 => three_tones(g as u32, k),
+    if n == 1 {
+        return narrow_joined(j);
+    }
+    wide_joined(p as u32, j)
+}
+
+// The subcarriers of a piece of position p of a channel of n.
+pub fn piece_tones(n: u16, p: u16, x: Piece) -> Tones
+    requires { ⌜ (isPiece x ≡ true) × (fromPositions x ≡ 1) ⌝ }
+    ensures { λ t. ⌜ t ≡ held (runsOf n (p / 4) (resourceAt (p % 4) x)) ⌝ }
+{
+    match x {
+        Piece::Part(size, i) => part_tones(n, p, size, i - 1),
+        Piece::With26(i) => with_26_tones(n, p, i - 1),
     }
 }
 
-// The subcarriers of a resource of segment g in a channel of n positions.
-pub fn tones_of(n: u16, g: u16, r: Resource) -> Tones
-    ensures { λ t. ⌜ t ≡ held (runsOf n g r) ⌝ }
+// The 242 of position p, where it is a place of the resource's, before the runs of t.
+fn with_242(own: bool, p: u32, t: Tones) -> Tones
+    requires { ⌜ (p < 1048576) × (t .count < 4) × (length (t .runs) ≡ 3) ⌝ }
+    ensures { λ r. ⌜ ((rs : List Run) → t ≡ held rs → r ≡ held (the242If own p ++ rs)) ⌝ }
+    ensures bounded { λ r. ⌜ (r .count ≤ t .count + 1) × (length (r .runs) ≡ 3) ⌝ }
 {
-    match r {
-        Resource::Single(size, i) => single_tones(n, g, size, i),
-        Resource::Joined(pairing, i) => joined_tones(n, g, pairing, i),
+    if own {
+        return Tones {
+            count: t.count + 1,
+            runs: [run_242(p), t.runs[0], t.runs[1]],
+        };
     }
+    t
+}
+
+// The subcarriers of a resource of whole positions, by its places among the four from b on, where its segment begins.
+pub fn places_tones(b: u32, mask: u16) -> Tones
+    requires { ⌜ b < 1000000 ⌝ }
+    ensures { λ t. ⌜ t ≡ held (placesRuns b mask) ⌝ }
+{
+    if mask % 16 == 15 {
+        return two_runs(run_of(256 * b + 12, 498), run_of(256 * b + 515, 498));
+    }
+    let last = with_242(mask / 8 % 2 == 1, b + 3, no_tones());
+    let upper = with_242(mask / 4 % 2 == 1, b + 2, last);
+    let but_first = with_242(mask / 2 % 2 == 1, b + 1, upper);
+    with_242(mask % 2 == 1, b, but_first)
 }

@@ -1,5 +1,6 @@
 -- `resource::wide_tones` meets its contract. Assumes nothing.
 use Rattle.resource.specs.Runs.{wide}
+use Rattle.resource.proofs.Places.{own-place}
 use mathlib.Core.Path.{_∙_}
 use borrow.Author.Needs.{needs}
 use Rattle.resource.proofs.wide_tones.Statement.{statement}
@@ -71,47 +72,14 @@ one-run-requires-4 c κs = search needs
 enum-told-5 : tie.Need-enum-told-5
 enum-told-5 c = search needs
 
-mul-run-242 : tie.Need-mul-run-242
-mul-run-242 c = search needs
-
-run-242-requires-2 : tie.Need-run-242-requires-2
-run-242-requires-2 c κs = search needs
-
-mul-run-242-2 : tie.Need-mul-run-242-2
-mul-run-242-2 c = search needs
-
-add-run-242 : tie.Need-add-run-242
-add-run-242 c = search needs
-
-run-242-requires-3 : tie.Need-run-242-requires-3
-run-242-requires-3 c κs = search needs
-
-two-runs-requires : tie.Need-two-runs-requires
-two-runs-requires c κs = search needs
+no-tones-requires : tie.Need-no-tones-requires
+no-tones-requires c κs = search needs
 
 enum-told-6 : tie.Need-enum-told-6
 enum-told-6 c = search needs
 
-mul-run-of : tie.Need-mul-run-of
-mul-run-of c = search needs
-
-add-run-of-4 : tie.Need-add-run-of-4
-add-run-of-4 c = search needs
-
-run-of-requires-4 : tie.Need-run-of-requires-4
-run-of-requires-4 c κs = search needs
-
-mul-run-of-2 : tie.Need-mul-run-of-2
-mul-run-of-2 c = search needs
-
-add-run-of-5 : tie.Need-add-run-of-5
-add-run-of-5 c = search needs
-
-run-of-requires-5 : tie.Need-run-of-requires-5
-run-of-requires-5 c κs = search needs
-
-two-runs-requires-2 : tie.Need-two-runs-requires-2
-two-runs-requires-2 c κs = search needs
+no-tones-requires-2 : tie.Need-no-tones-requires-2
+no-tones-requires-2 c κs = search needs
 
 returns : tie.Need-returns
 unfolding wide
@@ -127,15 +95,17 @@ returns-3 c = c .one-run3 .ensures ∙ rw (c .before .run-of3 .ensures, c .befor
 
 returns-4 : tie.Need-returns-4
 unfolding wide
-returns-4 c = c .one-run4 .ensures ∙ rw (c .before .run-242 .ensures, c .before .before .enum-told4 .given .1)
+returns-4 c =
+    c .one-run4 .ensures
+    ∙ rw (c .before .run-242 .ensures, c .before .before .enum-told4 .given .1, own-place (c .before .before .before .before .args .p))
 
 returns-5 : tie.Need-returns-5
 unfolding wide
-returns-5 c = c .two-runs .ensures ∙ rw (c .before .before .run-2422 .ensures, c .before .run-2423 .ensures, c .before .before .before .enum-told5 .given .1)
+returns-5 c = c .no-tones .ensures ∙ rw (c .before .enum-told5 .given .1)
 
 returns-6 : tie.Need-returns-6
 unfolding wide
-returns-6 c = c .two-runs2 .ensures ∙ rw (c .before .before .run-of4 .ensures, c .before .run-of5 .ensures, c .before .before .before .enum-told6 .given .1)
+returns-6 c = c .no-tones2 .ensures ∙ rw (c .before .enum-told6 .given .1)
 
 pub wide-tones-spec : {M : Type 1} → statement M
 wide-tones-spec =
@@ -163,20 +133,9 @@ wide-tones-spec =
     run-242-requires
     one-run-requires-4
     enum-told-5
-    mul-run-242
-    run-242-requires-2
-    mul-run-242-2
-    add-run-242
-    run-242-requires-3
-    two-runs-requires
+    no-tones-requires
     enum-told-6
-    mul-run-of
-    add-run-of-4
-    run-of-requires-4
-    mul-run-of-2
-    add-run-of-5
-    run-of-requires-5
-    two-runs-requires-2
+    no-tones-requires-2
     returns
     returns-2
     returns-3

@@ -1,8 +1,8 @@
--- `records::is_divided` meets its contract. Assumes nothing.
+-- `resource::is_divided` meets its contract. Assumes nothing.
 use Rattle.resource.proofs.Apart.{not-divided}
 use Rattle.resource.proofs.Test.{below-or, every-below, every-between, Missed, key-or, no-key}
-use Rattle.records.specs.Records.{divides}
+use Rattle.resource.specs.Values.{divides}
 use Rattle.resource.specs.Values.{pieces}
 use lib.Dec.{T}
 use Prim.Native.Nat.{ℕ, _≤_, _<_}
 use mathlib.Core.List.{List, [], _∷_}
@@ -10,8 +10,8 @@ use mathlib.Core.Logic.{⊎-elim}
 use mathlib.Core.Bool.{Bool, true, false, not}
 use native.Mathlib.Omega.{arith}
 use mathlib.Core.Path.{_≡_, refl}
-use Rattle.records.proofs.is_divided.Statement.{statement}
-use Rattle.records.proofs.is_divided.Tie as tie
+use Rattle.resource.proofs.is_divided.Statement.{statement}
+use Rattle.resource.proofs.is_divided.Tie as tie
 
 is-true : (t : Bool) → T t → true ≡ t
 is-true true h = refl

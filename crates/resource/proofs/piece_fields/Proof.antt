@@ -1,9 +1,9 @@
--- `records::piece_fields` meets its contract. Assumes nothing.
-use Rattle.records.specs.Records.{pieceFields}
+-- `resource::piece_fields` meets its contract. Assumes nothing.
+use Rattle.resource.specs.Values.{pieceFields}
 use mathlib.Core.Path.{_∙_}
 use borrow.Author.Needs.{needs}
-use Rattle.records.proofs.piece_fields.Statement.{statement}
-use Rattle.records.proofs.piece_fields.Tie as tie
+use Rattle.resource.proofs.piece_fields.Statement.{statement}
+use Rattle.resource.proofs.piece_fields.Tie as tie
 
 is-divided-requires : tie.Need-is-divided-requires
 is-divided-requires c κs = search needs

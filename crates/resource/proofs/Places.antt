@@ -1,0 +1,201 @@
+-- The resources of whole positions: 01's kinds one by one, in its words, and where the subcarriers of any places lie. Assumes nothing.
+use mathlib.Core.Path.{_≡_, refl, ap, _∙_}
+use mathlib.Core.Logic.{_≢_, _⊎_, inl, inr, ⊎-elim}
+use mathlib.Core.Bool.{Bool, true, false, cond, _&&_}
+use mathlib.Core.List.{List, [], _∷_, _++_}
+use Prim.Native.Nat.{ℕ, zero, suc, _+_, _-_, _*_, _/_, _%_, _^_, _≤_, _<_}
+use native.Mathlib.Nat.{add-zero}
+use native.Mathlib.Omega.{arith}
+use borrow.Author.Tests.{ne-eqb}
+use lib.Dec.{T, leb, eqb, eqb→eq}
+use lib.ListN.{length}
+use Rattle.resource.specs.declared.Size.the-variants.{S242, S484, S996}
+use Rattle.resource.specs.declared.Piece.the-variants.{Part}
+use Rattle.resource.specs.declared.Resource.the-variants.{Single}
+use Rattle.resource.specs.declared.Run.{Run}
+use Rattle.resource.specs.Values.{set-at}
+use Rattle.resource.specs.Index.{leavingOut, indexOf, resourceAt, positionOf, placeOf}
+use Rattle.resource.specs.Runs.{In, runOf, the242, the242If, placesRuns, wide, runsOf}
+use Rattle.resource.proofs.Test.{below-or, both-left, both-right}
+
+-- ---- 01's kinds
+-- a single place
+pub one-place : (b q : ℕ) → q < 4 → placesRuns b (2 ^ q) ≡ the242 (b + q) ∷ []
+unfolding placesRuns
+one-place b zero h = rw (add-zero b)
+one-place b (suc zero) h = refl
+one-place b (suc (suc zero)) h = refl
+one-place b (suc (suc (suc zero))) h = refl
+one-place b (suc (suc (suc (suc q)))) h = absurd (omega arith)
+
+pub own-place : (p : ℕ) → placesRuns (4 * (p / 4)) (2 ^ (p % 4)) ≡ the242 p ∷ []
+own-place p =
+    let e : 4 * (p / 4) + p % 4 ≡ p = omega arith in
+    one-place (4 * (p / 4)) (p % 4) (omega arith) ∙ ap (λ (x : ℕ). the242 x ∷ []) e
+
+-- from 40 MHz the 242 at position q of segment g is the position's
+pub the-242 : (n g q : ℕ) → n ≢ 1 → runsOf n g (Single S242 (q + 1)) ≡ the242 (4 * g + q) ∷ []
+unfolding runsOf wide positionOf
+the-242 n g q m =
+    let e : q + 1 - 1 ≡ q = omega arith in
+    rw (ne-eqb n 1 m, e) (own-place (4 * g + q))
+
+-- "484 is its two 242s": pair i of segment g
+pub the-484 : (n g i : ℕ) → i < 2 → runsOf n g (Single S484 (i + 1)) ≡ the242 (4 * g + 2 * i) ∷ the242 (4 * g + 2 * i + 1) ∷ []
+unfolding runsOf placesRuns
+the-484 n g zero h = rw (add-zero (4 * g))
+the-484 n g (suc zero) h = ap (λ (x : ℕ). the242 (4 * g + 2) ∷ the242 x ∷ []) (omega arith)
+the-484 n g (suc (suc i)) h = absurd (omega arith)
+
+-- "484+242 its three": all of segment g but position k
+pub the-three : (n g k : ℕ) → k < 4
+    → runsOf n g (leavingOut k) ≡ the242 (4 * g + cond (eqb k 0) 1 0) ∷ the242 (4 * g + cond (leb k 1) 2 1) ∷ the242 (4 * g + cond (leb k 2) 3 2) ∷ []
+unfolding runsOf placesRuns
+the-three n g zero h = refl
+the-three n g (suc zero) h = rw (add-zero (4 * g))
+the-three n g (suc (suc zero)) h = rw (add-zero (4 * g))
+the-three n g (suc (suc (suc zero))) h = rw (add-zero (4 * g))
+the-three n g (suc (suc (suc (suc k)))) h = absurd (omega arith)
+
+-- "996 is -500 to -3 and 3 to 500": from the centre of segment g, which is 1024 g + 512 above the channel's lower edge
+pub the-996 : (n g : ℕ) → runsOf n g (Single S996 1) ≡ runOf (1024 * g + 12) 498 ∷ runOf (1024 * g + 515) 498 ∷ []
+unfolding runsOf placesRuns
+the-996 n g = let e : 256 * (4 * g) ≡ 1024 * g = omega arith in rw e
+
+-- ---- at most three runs, whatever the places
+few : (b : ℕ) (w x y z : Bool)
+    → length (cond (w && x && y && z) (runOf (256 * b + 12) 498 ∷ runOf (256 * b + 515) 498 ∷ []) (the242If w b ++ (the242If x (b + 1) ++ (the242If y (b + 2) ++ the242If z (b + 3))))) ≤ 3
+few b true true true true = omega arith
+few b true true true false = omega arith
+few b true true false true = omega arith
+few b true true false false = omega arith
+few b true false true true = omega arith
+few b true false true false = omega arith
+few b true false false true = omega arith
+few b true false false false = omega arith
+few b false true true true = omega arith
+few b false true true false = omega arith
+few b false true false true = omega arith
+few b false true false false = omega arith
+few b false false true true = omega arith
+few b false false true false = omega arith
+few b false false false true = omega arith
+few b false false false false = omega arith
+
+pub places-few : (b m : ℕ) → length (placesRuns b m) ≤ 3
+unfolding placesRuns
+places-few b m = few b (set-at 0 m) (set-at 1 m) (set-at 2 m) (set-at 3 m)
+
+-- ---- where their subcarriers lie
+edge-low : (t : Bool) → (3 ≤ cond t 12 3) × (cond t 12 3 ≤ 12)
+edge-low true = (omega arith, omega arith)
+edge-low false = (omega arith, omega arith)
+
+-- a 242's in its position
+in-242 : (p u : ℕ) → (the242 p .lo ≤ u) × (u ≤ the242 p .hi) → u / 256 ≡ p
+in-242 p u h = let e = edge-low (eqb (p % 2) 0) in omega arith
+
+in-if : (t : Bool) (p u : ℕ) (rs : List Run) → In u (the242If t p ++ rs) → (T t × (u / 256 ≡ p)) ⊎ In u rs
+in-if true p u rs (inl h) = inl (tt, in-242 p u h)
+in-if true p u rs (inr h) = inr h
+in-if false p u rs h = inr h
+
+in-last : (t : Bool) (p u : ℕ) → In u (the242If t p) → T t × (u / 256 ≡ p)
+in-last true p u (inl h) = (tt, in-242 p u h)
+in-last true p u (inr h) = absurd h
+in-last false p u h = absurd h
+
+in-either : (t : Bool) (u : ℕ) (xs ys : List Run) → In u (cond t xs ys) → (T t × In u xs) ⊎ In u ys
+in-either true u xs ys h = inl (tt, h)
+in-either false u xs ys h = inr h
+
+-- u is a subcarrier of the j-th position from b on, which is a place
+abbrev At : ℕ → ℕ → ℕ → ℕ → Type 0
+At b m u j = T (set-at j m) × (u / 256 ≡ b + j)
+
+abbrev Somewhere : ℕ → ℕ → ℕ → Type 0
+Somewhere b m u = At b m u 0 ⊎ (At b m u 1 ⊎ (At b m u 2 ⊎ At b m u 3))
+
+whole-at : (b m u : ℕ) → T (set-at 0 m && set-at 1 m && set-at 2 m && set-at 3 m)
+    → In u (runOf (256 * b + 12) 498 ∷ runOf (256 * b + 515) 498 ∷ []) → Somewhere b m u
+whole-at b m u t h =
+    let three = both-left (set-at 0 m && set-at 1 m && set-at 2 m) (set-at 3 m) t in
+    let two = both-left (set-at 0 m && set-at 1 m) (set-at 2 m) three in
+    let range : (256 * b ≤ u) × (u < 256 * b + 1024) = ⊎-elim (λ e. omega arith) (⊎-elim (λ e. omega arith) (λ e. absurd e)) h in
+    ⊎-elim
+    (λ (l : u < 256 * b + 256). inl (both-left (set-at 0 m) (set-at 1 m) two, omega arith))
+    (λ (k : 256 * b + 256 ≤ u). inr (⊎-elim
+    (λ (l : u < 256 * b + 512). inl (both-right (set-at 0 m) (set-at 1 m) two, omega arith))
+    (λ (i : 256 * b + 512 ≤ u). inr (⊎-elim
+    (λ (l : u < 256 * b + 768). inl (both-right (set-at 0 m && set-at 1 m) (set-at 2 m) three, omega arith))
+    (λ (l : 256 * b + 768 ≤ u). inr (both-right (set-at 0 m && set-at 1 m && set-at 2 m) (set-at 3 m) t, omega arith))
+    (below-or u (256 * b + 768))))
+    (below-or u (256 * b + 512))))
+    (below-or u (256 * b + 256))
+
+somewhere : (b m u : ℕ) → In u (placesRuns b m) → Somewhere b m u
+unfolding placesRuns
+somewhere b m u h =
+    ⊎-elim (λ w. whole-at b m u (w .0) (w .1))
+    (λ w. ⊎-elim (λ e. inl (e .0, omega arith))
+    (λ x. inr (⊎-elim inl (λ y. inr (⊎-elim inl (λ z. inr (in-last (set-at 3 m) (b + 3) u z)) (in-if (set-at 2 m) (b + 2) u _ y))) (in-if (set-at 1 m) (b + 1) u _ x)))
+    (in-if (set-at 0 m) b u _ w))
+    (in-either (set-at 0 m && set-at 1 m && set-at 2 m && set-at 3 m) u _ _ h)
+
+-- the subcarriers of a resource of whole positions lie in its segment, and there in its places
+pub places-inside : (g m u : ℕ) → In u (placesRuns (4 * g) m) → (u / 256 / 4 ≡ g) × T (set-at (u / 256 % 4) m)
+places-inside g m u h =
+    ⊎-elim (at 0 (omega arith)) (⊎-elim (at 1 (omega arith)) (⊎-elim (at 2 (omega arith)) (at 3 (omega arith)))) (somewhere (4 * g) m u h)
+  where
+    at : (j : ℕ) → j < 4 → At (4 * g) m u j → (u / 256 / 4 ≡ g) × T (set-at (u / 256 % 4) m)
+    at j l e = let f : u / 256 % 4 ≡ j = omega (arith, e .1) in (omega (arith, e .1), rw f (e .0))
+
+-- ---- as the program finds them
+odd : (a k : ℕ) → a ≡ 2 * k + 1 → a % 2 ≡ 1
+odd a k e = omega arith
+
+halved : (a b : ℕ) → a % 2 ≡ 1 → a / 2 ≡ b → a ≡ 2 * b + 1
+halved a b e f = omega arith
+
+-- all four places
+pub all-places : (b m : ℕ) → m % 16 ≡ 15 → placesRuns b m ≡ runOf (256 * b + 12) 498 ∷ runOf (256 * b + 515) 498 ∷ []
+unfolding placesRuns
+all-places b m e =
+    let w : m / 1 % 2 ≡ 1 = omega arith in
+    let two : m / 2 ≡ 8 * (m / 16) + 7 = omega arith in
+    let four : m / 4 ≡ 4 * (m / 16) + 3 = omega arith in
+    let eight : m / 8 ≡ 2 * (m / 16) + 1 = omega arith in
+    let x : m / 2 % 2 ≡ 1 = odd (m / 2) (4 * (m / 16) + 3) (omega (arith, two)) in
+    let y : m / 4 % 2 ≡ 1 = odd (m / 4) (2 * (m / 16) + 1) (omega (arith, four)) in
+    let z : m / 8 % 2 ≡ 1 = odd (m / 8) (m / 16) (omega (arith, eight)) in
+    rw (w, x, y, z)
+
+not-all : (m : ℕ) → (m % 16 ≡ 15 → ⊥) → (set-at 0 m && set-at 1 m && set-at 2 m && set-at 3 m) ≡ false
+not-all m n = go (set-at 0 m && set-at 1 m && set-at 2 m && set-at 3 m) refl
+  where
+    go : (t : Bool) → (set-at 0 m && set-at 1 m && set-at 2 m && set-at 3 m) ≡ t → t ≡ false
+    go false e = refl
+    go true e =
+        let a : T (set-at 0 m && set-at 1 m && set-at 2 m && set-at 3 m) = rw e tt in
+        let three = both-left (set-at 0 m && set-at 1 m && set-at 2 m) (set-at 3 m) a in
+        let two = both-left (set-at 0 m && set-at 1 m) (set-at 2 m) three in
+        let w : m / 1 % 2 ≡ 1 = eqb→eq (m / 1 % 2) 1 (both-left (set-at 0 m) (set-at 1 m) two) in
+        let x : m / 2 % 2 ≡ 1 = eqb→eq (m / 2 % 2) 1 (both-right (set-at 0 m) (set-at 1 m) two) in
+        let y : m / 4 % 2 ≡ 1 = eqb→eq (m / 4 % 2) 1 (both-right (set-at 0 m && set-at 1 m) (set-at 2 m) three) in
+        let z : m / 8 % 2 ≡ 1 = eqb→eq (m / 8 % 2) 1 (both-right (set-at 0 m && set-at 1 m && set-at 2 m) (set-at 3 m) a) in
+        let eight : m / 8 ≡ 2 * (m / 16) + 1 = halved (m / 8) (m / 16) z (omega arith) in
+        let four : m / 4 ≡ 2 * (m / 8) + 1 = halved (m / 4) (m / 8) y (omega arith) in
+        let two : m / 2 ≡ 2 * (m / 4) + 1 = halved (m / 2) (m / 4) x (omega arith) in
+        absurd (n (omega (arith, w, two, four, eight)))
+
+if-last : (t : Bool) (p : ℕ) → the242If t p ≡ the242If t p ++ []
+if-last true p = refl
+if-last false p = refl
+
+-- else one after the other
+pub each-place : (b m : ℕ) → (m % 16 ≡ 15 → ⊥)
+    → placesRuns b m ≡ the242If (eqb (m % 2) 1) b ++ (the242If (eqb (m / 2 % 2) 1) (b + 1) ++ (the242If (eqb (m / 4 % 2) 1) (b + 2) ++ (the242If (eqb (m / 8 % 2) 1) (b + 3) ++ [])))
+unfolding placesRuns
+each-place b m n =
+    let e : m / 1 ≡ m = omega arith in
+    rw (not-all m n, e, ← if-last (eqb (m / 8 % 2) 1) (b + 3))
