@@ -3,16 +3,16 @@
 // of specs/Kinds.antt: line 0 is the position itself, and 7 is none.
 use answer::Out;
 ghost use mathlib.Core.Path.{_≡_};
-ghost use mathlib.Core.Bool.{cond, _&&_, _||_};
+ghost use mathlib.Core.Bool.{true, false, cond, _&&_, _||_};
 ghost use lib.Dec.{eqb, leb};
-ghost use Prim.Native.Nat.{_+_, _-_, _*_, _/_, _%_, _^_, _≤_, _<_};
+ghost use Prim.Native.Nat.{ℕ, _+_, _-_, _*_, _/_, _%_, _^_, _≤_, _<_};
 ghost use lib.ListN.{length, replicate};
 ghost use Rattle.answer.specs.Filled.{filled};
 ghost use Rattle.plan.specs.Kinds.{family, span, mask, takes, blankAt};
 ghost use Rattle.plan.specs.Plan.{at};
 ghost use Rattle.plan.specs.Fields.{gives, share, fieldsIn, channelShare, total};
 ghost use Rattle.plan.specs.Layout.{Laid};
-ghost use Rattle.plan.specs.Guess.{nameOf, orElse, firstNamed, tells, choose, onlyPlan, fitting, within, rightAt, firstWrong, firstOver};
+ghost use Rattle.plan.specs.Guess.{Plain, nameOf, orElse, firstNamed, tells, choose, onlyPlan, fitting, within, rightAt, firstWrong, firstOver};
 ghost use Rattle.plan.specs.Value.{fieldsTo, sharedTo, kindsOf, planOf};
 
 // The plan of a row.
@@ -199,6 +199,27 @@ fn segment_end(row: &[u16], b: usize) -> usize
     if b + 4 < n { b + 4 } else { n }
 }
 
+// The value speaks of a larger resource.
+fn names_larger(v: u16) -> bool
+    ensures { λ r. ⌜ (r ≡ false → Plain v) ⌝ }
+{
+    tells_kind(1, v) | tells_kind(2, v) | (name_of(v) < 7)
+}
+
+// No value from position b up to e does: each position is given to itself.
+fn is_plain(row: &[u16], b: usize, e: usize) -> bool
+    requires { ⌜ (b ≤ e) × (e ≤ length (now row)) ⌝ }
+    ensures { λ r. ⌜ (r ≡ true → (p : ℕ) → b ≤ p → p < e → Plain (at (now (row .entry)) p)) ⌝ }
+{
+    let mut larger = false;
+    let mut p = b;
+    while p < e {
+        larger = larger | names_larger(row[p]);
+        p += 1;
+    }
+    !larger
+}
+
 // Enters to what the positions of the segment that begins at b are given; returns the position after it.
 fn enter_segment(kinds: &mut [u16; 16], row: &[u16], b: usize) -> usize
     requires { ⌜ (length (now row) ≤ 16) × (b < length (now row)) × (b % 4 ≡ 0) × (now kinds ≡ filled (onlyPlan (at (now row))) b (replicate 16 0)) ⌝ }
@@ -216,6 +237,19 @@ fn enter_segment(kinds: &mut [u16; 16], row: &[u16], b: usize) -> usize
     e
 }
 
+// The same: a segment that speaks of no larger resource is as it stands.
+fn enter_next(kinds: &mut [u16; 16], row: &[u16], b: usize) -> usize
+    requires { ⌜ (length (now row) ≤ 16) × (b < length (now row)) × (b % 4 ≡ 0) × (now kinds ≡ filled (onlyPlan (at (now row))) b (replicate 16 0)) ⌝ }
+    ensures { λ r. ⌜ (b < r) × (r ≤ length (now (row .entry))) × (r < length (now (row .entry)) → r ≡ b + 4) ⌝ }
+    ensures { λ r. ⌜ now (kinds .exit) ≡ filled (onlyPlan (at (now (row .entry)))) r (replicate 16 0) ⌝ }
+{
+    let e = segment_end(row, b);
+    if is_plain(row, b, e) {
+        return e;
+    }
+    enter_segment(kinds, row, b)
+}
+
 // To what the only plan that can signal the row gives each position.
 fn kinds_of(row: &[u16]) -> [u16; 16]
     requires { ⌜ length (now row) ≤ 16 ⌝ }
@@ -225,7 +259,7 @@ fn kinds_of(row: &[u16]) -> [u16; 16]
     let mut kinds = [0u16; 16];
     let mut b: usize = 0;
     while b < n {
-        b = enter_segment(&mut kinds, row, b);
+        b = enter_next(&mut kinds, row, b);
     }
     kinds
 }
@@ -240,19 +274,11 @@ fn fits_place(kind: u16, j: usize, v: u16) -> bool
     takes_place(kind, j) & ((resource::family_of(v) == family_of(kind)) | (v == blank_of(kind, j)))
 }
 
-// The value v may stand at position p, which is given to this kind.
-fn fits(kind: u16, p: usize, v: u16) -> bool
-    requires { ⌜ kind < 7 ⌝ }
-    ensures { λ r. ⌜ r ≡ fitting kind p v ⌝ }
+// The value v may stand at position p, which is given to itself.
+fn fits_alone(p: usize, v: u16) -> bool
+    ensures { λ r. ⌜ r ≡ fitting 0 p v ⌝ }
 {
-    if fits_place(kind, place_in(kind, p), v) {
-        return true;
-    }
-    if kind == 0 {
-        resource::is_smaller((p % 4) as u16, v)
-    } else {
-        false
-    }
+    (resource::family_of(v) == 8) | (v == 28) | resource::is_smaller((p % 4) as u16, v)
 }
 
 // Every place of the resource of this kind at position p lies below n.
@@ -268,7 +294,10 @@ fn is_right(kind: u16, p: usize, v: u16, n: usize) -> bool
     requires { ⌜ (kind < 7) × (p < n) × (n ≤ 16) ⌝ }
     ensures { λ r. ⌜ r ≡ (fitting kind p v && within kind p n) ⌝ }
 {
-    if fits(kind, p, v) {
+    if kind == 0 {
+        return fits_alone(p, v);
+    }
+    if fits_place(kind, place_in(kind, p), v) {
         lies_within(kind, p, n)
     } else {
         false
@@ -364,11 +393,15 @@ fn total_of(kind: u16, row: &[u16], p: usize) -> u16
     sum
 }
 
-// The same, from t, the fields of the resource at the position before: often it is the same one.
+// The same, from t, the fields of the resource at the position before: often it is the same one. A position that is given
+// to itself is alone.
 fn total_from(t: u16, before: u16, kind: u16, row: &[u16], p: usize) -> u16
     requires { ⌜ (kind < 7) × (p < 4096) × (0 < p → t ≡ total before (at (now row)) (p - 1)) ⌝ }
     ensures { λ r. ⌜ r ≡ total kind (at (now (row .entry))) p ⌝ }
 {
+    if kind == 0 {
+        return share_of(0, p, value_at(row, p));
+    }
     if (kind == before) & (start_of(kind, p) < p) {
         t
     } else {

@@ -1,11 +1,22 @@
 -- `plan::total_from` meets its contract. Assumes nothing.
-use Rattle.plan.proofs.Steps.{total-reused}
 use Rattle.plan.proofs.Laid.{and-left, and-right}
+use Rattle.plan.proofs.Steps.{total-alone, total-reused}
+use Rattle.plan.specs.Fields.{share}
 use borrow.Author.Tests.{eqb-true, ltb-true}
 use lib.Dec.{eqb}
+use mathlib.Core.Path.{_∙_, ap}
 use borrow.Author.Needs.{needs}
 use Rattle.plan.proofs.total_from.Statement.{statement}
 use Rattle.plan.proofs.total_from.Tie as tie
+
+value-at-requires : tie.Need-value-at-requires
+value-at-requires c κs = search needs
+
+share-of-requires : tie.Need-share-of-requires
+share-of-requires c κs = search needs
+
+returns : tie.Need-returns
+returns c = c .share-of .ensures .1 ∙ ap (share 0 (c .before .before .before .before .args .p)) (c .before .value-at .ensures) ∙ total-alone _ _ _ (c .before .before .if1 .taken)
 
 start-of-requires : tie.Need-start-of-requires
 start-of-requires c κs = search needs
@@ -13,13 +24,22 @@ start-of-requires c κs = search needs
 total-of-requires : tie.Need-total-of-requires
 total-of-requires c κs = search needs
 
-returns : tie.Need-returns
-returns c =
-    let s = c .before .before .before in
-    total-reused _ _ _ _ _ (s .pre .0) (s .pre .2) (eqb-true _ _ (and-left _ _ (c .if1 .taken))) (rw (← c .before .start-of .ensures .1) (ltb-true _ _ (and-right (eqb (s .args .kind) (s .args .before)) _ (c .if1 .taken))))
-
 returns-2 : tie.Need-returns-2
-returns-2 c = search needs
+returns-2 c =
+    let s = c .before .before .before .before in
+    total-reused _ _ _ _ _ (s .pre .0) (s .pre .2) (eqb-true _ _ (and-left _ _ (c .if2 .taken))) (rw (← c .before .start-of .ensures .1) (ltb-true _ _ (and-right (eqb (s .args .kind) (s .args .before)) _ (c .if2 .taken))))
+
+returns-3 : tie.Need-returns-3
+returns-3 c = search needs
 
 pub total-from-spec : {M : Type 1} → statement M
-total-from-spec = tie.close (tie.spec start-of-requires total-of-requires returns returns-2)
+total-from-spec =
+    tie.close
+    (tie.spec
+    value-at-requires
+    share-of-requires
+    returns
+    start-of-requires
+    total-of-requires
+    returns-2
+    returns-3)
