@@ -5,10 +5,13 @@ use mathlib.Core.Logic.{_≢_}
 use mathlib.Core.List.{List}
 use Prim.Native.Nat.{ℕ, _*_, _^_, _<_}
 use lib.ListN.{length, getD}
-use Rattle.plan.specs.Plan.{Signals}
+use Rattle.plan.specs.Plan.{at, Signals}
+use Rattle.plan.specs.Guess.{onlyPlan}
+use Rattle.plan.proofs.Demand.{only-plan, one-plan}
 use Rattle.records.specs.declared.Record.{Record}
-use Rattle.records.specs.Records.{recordsFrom, blank, HasTone, Punctured}
+use Rattle.records.specs.Records.{recordsFrom, recordsOf, blank, HasTone, Punctured}
 use Rattle.records.specs.Owns.{fieldsBefore, Owns, ownerOf, Counts, shareOf, allShares}
+use Rattle.records.proofs.Listing.{same-records}
 use Rattle.records.proofs.Owners.{one-owner, owner-owns}
 use Rattle.records.proofs.Subcarriers.{no-shared, inside-channel, none-punctured}
 use Rattle.records.proofs.Shares.{owner-listed, owns-share, shares-all}
@@ -60,3 +63,11 @@ shared o row n s = record {
   shares = owns-share o row n s;
   complete = shares-all o row n s;
 }
+
+-- ---- any plan that signals a row lists what the program does, so no two lists differ
+module _ (row : List ℕ) where
+  pub only-list : (o : ℕ → ℕ) → Signals o (at row) 0 (length row) → recordsOf o row ≡ recordsOf (onlyPlan (at row)) row
+  only-list o s = same-records o (onlyPlan (at row)) (at row) (length row) (only-plan row o s)
+
+  pub one-list : (o o′ : ℕ → ℕ) → Signals o (at row) 0 (length row) → Signals o′ (at row) 0 (length row) → recordsOf o row ≡ recordsOf o′ row
+  one-list o o′ s s′ = same-records o o′ (at row) (length row) (one-plan row o o′ s s′)
