@@ -22,6 +22,16 @@ fn put_run(out: &mut [u32], bw: u32, s: &[u8], j: usize, m: usize, shared: bool)
     }
 }
 
+// The same; most places of a larger resource give no field.
+fn put_value(out: &mut [u32], bw: u32, s: &[u8], j: usize, m: usize, shared: bool)
+    requires { ⌜ (m ≤ length (now out)) × (j + m ≤ 72) ⌝ }
+    ensures { λ _. ⌜ now (out .exit) ≡ filled (runWord bw (now (s .entry)) j shared) m (now (out .entry)) ⌝ }
+{
+    if 0 < m {
+        put_run(out, bw, s, j, m, shared);
+    }
+}
+
 // The words of a channel's User fields, those of a position in the format of its resource, which bit p of `shared` tells.
 fn put_formats(out: &mut [u32], bw: u32, c: u32, s: &[u8], row: &[u16], shared: u32)
     requires { ⌜ (1 ≤ c) × (c ≤ 2) × (count bw c (now s) ≤ length (now out)) × (length (now row) ≤ 16) × Holds bw c (now s) (now row) × Formats (now row) shared ⌝ }
@@ -33,7 +43,7 @@ fn put_formats(out: &mut [u32], bw: u32, c: u32, s: &[u8], row: &[u16], shared: 
     while k < n {
         let p = 2 * k + (c as usize - 1);
         let m = resource::fields_of(row[p]) as usize;
-        put_run(&mut out[j..], bw, s, j, m, (shared >> p) % 2 == 1);
+        put_value(&mut out[j..], bw, s, j, m, (shared >> p) % 2 == 1);
         j += m;
         k += 1;
     }

@@ -1,25 +1,22 @@
 -- The steps of the engine, as the code takes them. Assumes nothing.
 use mathlib.Core.Path.{_≡_, refl, sym, _∙_, ap}
-use mathlib.Core.Logic.{_≢_, _⊎_, ⊎-elim, inl, inr}
+use mathlib.Core.Logic.{_⊎_, ⊎-elim, inl, inr}
 use mathlib.Core.Bool.{Bool, true, false, cond, not, _&&_, _||_}
-use Prim.Native.Nat.{ℕ, zero, suc, _+_, _-_, _*_, _/_, _%_, _^_, _≤_, _<_}
+use Prim.Native.Nat.{ℕ, _+_, _-_, _*_, _/_, _%_, _^_, _≤_, _<_}
 use native.Mathlib.Omega.{arith}
 use native.Mathlib.Numerals.{add-one}
 use native.Mathlib.Nat.{add-zero, zero-add, eq-or-lt-of-le, mod-eq-of-lt}
 use mathlib.Core.List.{List, [], _∷_}
 use lib.Pow.{pow-mono}
-use lib.Dec.{T, eqb, ltb, eqb→eq}
-use lib.ListN.{length, getD, replicate, List·getD-eq-default}
-use lib.Seq.{ext-getD}
-use borrow.Author.Tests.{lt-ltb, le-ltb, le-leb, lt-leb, eq-eqb, ne-eqb, eqb-true, ltb-false}
-use Rattle.answer.specs.Filled.{filled, filled-length, getD-filled, getD-kept}
+use lib.Dec.{T, eqb, eqb→eq}
+use borrow.Author.Tests.{lt-ltb, le-ltb, le-leb, lt-leb, eq-eqb, ne-eqb, eqb-true}
 use Rattle.answer.specs.Least.{least, least-holds, least-le}
 use Rattle.resource.specs.Values.{fieldsOf, smallerAt}
 use Rattle.resource.proofs.Test.{below-or, below, every-below, Missed, key-or, no-key}
 use Rattle.plan.specs.Kinds.{kinds, kindAt, family, span, mask, takes, takesBlock, blankAt, mustName}
-use Rattle.plan.specs.Plan.{at, Place}
-use Rattle.plan.specs.Guess.{Plain, kindOf, nameOf, orElse, firstNamed, tells, choose, onlyPlan, fitting, within}
-use Rattle.plan.proofs.Table.{not-both, equal-or, family-back, family-most, high-named, spans, span-0, plain-family, plain-blank, full, place-mod, yes-within}
+use Rattle.plan.specs.Plan.{Place}
+use Rattle.plan.specs.Guess.{kindOf, nameOf, orElse, tells, choose, fitting, within}
+use Rattle.plan.proofs.Table.{family-back, family-most, high-named, spans, span-0, plain-family, plain-blank, full, place-mod, yes-within}
 use Rattle.plan.specs.Fields.{gives, share, channelShare, shares, fieldsIn, total}
 
 -- ---- the blank of a place below 4
@@ -213,66 +210,3 @@ unfolding fieldsIn
 total-alone c row p e =
     let f : 1 * (p / 1) + 0 ≡ p = omega arith in
     rw (e, span-0, f) (omega (arith, both-channels 0 p (row p)))
-
--- ---- values that speak of no larger resource
-or-none : (s t : Bool) → s || t ≡ false → (s ≡ false) × (t ≡ false)
-or-none true t e = not-both true refl e
-or-none false t e = (refl, e)
-
-pub plain-is : (v k : ℕ) (s t : Bool) → s ≡ tells 1 v → t ≡ tells 2 v → k ≤ 7 → k ≡ nameOf v → (s || t || ltb k 7) ≡ false → Plain v
-plain-is v k s t es et h ek e =
-    let f = or-none (s || t) (ltb k 7) e in
-    let g = or-none s t (f .0) in
-    let l = ltb-false k 7 (f .1) in
-    record { no-484 = sym es ∙ g .0; no-996 = sym et ∙ g .1; nameless = sym ek ∙ the k (omega arith) }
-  where
-    the : (k : ℕ) → k ≡ 7 → k ≡ 7
-    the k e = e
-
-pub plain-more : (row : ℕ → ℕ) (b p : ℕ) (s t : Bool) → (s ≡ false → (q : ℕ) → b ≤ q → q < p → Plain (row q)) → (t ≡ false → Plain (row p))
-    → s || t ≡ false → (q : ℕ) → b ≤ q → q < p + 1 → Plain (row q)
-plain-more row b p s t f g e q l u =
-    let o = or-none s t e in
-    ⊎-elim (λ (z : q ≡ p). rw z (g (o .1))) (λ (z : q ≢ p). f (o .0) q l (omega arith)) (equal-or q p)
-
--- a segment of such values is as it stands: each of its positions is given to itself
-none-named : (row : ℕ → ℕ) (b n : ℕ) → ((q : ℕ) → b ≤ q → q < b + n → nameOf (row q) ≡ 7) → firstNamed row b n ≡ 7
-none-named row b zero h = refl
-none-named row b (suc n) h = rw (none-named row b n (λ q l u. h q l (omega arith)), h (b + n) (omega arith) (omega arith)) (sym (orElse-high 7 7 (omega arith)))
-
-zero-nameless : nameOf 0 ≡ 7
-unfolding nameOf mustName span mask family kindOf least kindAt kinds
-zero-nameless = refl
-
-pub plain-itself : (row : List ℕ) (b e p : ℕ) → b % 4 ≡ 0 → (e < length row → e ≡ b + 4) → e ≤ length row → e ≤ b + 4 → ((q : ℕ) → b ≤ q → q < e → Plain (at row q))
-    → b ≤ p → p < e → onlyPlan (at row) p ≡ 0
-unfolding onlyPlan choose
-plain-itself row b e p z full most four h l u =
-    let f : 4 * (p / 4) ≡ b = omega arith in
-    let n : firstNamed (at row) b 4 ≡ 7 = none-named (at row) b 4 here in
-    rw (f, n, h b (omega arith) (omega arith) .no-996, h (2 * (p / 2)) (omega arith) (omega arith) .no-484)
-  where
-    here : (q : ℕ) → b ≤ q → q < b + 4 → nameOf (at row q) ≡ 7
-    here q k m =
-        ⊎-elim (λ (i : q < e). h q k i .nameless)
-        (λ (i : e ≤ q). let y : at row q ≡ 0 = List·getD-eq-default row 0 (past i) in ap nameOf y ∙ zero-nameless)
-        (below-or q e)
-      where
-        past : e ≤ q → length row ≤ q
-        past i = ⊎-elim (λ (j : e < length row). absurd (let y = full j in omega arith)) (λ j. omega arith) (below-or e (length row))
-
--- what holds 0 already stays
-pub filled-same : (f : ℕ → ℕ) (b e : ℕ) (w : List ℕ) → b ≤ e → e ≤ length w → ((p : ℕ) → b ≤ p → p < e → f p ≡ getD w p 0) → filled f b w ≡ filled f e w
-filled-same f b e w l m h = ext-getD 0 (filled f b w) (filled f e w) (filled-length f b w (omega arith) ∙ sym (filled-length f e w m)) same
-  where
-    same : (i : ℕ) → i < length (filled f b w) → getD (filled f b w) i 0 ≡ getD (filled f e w) i 0
-    same i k =
-        ⊎-elim (λ (x : i < b). getD-filled f b w i 0 x ∙ sym (getD-filled f e w i 0 (omega arith)))
-        (λ (x : b ≤ i).
-        ⊎-elim (λ (y : i < e). getD-kept f b w i 0 x ∙ sym (h i x y) ∙ sym (getD-filled f e w i 0 y)) (λ (y : e ≤ i). getD-kept f b w i 0 x ∙ sym (getD-kept f e w i 0 y)) (below-or i e))
-        (below-or i b)
-
-pub getD-zeros : (n p : ℕ) → _≡_ {A = ℕ} (getD (replicate n 0) p 0) 0
-getD-zeros zero p = refl
-getD-zeros (suc n) zero = refl
-getD-zeros (suc n) (suc p) = getD-zeros n p

@@ -3,8 +3,7 @@
 -- (`signalled`), that it signals the row where its tests say so (`right-signals`), and that the answer is 01's
 -- (`layout-laid`). Assumes nothing.
 use mathlib.Core.List.{List}
-use mathlib.Core.Path.{_≡_}
-use mathlib.Core.Bool.{Bool, false, cond, not, _||_, _&&_}
+use mathlib.Core.Bool.{Bool, cond, not, _||_, _&&_}
 use Prim.Native.Nat.{ℕ, zero, suc, _+_, _-_, _*_, _/_, _%_, _^_}
 use lib.Dec.{ltb, eqb}
 use lib.ListN.{length}
@@ -35,12 +34,6 @@ firstNamed row b (suc n) = orElse (firstNamed row b n) (nameOf (row (b + n)))
 -- the value is one that the first place of a resource of kind c may hold
 unfoldable pub tells : ℕ → ℕ → Bool
 tells c v = eqb (v / 8) (family c) || eqb v (blankAt c 0)
-
--- the value speaks of no larger resource
-pub record Plain (v : ℕ) : Type 0 where
-  pub no-484 : tells 1 v ≡ false
-  pub no-996 : tells 2 v ≡ false
-  pub nameless : nameOf v ≡ none
 
 -- from the kind that is named, the segment's first value, the pair's first value, and the place
 unfoldable pub choose : ℕ → ℕ → ℕ → ℕ → ℕ

@@ -3,16 +3,16 @@
 // of specs/Kinds.antt: line 0 is the position itself, and 7 is none.
 use answer::Out;
 ghost use mathlib.Core.Path.{_≡_};
-ghost use mathlib.Core.Bool.{true, false, cond, _&&_, _||_};
+ghost use mathlib.Core.Bool.{cond, _&&_, _||_};
 ghost use lib.Dec.{eqb, leb};
-ghost use Prim.Native.Nat.{ℕ, _+_, _-_, _*_, _/_, _%_, _^_, _≤_, _<_};
+ghost use Prim.Native.Nat.{_+_, _-_, _*_, _/_, _%_, _^_, _≤_, _<_};
 ghost use lib.ListN.{length, replicate};
 ghost use Rattle.answer.specs.Filled.{filled};
 ghost use Rattle.plan.specs.Kinds.{family, span, mask, takes, blankAt};
 ghost use Rattle.plan.specs.Plan.{at};
 ghost use Rattle.plan.specs.Fields.{gives, share, fieldsIn, channelShare, total};
 ghost use Rattle.plan.specs.Layout.{Laid};
-ghost use Rattle.plan.specs.Guess.{Plain, nameOf, orElse, firstNamed, tells, choose, onlyPlan, fitting, within, rightAt, firstWrong, firstOver};
+ghost use Rattle.plan.specs.Guess.{nameOf, orElse, firstNamed, tells, choose, onlyPlan, fitting, within, rightAt, firstWrong, firstOver};
 ghost use Rattle.plan.specs.Value.{fieldsTo, sharedTo, kindsOf, planOf};
 
 // The plan of a row.
@@ -199,27 +199,6 @@ fn segment_end(row: &[u16], b: usize) -> usize
     if b + 4 < n { b + 4 } else { n }
 }
 
-// The value speaks of a larger resource.
-fn names_larger(v: u16) -> bool
-    ensures { λ r. ⌜ (r ≡ false → Plain v) ⌝ }
-{
-    tells_kind(1, v) | tells_kind(2, v) | (name_of(v) < 7)
-}
-
-// No value from position b up to e does: each position is given to itself.
-fn is_plain(row: &[u16], b: usize, e: usize) -> bool
-    requires { ⌜ (b ≤ e) × (e ≤ length (now row)) ⌝ }
-    ensures { λ r. ⌜ (r ≡ true → (p : ℕ) → b ≤ p → p < e → Plain (at (now (row .entry)) p)) ⌝ }
-{
-    let mut larger = false;
-    let mut p = b;
-    while p < e {
-        larger = larger | names_larger(row[p]);
-        p += 1;
-    }
-    !larger
-}
-
 // Enters to what the positions of the segment that begins at b are given; returns the position after it.
 fn enter_segment(kinds: &mut [u16; 16], row: &[u16], b: usize) -> usize
     requires { ⌜ (length (now row) ≤ 16) × (b < length (now row)) × (b % 4 ≡ 0) × (now kinds ≡ filled (onlyPlan (at (now row))) b (replicate 16 0)) ⌝ }
@@ -237,19 +216,6 @@ fn enter_segment(kinds: &mut [u16; 16], row: &[u16], b: usize) -> usize
     e
 }
 
-// The same: a segment that speaks of no larger resource is as it stands.
-fn enter_next(kinds: &mut [u16; 16], row: &[u16], b: usize) -> usize
-    requires { ⌜ (length (now row) ≤ 16) × (b < length (now row)) × (b % 4 ≡ 0) × (now kinds ≡ filled (onlyPlan (at (now row))) b (replicate 16 0)) ⌝ }
-    ensures { λ r. ⌜ (b < r) × (r ≤ length (now (row .entry))) × (r < length (now (row .entry)) → r ≡ b + 4) ⌝ }
-    ensures { λ r. ⌜ now (kinds .exit) ≡ filled (onlyPlan (at (now (row .entry)))) r (replicate 16 0) ⌝ }
-{
-    let e = segment_end(row, b);
-    if is_plain(row, b, e) {
-        return e;
-    }
-    enter_segment(kinds, row, b)
-}
-
 // To what the only plan that can signal the row gives each position.
 fn kinds_of(row: &[u16]) -> [u16; 16]
     requires { ⌜ length (now row) ≤ 16 ⌝ }
@@ -259,7 +225,7 @@ fn kinds_of(row: &[u16]) -> [u16; 16]
     let mut kinds = [0u16; 16];
     let mut b: usize = 0;
     while b < n {
-        b = enter_next(&mut kinds, row, b);
+        b = enter_segment(&mut kinds, row, b);
     }
     kinds
 }

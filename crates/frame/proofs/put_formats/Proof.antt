@@ -53,8 +53,8 @@ fields-of-requires c κs = search needs
 cast-m : tie.Need-cast-m Inv-loop μ-loop
 cast-m c = search needs
 
-mul-put-run : tie.Need-mul-put-run Inv-loop μ-loop
-mul-put-run c =
+mul-put-value : tie.Need-mul-put-value Inv-loop μ-loop
+mul-put-value c =
     let a = c .before .before .before .before .before .before .before .before .args in
     let l = c .before .before .before .loop in
     let k : l .k < subfieldsIn (a .bw) (a .c) = omega (arith, c .before .before .before .before .subfields-of .ensures .0) in
@@ -62,8 +62,8 @@ mul-put-run c =
     let bc = before-count (a .bw) (a .c) (a .s .now) (l .k) k in
     omega (arith, count-le (a .bw) (a .c) (a .s .now))
 
-sub-put-run : tie.Need-sub-put-run Inv-loop μ-loop
-sub-put-run c =
+sub-put-value : tie.Need-sub-put-value Inv-loop μ-loop
+sub-put-value c =
     let a = c .before .before .before .before .before .before .before .before .args in
     let l = c .before .before .before .loop in
     let k : l .k < subfieldsIn (a .bw) (a .c) = omega (arith, c .before .before .before .before .subfields-of .ensures .0) in
@@ -71,8 +71,8 @@ sub-put-run c =
     let bc = before-count (a .bw) (a .c) (a .s .now) (l .k) k in
     omega arith
 
-part-put-run-start : tie.Need-part-put-run-start Inv-loop μ-loop
-part-put-run-start c =
+part-put-value-start : tie.Need-part-put-value-start Inv-loop μ-loop
+part-put-value-start c =
     let a = c .before .before .before .before .before .before .before .before .args in
     let l = c .before .before .before .loop in
     let k : l .k < subfieldsIn (a .bw) (a .c) = omega (arith, c .before .before .before .before .subfields-of .ensures .0) in
@@ -80,22 +80,22 @@ part-put-run-start c =
     let bc = before-count (a .bw) (a .c) (a .s .now) (l .k) k in
     omega arith
 
-part-put-run-end : tie.Need-part-put-run-end Inv-loop μ-loop
-part-put-run-end c = search needs
+part-put-value-end : tie.Need-part-put-value-end Inv-loop μ-loop
+part-put-value-end c = search needs
 
-cast-put-run : tie.Need-cast-put-run Inv-loop μ-loop
-cast-put-run c = search needs
+cast-put-value : tie.Need-cast-put-value Inv-loop μ-loop
+cast-put-value c = search needs
 
-shr-put-run : tie.Need-shr-put-run Inv-loop μ-loop
-shr-put-run c =
+shr-put-value : tie.Need-shr-put-value Inv-loop μ-loop
+shr-put-value c =
     let a = c .before .before .before .before .before .before .before .before .before .args in
     let l = c .before .before .before .before .loop in
     let k : l .k < subfieldsIn (a .bw) (a .c) = omega (arith, c .before .before .before .before .before .subfields-of .ensures .0) in
     let i = c .before .before .before .before .before .before .before .before .before .pre .4 .inside (l .k) k in
     omega arith
 
-put-run-requires : tie.Need-put-run-requires Inv-loop μ-loop
-put-run-requires c κs =
+put-value-requires : tie.Need-put-value-requires Inv-loop μ-loop
+put-value-requires c κs =
     let a = c .before .before .before .before .before .before .before .before .before .args in
     let l = c .before .before .before .before .loop in
     let k : l .k < subfieldsIn (a .bw) (a .c) = omega (arith, c .before .before .before .before .before .subfields-of .ensures .0) in
@@ -134,7 +134,7 @@ loop-again c =
     let g = runWord (a .bw) (a .s .now) (l .j) (eqb (a .shared / 2 ^ p % 2) 1) in
     let w : (i : ℕ) → i < c .before .before .before .before .fields-of .result → g i ≡ f (l .j + i) =
     λ i h. rw (t, l .inv .1) (run-words (a .bw) (a .c) (a .s .now) (l .k) k (a .row .now) i (omega arith)) in
-    let e = grown f g (a .out .now) (l .out) (c .before .before .put-run .last .0) (l .j) (c .before .before .before .before .fields-of .result) (omega arith) (l .inv .2) w (c .before .before .put-run .ensures) in
+    let e = grown f g (a .out .now) (l .out) (c .before .before .put-value .last .0) (l .j) (c .before .before .before .before .fields-of .result) (omega arith) (l .inv .2) w (c .before .before .put-value .ensures) in
     (omega arith, omega arith, e, ap length e ∙ filled-length f (l .j + c .before .before .before .before .fields-of .result) (a .out .now) (omega arith))
 
 same-length : tie.Need-same-length Inv-loop μ-loop
@@ -162,13 +162,13 @@ put-formats-spec =
     shared-slice-read-fields-of
     fields-of-requires
     cast-m
-    mul-put-run
-    sub-put-run
-    part-put-run-start
-    part-put-run-end
-    cast-put-run
-    shr-put-run
-    put-run-requires
+    mul-put-value
+    sub-put-value
+    part-put-value-start
+    part-put-value-end
+    cast-put-value
+    shr-put-value
+    put-value-requires
     add-j
     add-k
     loop-less

@@ -20,14 +20,14 @@ abbrev μ-loop : tie.MeasureT-loop
 loop-holds : tie.Need-loop-holds Inv-loop μ-loop
 loop-holds c = (omega arith, λ h. omega arith, filled-start _ _)
 
-enter-next-requires : tie.Need-enter-next-requires Inv-loop μ-loop
-enter-next-requires c κs = (omega arith, omega arith, c .before .before .loop .inv .1 (omega arith), c .before .before .loop .inv .2)
+enter-segment-requires : tie.Need-enter-segment-requires Inv-loop μ-loop
+enter-segment-requires c κs = (omega arith, omega arith, c .before .before .loop .inv .1 (omega arith), c .before .before .loop .inv .2)
 
 loop-less : tie.Need-loop-less Inv-loop μ-loop
-loop-less c = let e = c .enter-next .ensures .0 in omega arith
+loop-less c = let e = c .enter-segment .ensures .0 in omega arith
 
 loop-again : tie.Need-loop-again Inv-loop μ-loop
-loop-again c = (c .enter-next .ensures .0 .1, λ h. let e = c .enter-next .ensures .0 .2 h in let z = c .before .before .before .loop .inv .1 (omega arith) in omega arith, c .enter-next .ensures .1)
+loop-again c = (c .enter-segment .ensures .0 .1, λ h. let e = c .enter-segment .ensures .0 .2 h in let z = c .before .before .before .loop .inv .1 (omega arith) in omega arith, c .enter-segment .ensures .1)
 
 returns : tie.Need-returns Inv-loop μ-loop
 unfolding kindsOf
@@ -36,4 +36,4 @@ returns c = let e : c .before .loop .b ≡ length (c .before .before .before .ar
 pub kinds-of-spec : {M : Type 1} → statement M
 kinds-of-spec =
     tie.close
-    (tie.spec Inv-loop μ-loop loop-holds enter-next-requires loop-less loop-again returns)
+    (tie.spec Inv-loop μ-loop loop-holds enter-segment-requires loop-less loop-again returns)
