@@ -9,7 +9,7 @@ ghost use Prim.Native.Nat.{_+_, _*_, _≤_, _<_};
 ghost use lib.ListN.{length};
 ghost use Rattle.text.specs.Text.{Wrote};
 ghost use Rattle.resource.specs.Names.{numberOf};
-ghost use Rattle.resource.specs.Runs.{spanOf};
+ghost use Rattle.resource.specs.Runs.{spanOf, runsOf, held};
 ghost use Rattle.lines.specs.Lines.{keyed, line, sizeText, pairingText, nameText, comma, spanText, heldText, ruHead, ruLine, staLine, refusalText, headText};
 
 // A fixed key and a number.
@@ -131,16 +131,23 @@ fn put_ru_head(out: &mut [u8], at: usize, g: u16, r: Resource, users: u64) -> us
     put_key(out, d, b" users=", users)
 }
 
-// The line of a resource of segment g, with so many User fields, in a channel of n positions.
-pub fn put_ru(out: &mut [u8], at: usize, n: u16, g: u16, r: Resource, users: u64) -> usize
-    requires { ⌜ at ≤ 59000 ⌝ }
+// The line of a resource of segment g, with so many User fields and these subcarriers, in a channel of n positions.
+pub fn put_ru(
+    out: &mut [u8],
+    at: usize,
+    n: u16,
+    g: u16,
+    r: Resource,
+    users: u64,
+    tones: Tones,
+) -> usize
+    requires { ⌜ (at ≤ 59000) × (tones ≡ held (runsOf n g r)) ⌝ }
     ensures { λ e. ⌜ Wrote (now (out .entry)) at (ruLine n g r users) (now (out .exit)) e ⌝ }
     ensures bounded { λ e. ⌜ e ≤ at + 240 ⌝ }
 {
     let a = put_ru_head(out, at, g, r, users);
     let b = text::put_all(out, a, b" tones=");
-    let t = resource::tones_of(n, g, r);
-    let c = put_tones(out, b, t, n);
+    let c = put_tones(out, b, tones, n);
     text::put(out, c, b'\n')
 }
 

@@ -80,6 +80,9 @@ held-before a rs t e = rw e (go rs)
     go (x ∷ []) = refl
     go (x ∷ y ∷ rs) = rw (add-one (suc (suc (length rs))))
 
+pub held-few : (t : Tones) (rs : List Run) → t ≡ held rs → length rs ≤ 3 → (t .count ≤ 3) × (length (t .runs) ≡ 3)
+held-few t rs e h = (rw e (omega (arith, held-count rs)), rw e (held-three rs))
+
 pub held-at : (rs : List Run) (k : ℕ) → length rs ≤ 3 → k < length rs → getD (held rs .runs) k noRun ≡ getD rs k noRun
 unfolding held
 held-at [] k m h = absurd (omega arith)

@@ -1,23 +1,24 @@
 -- The pieces of a value: they exist at every position, and a piece's place and position find the subcarriers that its index does. Assumes
 -- nothing.
-use mathlib.Core.Path.{_≡_, refl}
-use mathlib.Core.Logic.{⊎-elim}
-use mathlib.Core.Bool.{Bool, true, cond, _&&_}
+use mathlib.Core.Path.{_≡_, refl, sym, ap, _∙_}
+use mathlib.Core.Logic.{⊎-elim, _≢_}
+use mathlib.Core.Bool.{Bool, true, false, cond, not, _&&_, false≢true}
 use mathlib.Core.List.{List, [], _∷_}
 use Prim.Native.Nat.{ℕ, zero, suc, _+_, _-_, _*_, _/_, _%_, _≤_, _<_}
 use native.Mathlib.Omega.{arith}
+use borrow.Author.Tests.{lt-ltb, ne-eqb, eqb-true}
 use lib.Dec.{T, leb, leb→le, eqb, eqb→eq}
 use lib.ListN.{length, getD}
 use Rattle.resource.specs.declared.Size.the-variants.{S26, S52, S106, S242, S484, S996}
 use Rattle.resource.specs.declared.Piece.{Piece}
 use Rattle.resource.specs.declared.Piece.the-variants.{Part, With26}
 use Rattle.resource.specs.declared.Run.{Run}
-use Rattle.resource.specs.Values.{pieces, ownPieces}
+use Rattle.resource.specs.Values.{pieces, fieldsOf, divides, ownPieces}
 use Rattle.resource.specs.Index.{resourceAt, isPiece, fromPositions}
 use Rattle.resource.specs.Starts.{noPiece, pieceAt, numberedOf}
 use Rattle.resource.specs.Runs.{narrow, narrowWith26, wide, wideWith26, runsOf}
 use Rattle.resource.proofs.Test.{below-or, both-left, both-right, below, every-below}
-use Rattle.resource.proofs.Apart.{no-pieces}
+use Rattle.resource.proofs.Apart.{not-divided, no-pieces}
 use Rattle.resource.proofs.Index.{position-back, place-back, position-back-26, place-back-26}
 
 -- ---- the pieces of a value exist at every position
@@ -44,15 +45,15 @@ pub own-piece : (v k : ℕ) → k < length (ownPieces v) → T (isPiece (pieceAt
 own-piece v k h = in-list (ownPieces v) k (own-list v) h
 
 -- their places are counted from 1
-pub piece-from-one : (x : Piece) → isPiece x ≡ true → 1 ≤ numberedOf x
+pub piece-from-one : (x : Piece) → T (isPiece x) → 1 ≤ numberedOf x
 unfolding isPiece
-piece-from-one (Part S26 i) e = leb→le 1 i (both-left (leb 1 i) (leb i 9) (rw e tt))
-piece-from-one (Part S52 i) e = leb→le 1 i (both-left (leb 1 i) (leb i 4) (rw e tt))
-piece-from-one (Part S106 i) e = leb→le 1 i (both-left (leb 1 i) (leb i 2) (rw e tt))
-piece-from-one (Part S242 i) e = let f = eqb→eq i 1 (rw e tt) in omega arith
-piece-from-one (Part S484 i) e = let f = eqb→eq i 1 (rw e tt) in omega arith
-piece-from-one (Part S996 i) e = let f = eqb→eq i 1 (rw e tt) in omega arith
-piece-from-one (With26 i) e = leb→le 1 i (both-left (leb 1 i) (leb i 2) (rw e tt))
+piece-from-one (Part S26 i) e = leb→le 1 i (both-left (leb 1 i) (leb i 9) e)
+piece-from-one (Part S52 i) e = leb→le 1 i (both-left (leb 1 i) (leb i 4) e)
+piece-from-one (Part S106 i) e = leb→le 1 i (both-left (leb 1 i) (leb i 2) e)
+piece-from-one (Part S242 i) e = let f = eqb→eq i 1 e in omega arith
+piece-from-one (Part S484 i) e = let f = eqb→eq i 1 e in omega arith
+piece-from-one (Part S996 i) e = let f = eqb→eq i 1 e in omega arith
+piece-from-one (With26 i) e = leb→le 1 i (both-left (leb 1 i) (leb i 2) e)
 
 -- ---- the runs of the piece x at position p of a channel of n
 abbrev pub runsAt : ℕ → ℕ → Piece → List Run
@@ -78,3 +79,31 @@ piece-runs n p (Part S996 i) t f = absurd (omega (arith, f))
 piece-runs n p (With26 i) t f =
     let e : 4 * (p / 4) + p % 4 ≡ p = omega arith in
     rw (position-back-26 (p % 4) i (omega arith) t, place-back-26 (p % 4) i (omega arith) t, e)
+
+-- ---- a value that divides its position
+pub divided-low : (v : ℕ) → divides v ≡ true → v < 51
+unfolding divides
+divided-low v e = ⊎-elim (λ h. h) (λ (h : 51 ≤ v). absurd (false≢true (rw (not-divided v h) at e))) (below-or v 51)
+
+pub divided-fields : (v : ℕ) → divides v ≡ true → fieldsOf v ≡ length (pieces v)
+unfolding fieldsOf
+divided-fields v e = rw (lt-ltb v 64 (omega (arith, divided-low v e)))
+
+pub divided-not : (v m : ℕ) → divides m ≡ false → divides v ≡ true → v ≢ m
+divided-not v m f e g = false≢true (sym f ∙ ap divides (sym g) ∙ e)
+
+pub some-pieces : (v k : ℕ) → k < length (pieces v) → divides v ≡ true
+unfolding divides
+some-pieces v k h = rw (ne-eqb (length (pieces v)) 0 (λ e. omega arith))
+
+pub no-pieces-left : (v : ℕ) → length (pieces v) ≡ 0 → divides v ≡ false
+unfolding divides
+no-pieces-left v h = rw h
+
+pub none-left : (v : ℕ) → divides v ≡ false → length (pieces v) ≡ 0
+unfolding divides
+none-left v h = go (eqb (length (pieces v)) 0) refl h
+  where
+    go : (t : Bool) → eqb (length (pieces v)) 0 ≡ t → not t ≡ false → length (pieces v) ≡ 0
+    go true e f = eqb-true (length (pieces v)) 0 e
+    go false e f = absurd (false≢true (sym f))

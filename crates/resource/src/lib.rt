@@ -3,9 +3,9 @@
 ghost use mathlib.Core.Path.{_≡_};
 ghost use Prim.Native.Nat.{_+_, _-_, _*_, _/_, _%_, _≤_, _<_};
 ghost use lib.ListN.{length};
-ghost use mathlib.Core.Bool.{true, cond};
+ghost use mathlib.Core.Bool.{cond};
 ghost use mathlib.Core.List.{List, [], _∷_, _++_};
-ghost use lib.Dec.{eqb};
+ghost use lib.Dec.{T, eqb};
 ghost use Rattle.resource.specs.Values.{carried, fieldsOf, divides, pieceFields, ownPieces, smallerAt, familyOf};
 ghost use Rattle.resource.specs.Starts.{starts, nthFrom, pieceFrom, pieceAt, numberedOf};
 ghost use Rattle.resource.specs.Index.{indexOf, resourceAt, isPiece, fromPositions};
@@ -447,7 +447,7 @@ fn with_26_tones(n: u16, p: u16, j: u16) -> Tones
 
 // The subcarriers of a piece of position p of a channel of n.
 pub fn piece_tones(n: u16, p: u16, x: Piece) -> Tones
-    requires { ⌜ (isPiece x ≡ true) × (fromPositions x ≡ 1) ⌝ }
+    requires { ⌜ T (isPiece x) × (fromPositions x ≡ 1) ⌝ }
     ensures { λ t. ⌜ t ≡ held (runsOf n (p / 4) (resourceAt (p % 4) x)) ⌝ }
 {
     match x {

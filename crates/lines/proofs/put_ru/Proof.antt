@@ -1,11 +1,9 @@
 -- `lines::put_ru` meets its contract. Assumes nothing.
 use native.Mathlib.Omega.{arith}
 use mathlib.Core.Path.{_≡_, ap, _∙_}
-use Prim.Native.Nat.{_≤_}
-use lib.ListN.{length}
 use Rattle.text.specs.Laws.{after}
-use Rattle.resource.specs.Runs.{runsOf, held}
-use Rattle.resource.proofs.Held.{runs-few, held-count, held-three}
+use Rattle.resource.specs.Runs.{runsOf}
+use Rattle.resource.proofs.Held.{runs-few, held-few}
 use Rattle.lines.specs.Lines.{ruLine, tonesText, heldText}
 use Rattle.lines.proofs.Held.{held-text}
 use borrow.Author.Needs.{needs}
@@ -21,16 +19,12 @@ slice-aggregate-put-all c = search needs
 put-all-requires : tie.Need-put-all-requires
 put-all-requires c κs = search needs
 
-tones-of-requires : tie.Need-tones-of-requires
-tones-of-requires c κs = search needs
-
 put-tones-requires : tie.Need-put-tones-requires
 put-tones-requires c κs =
-    let a = c .before .before .before .before .before .before .before .before .before .before .before .before .args in
-    let rs = runsOf (a .n) (a .g) (a .r) in
-    let l : length rs ≤ 3 = runs-few (a .n) (a .g) (a .r) in
-    let e : c .before .tones-of .result ≡ held rs = c .before .tones-of .ensures in
-    (omega (arith, c .before .before .before .before .put-all .ensures .next), rw e (omega (arith, held-count rs)), rw e (held-three rs))
+    let start = c .before .before .before .before .before .before .before .before .before .before .before in
+    let a = start .args in
+    let few = held-few (a .tones) (runsOf (a .n) (a .g) (a .r)) (start .pre .1) (runs-few (a .n) (a .g) (a .r)) in
+    (omega (arith, start .pre .0, c .before .before .before .put-all .ensures .next), few .0, few .1)
 
 put-requires : tie.Need-put-requires
 put-requires c κs = search needs
@@ -41,10 +35,11 @@ same-length c = search needs
 returns : tie.Need-returns
 unfolding ruLine
 returns c =
-    let a = c .before .before .before .before .before .before .before .before .before .before .before .before .before .before .before .before .before .before .before .args in
+    let start = c .before .before .before .before .before .before .before .before .before .before .before .before .before .before .before .before .before .before in
+    let a = start .args in
     let rs = runsOf (a .n) (a .g) (a .r) in
-    let e : heldText (a .n) (c .before .before .before .before .before .before .before .before .tones-of .result) ≡ tonesText (a .n) rs = ap (heldText (a .n)) (c .before .before .before .before .before .before .before .before .tones-of .ensures) ∙ held-text (a .n) (a .g) (a .r) in
-    (after (after (after (c .before .before .before .before .before .before .before .before .before .before .before .before .before .before .before .before .put-ru-head .ensures .0) (c .before .before .before .before .before .before .before .before .before .before .before .put-all .ensures)) (rw e at (c .before .before .before .before .before .before .put-tones .ensures .0))) (c .before .before .put .ensures), omega (arith, c .before .before .before .before .before .before .before .before .before .before .before .put-all .ensures .next, c .before .before .put .ensures .next))
+    let e : heldText (a .n) (a .tones) ≡ tonesText (a .n) rs = ap (heldText (a .n)) (start .pre .1) ∙ held-text (a .n) (a .g) (a .r) in
+    (after (after (after (c .before .before .before .before .before .before .before .before .before .before .before .before .before .before .before .put-ru-head .ensures .0) (c .before .before .before .before .before .before .before .before .before .before .put-all .ensures)) (rw e at (c .before .before .before .before .before .before .put-tones .ensures .0))) (c .before .before .put .ensures), omega (arith, start .pre .0, c .before .before .before .before .before .before .before .before .before .before .put-all .ensures .next, c .before .before .put .ensures .next))
 
 pub put-ru-spec : {M : Type 1} → statement M
 put-ru-spec =
@@ -53,7 +48,6 @@ put-ru-spec =
     put-ru-head-requires
     slice-aggregate-put-all
     put-all-requires
-    tones-of-requires
     put-tones-requires
     put-requires
     same-length

@@ -29,14 +29,14 @@ returns c =
     let a = c .before .before .before .before .args in
     let pre = c .before .before .before .before .pre in
     c .part-tones .ensures
-    ∙ ap held (sym (piece-runs (a .n) (a .p) (a .x) (rw (pre .0) tt) (pre .1) ∙ rw (c .before .before .x .given .1)))
+    ∙ ap held (sym (piece-runs (a .n) (a .p) (a .x) (pre .0) (pre .1) ∙ rw (c .before .before .x .given .1)))
 
 returns-2 : tie.Need-returns-2
 returns-2 c =
     let a = c .before .before .before .before .args in
     let pre = c .before .before .before .before .pre in
     c .with-26-tones .ensures
-    ∙ ap held (sym (piece-runs (a .n) (a .p) (a .x) (rw (pre .0) tt) (pre .1) ∙ rw (c .before .before .x2 .given .1)))
+    ∙ ap held (sym (piece-runs (a .n) (a .p) (a .x) (pre .0) (pre .1) ∙ rw (c .before .before .x2 .given .1)))
 
 pub piece-tones-spec : {M : Type 1} → statement M
 piece-tones-spec =
