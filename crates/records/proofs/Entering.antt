@@ -11,10 +11,10 @@ use lib.ListN.{length, getD, set, replicate, length-replicate, getD-replicate}
 use Rattle.answer.specs.Filled.{build, filled, build-is, filled-step, filled-length, getD-filled, getD-kept}
 use Rattle.plan.specs.Guess.{onlyPlan}
 use Rattle.plan.proofs.Only.{only-takes}
-use Rattle.resource.specs.Values.{fieldsOf}
+use Rattle.resource.specs.Values.{fieldsOf, divides}
 use Rattle.resource.proofs.Fields.{fields-most}
 use Rattle.resource.proofs.Test.{below-or}
-use Rattle.records.specs.Records.{inChannel, divides}
+use Rattle.records.specs.Records.{inChannel}
 use Rattle.records.specs.Owns.{fieldsBefore, number, lowest, ownerAt, ownerOf}
 use Rattle.records.proofs.Lead.{lowest-below}
 use Rattle.records.proofs.Listing.{records-most}

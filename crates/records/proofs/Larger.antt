@@ -1,40 +1,30 @@
--- The resource of a larger kind, and its subcarriers: they lie in its places, and they are those that 01 lists. The only file of proofs
--- that goes by the table's lines. Assumes nothing.
-use mathlib.Core.Path.{_≡_, refl, sym}
-use mathlib.Core.Logic.{_≢_}
-use mathlib.Core.Bool.{Bool, true, not, _&&_}
+-- The resource of a larger kind, and its subcarriers: they are those of its places, they lie in them, and they are those that 01 lists. The
+-- only file of proofs that goes by the table's lines. Assumes nothing.
+use mathlib.Core.Path.{_≡_, refl, sym, _∙_, ap}
+use mathlib.Core.Logic.{_≢_, _⊎_, inl, inr}
+use mathlib.Core.Bool.{Bool, _&&_}
 use Prim.Native.Nat.{ℕ, zero, suc, _+_, _-_, _*_, _/_, _%_, _^_, _≤_, _<_}
 use native.Mathlib.Omega.{arith}
-use lib.Dec.{T, eqb, leb, ltb, le→leb, lt→ltb}
-use borrow.Author.Tests.{ne-eqb}
+use lib.Dec.{T, eqb, eqb→eq, leb, ltb, le→leb, lt→ltb}
 use Rattle.plan.specs.Kinds.{kinds, kindAt, span, mask, takes}
 use Rattle.plan.specs.Plan.{Place}
-use Rattle.plan.proofs.Table.{both, is-true, full, span-1, span-2, span-four, place-mod}
-use Rattle.resource.specs.declared.Size.the-variants.{S484, S996}
+use Rattle.plan.proofs.Table.{both, is-true, spans}
 use Rattle.resource.specs.declared.Pairing.the-variants.{P484And242}
 use Rattle.resource.specs.declared.Piece.{Piece}
-use Rattle.resource.specs.declared.Piece.the-variants.{Part}
 use Rattle.resource.specs.declared.Resource.{Resource}
 use Rattle.resource.specs.declared.Resource.the-variants.{Joined}
-use Rattle.resource.specs.Index.{isPiece, fromPositions, exists, resourceAt, leavingOut}
-use Rattle.resource.specs.Runs.{In, runsOf}
-use Rattle.resource.specs.Starts.{noPiece}
-use Rattle.resource.specs.Tones.{tonesOf}
-use Rattle.resource.proofs.Test.{wherever, met, below, every-below}
-use Rattle.resource.proofs.Apart.{pair-inside, whole-inside, three-inside}
-use Rattle.resource.proofs.Agree.{Right, piece-right, three-right, tones-found, three-found}
-use Rattle.records.specs.Records.{resourceColumn, larger}
+use Rattle.resource.specs.Values.{set-at}
+use Rattle.resource.specs.Index.{indexOf, isPiece, fromPositions, exists, resourceAt, leavingOut, positionOf, placeOf}
+use Rattle.resource.specs.Runs.{In, placesRuns, runsOf, wide, narrow}
+use Rattle.resource.specs.Tones.{tonesAt, tonesOfThree, tonesOf}
+use Rattle.resource.proofs.Test.{both-left, both-right, wherever, met, below, every-below}
+use Rattle.resource.proofs.Everywhere.{everywhere, at-position}
+use Rattle.resource.proofs.Places.{places-inside}
+use Rattle.resource.proofs.Agree.{Right, right-test, tested-right, piece-right, tones-found}
+use Rattle.records.specs.Records.{resourceColumn, larger, placesOf}
 
 -- ---- the resource
-pub larger-1 : (q : ℕ) → larger 1 q ≡ resourceAt q (Part S484 1)
-unfolding larger resourceColumn
-larger-1 q = refl
-
-pub larger-2 : (q : ℕ) → larger 2 q ≡ resourceAt q (Part S996 1)
-unfolding larger resourceColumn
-larger-2 q = refl
-
-pub larger-joined : (k q : ℕ) → k < 4 → larger (suc (suc (suc k))) q ≡ leavingOut k
+larger-joined : (k q : ℕ) → k < 4 → larger (suc (suc (suc k))) q ≡ leavingOut k
 unfolding larger resourceColumn
 larger-joined zero q h = refl
 larger-joined (suc zero) q h = refl
@@ -48,33 +38,66 @@ larger-high (suc zero) q h l = absurd (omega arith)
 larger-high (suc (suc zero)) q h l = absurd (omega arith)
 larger-high (suc (suc (suc k))) q h l = let e : suc (suc (suc k)) - 2 ≡ k + 1 = omega arith in rw e (sym (larger-joined k q (omega arith)))
 
--- ---- its places
-abbrev left-test : ℕ → ℕ → Bool
-left-test k j = wherever (not (eqb j k)) (takes (suc (suc (suc k))) j)
+-- ---- its places among those of its segment: they depend on its position there alone
+pub places-within : (c p : ℕ) → c < 7 → placesOf c p ≡ placesOf c (p % 4)
+unfolding placesOf
+places-within c p h = ap (λ (s : ℕ). mask c * 2 ^ s) (go (span c) (spans c h))
+  where
+    go : (n : ℕ) → (n ≡ 1) ⊎ ((n ≡ 2) ⊎ (n ≡ 4)) → n * (p / n) % 4 ≡ n * (p % 4 / n) % 4
+    go n (inl e) = rw e (omega arith)
+    go n (inr (inl e)) = rw e (omega arith)
+    go n (inr (inr e)) = rw e (omega arith)
 
-lefts-tested : T (below (λ k. below (left-test k) 4) 4)
-unfolding mask takes kindAt kinds
-lefts-tested = tt
+-- ---- its subcarriers are those of its places
+runs-at : (c n g q : ℕ) → c < 7 → c ≢ 0 → q < 4 → runsOf n g (larger c q) ≡ placesRuns (4 * g) (placesOf c q)
+unfolding larger resourceColumn resourceAt indexOf runsOf placesOf mask span kindAt kinds
+runs-at zero n g q h d l = absurd (d refl)
+runs-at (suc zero) n g q h d l = ap (placesRuns (4 * g)) (pair q l)
+  where
+    pair : (q : ℕ) → q < 4 → 3 * 4 ^ (q / 2 + 1 - 1) ≡ 3 * 2 ^ (2 * (q / 2) % 4)
+    pair zero l = refl
+    pair (suc zero) l = refl
+    pair (suc (suc zero)) l = refl
+    pair (suc (suc (suc zero))) l = refl
+    pair (suc (suc (suc (suc q)))) l = absurd (omega arith)
+runs-at (suc (suc zero)) n g q h d l = let e : 4 * (q / 4) % 4 ≡ 0 = omega arith in rw e
+runs-at (suc (suc (suc zero))) n g q h d l = let e : 4 * (q / 4) % 4 ≡ 0 = omega arith in rw e
+runs-at (suc (suc (suc (suc zero)))) n g q h d l = let e : 4 * (q / 4) % 4 ≡ 0 = omega arith in rw e
+runs-at (suc (suc (suc (suc (suc zero))))) n g q h d l = let e : 4 * (q / 4) % 4 ≡ 0 = omega arith in rw e
+runs-at (suc (suc (suc (suc (suc (suc zero)))))) n g q h d l = let e : 4 * (q / 4) % 4 ≡ 0 = omega arith in rw e
+runs-at (suc (suc (suc (suc (suc (suc (suc c))))))) n g q h d l = absurd (omega arith)
 
--- a 484+242 has every place but the one that it leaves out
-left-takes : (k j : ℕ) → k < 4 → j < 4 → j ≢ k → takes (suc (suc (suc k))) j ≡ true
-left-takes k j h l n =
-    is-true _ (met (not (eqb j k)) _ (every-below (left-test k) 4 (every-below (λ k. below (left-test k) 4) 4 lefts-tested k h) j l)
-    (rw (ne-eqb j k n) tt))
+pub larger-runs : (c n p : ℕ) → c < 7 → c ≢ 0 → runsOf n (p / 4) (larger c (p % 4)) ≡ placesRuns (4 * (p / 4)) (placesOf c p)
+larger-runs c n p h d = runs-at c n (p / 4) (p % 4) h d (omega arith) ∙ ap (placesRuns (4 * (p / 4))) (sym (places-within c p h))
 
--- ---- the subcarriers of a larger resource lie in its places
-pub larger-inside : (c n p u : ℕ) → c < 7 → c ≢ 0 → n ≢ 1 → In u (runsOf n (p / 4) (larger c (p % 4))) → Place c p (u / 256)
-larger-inside zero n p u h d w t = absurd (d refl)
-larger-inside (suc zero) n p u h d w t =
-    let f = pair-inside n (p / 4) w (p % 4) u (omega arith) (rw (larger-1 (p % 4)) at t) in
-    (rw span-1 (omega arith), full 1 (omega arith) (u / 256 % span 1) (place-mod 1 (u / 256) (omega arith)))
-larger-inside (suc (suc zero)) n p u h d w t =
-    let f = whole-inside n (p / 4) w (p % 4) u (rw (larger-2 (p % 4)) at t) in
-    (rw span-2 (omega arith), full 2 (omega arith) (u / 256 % span 2) (place-mod 2 (u / 256) (omega arith)))
-larger-inside (suc (suc (suc k))) n p u h d w t =
-    let f = three-inside n (p / 4) k u (omega arith) (rw (larger-joined k (p % 4) (omega arith)) at t) in
-    let e = span-four (suc (suc (suc k))) h (omega arith) in
-    (rw e (f .0), rw e (left-takes k (u / 256 % 4) (omega arith) (omega arith) (λ g. f .1 (omega arith))))
+-- ---- and lie in them
+abbrev inside-test : ℕ → ℕ → ℕ → Bool
+inside-test c q j = wherever (set-at j (placesOf c q)) (eqb (j / span c) (q / span c) && takes c (j % span c))
+
+insides-tested : T (below (λ c. below (λ q. below (inside-test c q) 4) 4) 7)
+unfolding placesOf takes mask span kindAt kinds
+insides-tested = tt
+
+-- positions v and p of one segment that lie in one span there
+one-span : (v p : ℕ) → v / 4 ≡ p / 4 → (n : ℕ) → (n ≡ 1) ⊎ ((n ≡ 2) ⊎ (n ≡ 4)) → v % 4 / n ≡ p % 4 / n → v / n ≡ p / n
+one-span v p e n (inl f) w = let x = rw f at w in rw f (omega arith)
+one-span v p e n (inr (inl f)) w = let x = rw f at w in rw f (omega arith)
+one-span v p e n (inr (inr f)) w = rw f e
+
+one-place : (v n : ℕ) → (n ≡ 1) ⊎ ((n ≡ 2) ⊎ (n ≡ 4)) → v % 4 % n ≡ v % n
+one-place v n (inl f) = rw f (omega arith)
+one-place v n (inr (inl f)) = rw f (omega arith)
+one-place v n (inr (inr f)) = rw f (omega arith)
+
+pub larger-inside : (c n p u : ℕ) → c < 7 → c ≢ 0 → In u (runsOf n (p / 4) (larger c (p % 4))) → Place c p (u / 256)
+larger-inside c n p u h d t =
+    let v = u / 256 in
+    let w = places-inside (p / 4) (placesOf c p) u (rw (larger-runs c n p h d) at t) in
+    let s = eqb (v % 4 / span c) (p % 4 / span c) in
+    let f = every-below (λ q. below (inside-test c q) 4) 4 (every-below (λ c. below (λ q. below (inside-test c q) 4) 4) 7 insides-tested c h) (p % 4) (omega arith) in
+    let y = met (set-at (v % 4) (placesOf c (p % 4))) (s && takes c (v % 4 % span c)) (every-below (inside-test c (p % 4)) 4 f (v % 4) (omega arith))
+    (rw (places-within c p h) at (w .1)) in
+    (one-span v p (w .0) (span c) (spans c h) (eqb→eq _ _ (both-left s _ y)), rw (← one-place v (span c) (spans c h)) (is-true _ (both-right s _ y)))
 
 -- ---- and they are those that 01 lists
 is-there : (n g p : ℕ) (x : Piece) → p < 4 → 4 * g + p < n → fromPositions x ≤ n → T (isPiece x) → T (exists n g p x)
@@ -87,28 +110,25 @@ is-there n g p x h i j t =
 abbrev pub RightAt : ℕ → ℕ → Resource → Type 0
 RightAt n g r = Right n g r (tonesOf n g r)
 
+-- the resources of every line, in a channel that has room for their span
+abbrev right-line : ℕ → ℕ → ℕ → ℕ → Bool
+right-line n g q c = wherever (leb (span c) n) (right-test n g (larger c q))
+
+abbrev right-lines : ℕ → ℕ → ℕ → Bool
+right-lines n g q = below (right-line n g q) 7
+
+rights-tested : T (everywhere right-lines)
+unfolding larger resourceColumn resourceAt indexOf runsOf placesRuns wide narrow tonesOf tonesAt tonesOfThree positionOf placeOf span kindAt kinds
+rights-tested = tt
+
 module _ (b : ℕ) (h : b < 5) where
   pub piece-there : (p : ℕ) (x : Piece) → p < 2 ^ b → fromPositions x ≤ 2 ^ b → T (isPiece x) → RightAt (2 ^ b) (p / 4) (resourceAt (p % 4) x)
   piece-there p x l k t =
       rw (tones-found b (p / 4) (p % 4) x h (omega arith) (omega arith) k t)
       (piece-right b (p / 4) (p % 4) x h (is-there (2 ^ b) (p / 4) (p % 4) x (omega arith) (omega arith) k t))
 
-  -- where its span lies in the channel
-  pub larger-right : (c p : ℕ) → c < 7 → c ≢ 0 → p < 2 ^ b → span c * (p / span c) + span c ≤ 2 ^ b → RightAt (2 ^ b) (p / 4) (larger c (p % 4))
-  unfolding isPiece fromPositions
-  larger-right zero p i d l r = absurd (d refl)
-  larger-right (suc zero) p i d l r =
-      let w = rw span-1 at r in
-      rw (larger-1 (p % 4)) (piece-there p (Part S484 1) l (omega arith) tt)
-  larger-right (suc (suc zero)) p i d l r =
-      let w = rw span-2 at r in
-      rw (larger-2 (p % 4)) (piece-there p (Part S996 1) l (omega arith) tt)
-  larger-right (suc (suc (suc k))) p i d l r =
-      let w = rw (span-four (suc (suc (suc k))) i (omega arith)) at r in
-      rw (larger-joined k (p % 4) (omega arith), three-found (2 ^ b) (p / 4) k)
-      (three-right b (p / 4) k noPiece h (omega arith) (omega arith) (two b w))
-    where
-      two : (b : ℕ) → 4 * (p / 4) + 4 ≤ 2 ^ b → 2 ≤ b
-      two zero w = absurd (omega arith)
-      two (suc zero) w = absurd (omega arith)
-      two (suc (suc b)) w = omega arith
+  pub larger-right : (c p : ℕ) → c < 7 → p < 2 ^ b → span c * (p / span c) + span c ≤ 2 ^ b → RightAt (2 ^ b) (p / 4) (larger c (p % 4))
+  larger-right c p i l r =
+      let f = at-position right-lines b (p / 4) (p % 4) rights-tested h (omega arith) (omega arith) in
+      tested-right (2 ^ b) (p / 4) (larger c (p % 4))
+      (met (leb (span c) (2 ^ b)) _ (every-below (right-line (2 ^ b) (p / 4) (p % 4)) 7 f c i) (le→leb (span c) (2 ^ b) (omega arith)))

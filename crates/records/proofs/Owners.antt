@@ -12,10 +12,10 @@ use lib.ListN.{length}
 use Rattle.plan.specs.Kinds.{span}
 use Rattle.plan.specs.Plan.{Fits, own, blank, smaller, Signals}
 use Rattle.plan.proofs.Table.{known, takes-known, family-low, blank-least, blank-most}
-use Rattle.resource.specs.Values.{pieces, fieldsOf}
+use Rattle.resource.specs.Values.{pieces, fieldsOf, divides}
 use Rattle.resource.proofs.Test.{below-or, every-between}
-use Rattle.resource.proofs.Apart.{not-divided}
-use Rattle.records.specs.Records.{inChannel, divides}
+use Rattle.resource.proofs.Pieces.{divided-low, divided-fields, divided-not, some-pieces, no-pieces-left, none-left}
+use Rattle.records.specs.Records.{inChannel}
 use Rattle.records.specs.Owns.{fieldsBefore, ComesFrom, number, Owns, of-piece, of-place, lowest, ownerAt, ownerOf}
 use Rattle.records.proofs.Lead.{lowest-place, lowest-only}
 
@@ -104,33 +104,6 @@ search-comes o row n c j p k w =
     found-left o row c p n j k (w .inside) (w .follows) (rw (in-own c p (fieldsOf (row p)) (w .channel)) (w .kth))
 
 -- ---- a value that divides its position
-pub divided-low : (v : ℕ) → divides v ≡ true → v < 51
-unfolding divides
-divided-low v e = ⊎-elim (λ h. h) (λ (h : 51 ≤ v). absurd (false≢true (rw (not-divided v h) at e))) (below-or v 51)
-
-pub divided-fields : (v : ℕ) → divides v ≡ true → fieldsOf v ≡ length (pieces v)
-unfolding fieldsOf
-divided-fields v e = rw (lt-ltb v 64 (omega (arith, divided-low v e)))
-
-pub divided-not : (v m : ℕ) → divides m ≡ false → divides v ≡ true → v ≢ m
-divided-not v m f e g = false≢true (sym f ∙ ap divides (sym g) ∙ e)
-
-pub some-pieces : (v k : ℕ) → k < length (pieces v) → divides v ≡ true
-unfolding divides
-some-pieces v k h = rw (ne-eqb (length (pieces v)) 0 (λ e. omega arith))
-
-pub no-pieces-left : (v : ℕ) → length (pieces v) ≡ 0 → divides v ≡ false
-unfolding divides
-no-pieces-left v h = rw h
-
-pub none-left : (v : ℕ) → divides v ≡ false → length (pieces v) ≡ 0
-unfolding divides
-none-left v h = go (eqb (length (pieces v)) 0) refl h
-  where
-    go : (t : Bool) → eqb (length (pieces v)) 0 ≡ t → not t ≡ false → length (pieces v) ≡ 0
-    go true e f = eqb-true (length (pieces v)) 0 e
-    go false e f = absurd (false≢true (sym f))
-
 abbrev blank-test : ℕ → Bool
 blank-test v = eqb (length (pieces v)) 0
 
@@ -138,7 +111,7 @@ blank-test v = eqb (length (pieces v)) 0
 blank-whole : (v : ℕ) → 28 ≤ v → v < 31 → divides v ≡ false
 blank-whole v h l = no-pieces-left v (eqb→eq (length (pieces v)) 0 (every-between blank-test 28 31 v (unfold pieces in tt) h l))
 
--- .. is given to itself by every plan that signals it
+-- a position that its value divides is given to itself by every plan that signals it
 pub divided-itself : (c p v : ℕ) → divides v ≡ true → Fits c p v → c ≡ 0
 divided-itself c p v e (own t f) = absurd (omega (arith, divided-low v e, family-low c (takes-known c _ t)))
 divided-itself c p v e (blank t f) =

@@ -19,11 +19,11 @@ use Rattle.plan.proofs.Table.{by-test, not-both, equal-or, at-span, takes-known
 use Rattle.plan.proofs.Table.{span-some, span-most, span-0, place-mod}
 use Rattle.resource.specs.declared.Size.the-variants.{S242}
 use Rattle.resource.specs.declared.Piece.the-variants.{Part}
-use Rattle.resource.specs.Values.{within, pieces, fieldsOf, ownPieces}
+use Rattle.resource.specs.Values.{within, pieces, fieldsOf, divides, pieceFields, ownPieces}
 use Rattle.resource.proofs.Test.{below-or}
 use Rattle.resource.proofs.Starts.{own-fields, own-whole}
 use Rattle.records.specs.declared.Record.{Record}
-use Rattle.records.specs.Records.{inChannel, divides, pieceFields, listAt, recordsFrom, recordAt}
+use Rattle.records.specs.Records.{inChannel, listAt, recordsFrom, recordAt}
 use Rattle.records.specs.Records.{blank as noRecord}
 use Rattle.records.specs.Owns.{fieldsBefore, ComesFrom, number, Owns, lowest, ownerAt, ownerOf, Counts, none, one-more, no-more, shareOf, allShares}
 use Rattle.records.proofs.Sums.{sumTo, sumFrom, sum-cong, sum-one, sum-past, sum-window, from-cong}
@@ -31,7 +31,8 @@ use Rattle.records.proofs.Sums.{tally, tally-cong, tally-split, tally-n
 use Rattle.records.proofs.Lead.{lowest-place, lowest-only, itself-place, itself-lowest}
 use Rattle.records.proofs.Listing.{Located, located, located-record, located-once, records-rise}
 use Rattle.records.proofs.Listing.{own-length, own-record, larger-record, larger-one, once-lead}
-use Rattle.records.proofs.Owners.{none-left, divided-not, found-left, divided-low, divided-itself, owner-only, owner-owns, search-comes, comes}
+use Rattle.resource.proofs.Pieces.{none-left, divided-not, divided-low}
+use Rattle.records.proofs.Owners.{found-left, divided-itself, owner-only, owner-owns, search-comes, comes}
 
 -- ---- the fields that come from one position
 module _ (o row : ℕ → ℕ) (i : ℕ) where

@@ -2,45 +2,18 @@
 -- signals the row. Assumes nothing.
 use mathlib.Core.Path.{_≡_}
 use mathlib.Core.Logic.{⊎-elim}
-use mathlib.Core.Bool.{Bool, true, _&&_}
-use mathlib.Core.List.{List, [], _∷_}
-use Prim.Native.Nat.{ℕ, zero, suc, _^_, _≤_, _<_}
+use Prim.Native.Nat.{ℕ, _^_, _≤_, _<_}
 use native.Mathlib.Omega.{arith}
-use lib.Dec.{T, eqb, eqb→eq}
 use lib.ListN.{length, getD}
 use Rattle.plan.specs.Plan.{Signals}
 use Rattle.plan.proofs.Table.{equal-or, known}
-use Rattle.resource.specs.declared.Piece.{Piece}
-use Rattle.resource.specs.Values.{pieces, ownPieces}
-use Rattle.resource.specs.Index.{isPiece, fromPositions}
-use Rattle.resource.specs.Starts.{noPiece, pieceAt}
-use Rattle.resource.proofs.Test.{below-or, both-left, both-right, below, every-below}
-use Rattle.resource.proofs.Apart.{no-pieces}
+use Rattle.resource.specs.Starts.{pieceAt}
+use Rattle.resource.proofs.Pieces.{own-piece}
 use Rattle.records.specs.declared.Record.{Record}
 use Rattle.records.specs.Records.{listAt, recordsFrom, recordAt, blank}
 use Rattle.records.proofs.Larger.{RightAt, piece-there, larger-right}
 use Rattle.records.proofs.Listing.{Somewhere, located, located-record, own-length, own-record, larger-record}
 use Rattle.records.proofs.Subcarriers.{whole-span}
-
--- ---- the pieces of a value exist at every position
-abbrev whole-list : List Piece → Bool
-whole-list [] = true
-whole-list (x ∷ xs) = isPiece x && eqb (fromPositions x) 1 && whole-list xs
-
-in-list : (xs : List Piece) (k : ℕ) → T (whole-list xs) → k < length xs → T (isPiece (getD xs k noPiece)) × (fromPositions (getD xs k noPiece) ≡ 1)
-in-list [] k t h = absurd (omega arith)
-in-list (x ∷ xs) zero t h =
-    let u = both-left (isPiece x && eqb (fromPositions x) 1) (whole-list xs) t in
-    (both-left (isPiece x) (eqb (fromPositions x) 1) u, eqb→eq (fromPositions x) 1 (both-right (isPiece x) (eqb (fromPositions x) 1) u))
-in-list (x ∷ xs) (suc k) t h = in-list xs k (both-right (isPiece x && eqb (fromPositions x) 1) (whole-list xs) t) (omega arith)
-
-all-lists : T (below (λ v. whole-list (ownPieces v)) 72)
-unfolding ownPieces pieces isPiece fromPositions
-all-lists = tt
-
-own-list : (v : ℕ) → T (whole-list (ownPieces v))
-own-list v =
-    ⊎-elim (λ h. every-below (λ v. whole-list (ownPieces v)) 72 all-lists v h) (λ (h : 72 ≤ v). rw (no-pieces v h) tt) (below-or v 72)
 
 -- the runs of a record's resource are those that 01 lists
 abbrev pub RightRecord : ℕ → Record → Type 0
@@ -49,14 +22,14 @@ RightRecord n r = RightAt n (r .segment) (r .resource)
 module _ (o row : ℕ → ℕ) (b : ℕ) (h : b < 5) (s : Signals o row 0 (2 ^ b)) where
   own-right : (p m : ℕ) → p < 2 ^ b → o p ≡ 0 → m < length (listAt (o p) row p) → RightRecord (2 ^ b) (recordAt (o p) row p m)
   own-right p m l e k =
-      let w = in-list (ownPieces (row p)) m (own-list (row p)) (omega (arith, own-length (o p) row p e)) in
+      let w = own-piece (row p) m (omega (arith, own-length (o p) row p e)) in
       rw (own-record (o p) row p m e) (piece-there b h p (pieceAt (row p) m) l (omega (arith, w .1)) (w .0))
 
   right-at : (p m : ℕ) → p < 2 ^ b → m < length (listAt (o p) row p) → RightRecord (2 ^ b) (recordAt (o p) row p m)
   right-at p m l k =
       ⊎-elim
       (λ e. own-right p m l e k)
-      (λ n. rw (larger-record (o p) row p m n) (larger-right b h (o p) p (known (o p) p (row p) (s .fits p (omega arith) l)) n l (whole-span o row b h s p l)))
+      (λ n. rw (larger-record (o p) row p m n) (larger-right b h (o p) p (known (o p) p (row p) (s .fits p (omega arith) l)) l (whole-span o row b h s p l)))
       (equal-or (o p) 0)
 
   -- of each resource of the plan

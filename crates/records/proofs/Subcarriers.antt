@@ -14,7 +14,7 @@ use Rattle.resource.specs.Starts.{noPiece}
 use Rattle.resource.proofs.Apart.{piece-inside, pieces-apart}
 use Rattle.records.specs.Records.{lead, listAt, recordsFrom, recordAt, HasTone, Punctured}
 use Rattle.records.specs.Records.{blank as noRecord}
-use Rattle.records.proofs.Lead.{itself-place, span-two, span-within}
+use Rattle.records.proofs.Lead.{itself-place, span-within}
 use Rattle.records.proofs.Larger.{larger-inside}
 use Rattle.records.proofs.Listing.{Located, Somewhere, located, located-record, own-length, own-record, larger-record, larger-most, once-lead}
 
@@ -31,12 +31,9 @@ module _ (o row : ℕ → ℕ) (b : ℕ) (h : b < 5) (s : Signals o row 0 (2 ^ b
   kind : (p : ℕ) → p < 2 ^ b → o p < 7
   kind p l = known (o p) p (row p) (s .fits p (omega arith) l)
 
-  -- the span of a resource lies in the channel, so a channel with a larger one has more than one position
+  -- the span of a resource lies in the channel
   pub whole-span : (p : ℕ) → p < 2 ^ b → span (o p) * (p / span (o p)) + span (o p) ≤ 2 ^ b
   whole-span p l = span-within (o p) p b (kind p l) h l (λ q w. entire-at p q l w .0)
-
-  wide : (p : ℕ) → p < 2 ^ b → o p ≢ 0 → 2 ^ b ≢ 1
-  wide p l n e = omega (arith, whole-span p l, span-two (o p) (kind p l) n)
 
   -- the subcarriers of a resource that is listed at p lie in its places
   own-cells : (p m u : ℕ) → p < 2 ^ b → o p ≡ 0 → m < length (listAt (o p) row p) → HasTone (2 ^ b) (recordAt (o p) row p m) u → Place (o p) p (u / 256)
@@ -50,7 +47,7 @@ module _ (o row : ℕ → ℕ) (b : ℕ) (h : b < 5) (s : Signals o row 0 (2 ^ b
   cells p m u l k t =
       ⊎-elim
       (λ e. own-cells p m u l e k t)
-      (λ n. larger-inside (o p) (2 ^ b) p u (kind p l) n (wide p l n) (rw (larger-record (o p) row p m n) at t))
+      (λ n. larger-inside (o p) (2 ^ b) p u (kind p l) n (rw (larger-record (o p) row p m n) at t))
       (equal-or (o p) 0)
 
   -- of resource i

@@ -8,9 +8,9 @@ use lib.ListN.{length}
 use Rattle.plan.specs.Kinds.{itself, span}
 use Rattle.plan.specs.Plan.{Place}
 use Rattle.plan.specs.Value.{fieldsTo}
-use Rattle.resource.specs.Values.{pieces, fieldsOf}
+use Rattle.resource.specs.Values.{pieces, fieldsOf, divides}
 use Rattle.records.specs.declared.Record.{Record}
-use Rattle.records.specs.Records.{divides, lead, recordsFrom}
+use Rattle.records.specs.Records.{lead, recordsFrom}
 
 -- how many User fields channel c, from 0, has from the first n positions: "the count is the sum over the row's values"
 abbrev pub fieldsBefore : ℕ → (ℕ → ℕ) → ℕ → ℕ

@@ -1,11 +1,11 @@
 -- The list of a plan's resources (01, "What a plan is"), for any plan o. Assumes nothing.
-use mathlib.Core.Bool.{Bool, cond, not}
+use mathlib.Core.Bool.{cond}
 use mathlib.Core.List.{List, [], _∷_, _++_, map}
-use Prim.Native.Nat.{ℕ, zero, suc, _/_, _%_}
+use Prim.Native.Nat.{ℕ, zero, suc, _*_, _/_, _%_, _^_}
 use lib.Dec.{eqb}
 use lib.ListN.{length, getD}
 use Rattle.answer.specs.Least.{least}
-use Rattle.plan.specs.Kinds.{itself, span, takes}
+use Rattle.plan.specs.Kinds.{itself, span, mask, takes}
 use Rattle.plan.specs.Plan.{at}
 use Rattle.plan.specs.Fields.{fieldsIn}
 use Rattle.resource.specs.declared.Size.the-variants.{S26, S242, S484, S996}
@@ -13,7 +13,7 @@ use Rattle.resource.specs.declared.Piece.{Piece}
 use Rattle.resource.specs.declared.Piece.the-variants.{Part}
 use Rattle.resource.specs.declared.Resource.{Resource}
 use Rattle.resource.specs.declared.Resource.the-variants.{Single}
-use Rattle.resource.specs.Values.{pieces, fieldsOf, ownPieces}
+use Rattle.resource.specs.Values.{pieceFields, ownPieces}
 use Rattle.resource.specs.Index.{resourceAt, leavingOut}
 use Rattle.resource.specs.Runs.{In, runsOf}
 use Rattle.resource.specs.Starts.{pieceAt}
@@ -24,14 +24,6 @@ abbrev pub inChannel : ℕ → ℕ → ℕ → ℕ
 inChannel c p f = cond (eqb (p % 2) c) f 0
 
 -- ---- a position that is given to itself
--- the value divides it into smaller pieces
-unfoldable pub divides : ℕ → Bool
-divides v = not (eqb (length (pieces v)) 0)
-
--- "Values 0 to 25, 48 and 50 give one field to each of their pieces"; a whole 242 has all of its value's, 28 none
-unfoldable pub pieceFields : ℕ → ℕ
-pieceFields v = cond (divides v) 1 (fieldsOf v)
-
 abbrev pub pieceRecord : (ℕ → ℕ) → ℕ → Piece → Record
 pieceRecord row p x = record {
   resource = resourceAt (p % 4) x;
@@ -61,6 +53,10 @@ resourceColumn q =
 -- that of kind c
 unfoldable pub larger : ℕ → ℕ → Resource
 larger c q = getD (resourceColumn q) c (Single S26 0)
+
+-- its places among the four positions of its segment, bit j for place j, where it lies at position p: those of its span, from where that begins
+unfoldable pub placesOf : ℕ → ℕ → ℕ
+placesOf c p = mask c * 2 ^ (span c * (p / span c) % 4)
 
 -- "A resource's fields are those of all its places"
 abbrev pub largerRecord : ℕ → (ℕ → ℕ) → ℕ → Record

@@ -1,18 +1,21 @@
 // The resources of a row's plan, and whose User field is whose (01, "What a plan is"). A kind of resource is a number, as in
 // crate `plan`: 0 is the position itself.
 use resource::Pairing;
+use resource::Piece;
 use resource::Resource;
 use resource::Size;
+use resource::Tones;
 ghost use mathlib.Core.Path.{_≡_};
 ghost use mathlib.Core.Bool.{cond};
-ghost use Prim.Native.Nat.{_+_, _≤_, _<_};
+ghost use Prim.Native.Nat.{_+_, _*_, _/_, _≤_, _<_};
 ghost use lib.ListN.{length, replicate};
 ghost use Rattle.answer.specs.Filled.{build, filled};
 ghost use Rattle.plan.specs.Plan.{at};
 ghost use Rattle.plan.specs.Guess.{onlyPlan};
 ghost use Rattle.plan.specs.Value.{kindsOf};
-ghost use Rattle.resource.specs.Starts.{pieceAt};
-ghost use Rattle.records.specs.Records.{inChannel, divides, pieceFields, pieceRecord, lead, larger, largerRecord, recordAt, listed, recordsOf};
+ghost use Rattle.resource.specs.Starts.{numberedOf};
+ghost use Rattle.resource.specs.Runs.{placesRuns, held};
+ghost use Rattle.records.specs.Records.{inChannel, pieceRecord, lead, larger, placesOf, largerRecord, listed, recordsOf};
 ghost use Rattle.records.specs.Owns.{fieldsBefore, lowest, ownerAt, ownerOf};
 ghost use Rattle.records.specs.Tables.{numbersOf};
 
@@ -29,27 +32,6 @@ fn value_at(row: &[u16], p: usize) -> u16
     ensures { λ r. ⌜ r ≡ at (now (row .entry)) p ⌝ }
 {
     if p < row.len() { row[p] } else { 0 }
-}
-
-// The value divides its position into smaller pieces.
-fn is_divided(v: u16) -> bool
-    ensures { λ r. ⌜ r ≡ divides v ⌝ }
-{
-    match v {
-        0..=25 | 48 | 50 => true,
-        _ => false,
-    }
-}
-
-// The fields of each piece of a position that is given to itself.
-fn piece_fields(v: u16) -> u16
-    ensures { λ r. ⌜ r ≡ pieceFields v ⌝ }
-{
-    if is_divided(v) {
-        1
-    } else {
-        resource::fields_of(v)
-    }
 }
 
 // f where position p is one of the channel's (0 or 1).
@@ -92,14 +74,14 @@ fn lowest_of(kind: u16, p: usize) -> usize
 
 // ---- the resources whose lowest position is p
 
-// The k-th piece of position p, which is given to itself.
-fn piece_record(v: u16, p: usize, k: u16) -> Record
-    requires { ⌜ p < 4096 ⌝ }
-    ensures { λ r. ⌜ r ≡ pieceRecord (λ q. v) p (pieceAt v k) ⌝ }
+// The piece x of position p, which is given to itself and has the value v.
+pub fn piece_record(v: u16, p: usize, x: Piece) -> Record
+    requires { ⌜ (p < 4096) × (numberedOf x ≤ 9) ⌝ }
+    ensures { λ r. ⌜ r ≡ pieceRecord (λ q. v) p x ⌝ }
 {
-    let f = piece_fields(v);
+    let f = resource::piece_fields(v);
     Record {
-        resource: resource::resource_at(v, p as u16, k),
+        resource: resource::resource_at(p as u16, x),
         segment: (p / 4) as u16,
         position: p as u16,
         fields1: in_channel(0, p, f),
@@ -108,7 +90,7 @@ fn piece_record(v: u16, p: usize, k: u16) -> Record
 }
 
 // The larger resource of this kind that lies at position p.
-fn larger_record(kind: u16, row: &[u16], p: usize) -> Record
+pub fn larger_record(kind: u16, row: &[u16], p: usize) -> Record
     requires { ⌜ (kind < 7) × (p < 4096) ⌝ }
     ensures { λ r. ⌜ r ≡ largerRecord kind (at (now (row .entry))) p ⌝ }
 {
@@ -121,15 +103,13 @@ fn larger_record(kind: u16, row: &[u16], p: usize) -> Record
     }
 }
 
-// The k-th of the resources whose lowest position is p, which is given to this kind.
-pub fn record_at(kind: u16, row: &[u16], p: usize, k: u16) -> Record
+// The subcarriers of the larger resource of this kind that lies at position p: its places among the four of its segment.
+pub fn larger_tones(kind: u16, p: usize) -> Tones
     requires { ⌜ (kind < 7) × (p < 4096) ⌝ }
-    ensures { λ r. ⌜ r ≡ recordAt kind (at (now (row .entry))) p k ⌝ }
+    ensures { λ t. ⌜ t ≡ held (placesRuns (4 * (p / 4)) (placesOf kind p)) ⌝ }
 {
-    if kind == 0 {
-        return piece_record(value_at(row, p), p, k);
-    }
-    larger_record(kind, row, p)
+    let places = plan::mask_of(kind) << (plan::start_of(kind, p) % 4);
+    resource::places_tones((4 * (p / 4)) as u32, places)
 }
 
 fn one_if(t: bool) -> u16
@@ -184,7 +164,7 @@ fn first_owner(kinds: &[u16; 16], before: &[u16; 17], row: &[u16], p: usize) -> 
     requires { ⌜ (length (now row) ≤ 16) × (p < length (now row)) × (now kinds ≡ kindsOf (now row)) × (now before ≡ numbersOf (now row)) ⌝ }
     ensures { λ r. ⌜ r ≡ ownerAt (onlyPlan (at (now (row .entry)))) (at (now (row .entry))) p 0 ⌝ }
 {
-    if is_divided(value_at(row, p)) {
+    if resource::is_divided(value_at(row, p)) {
         return before[p];
     }
     before[lowest_of(kinds[p], p)]
@@ -210,7 +190,7 @@ fn enter_owners(
     if f == 0 {
         return j;
     }
-    let step = one_if(is_divided(v)); // each field of a divided position is another piece's
+    let step = one_if(resource::is_divided(v)); // each field of a divided position is another piece's
     let mut number = first_owner(kinds, before, row, p);
     let mut k: usize = 0;
     while k < f {

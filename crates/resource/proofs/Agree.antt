@@ -24,7 +24,7 @@ same-eq (pos a) (negsuc b) t = absurd t
 same-eq (negsuc a) (pos b) t = absurd t
 same-eq (negsuc a) (negsuc b) t = ap negsuc (eqb→eq a b t)
 
-abbrev sameSpan : Span → Span → Bool
+abbrev pub sameSpan : Span → Span → Bool
 sameSpan s t = sameℤ (s .lo) (t .lo) && sameℤ (s .hi) (t .hi)
 
 span-eq : (s t : Span) → T (sameSpan s t) → s ≡ t
@@ -33,7 +33,7 @@ span-eq s t h =
     let b = same-eq (s .hi) (t .hi) (both-right (sameℤ (s .lo) (t .lo)) (sameℤ (s .hi) (t .hi)) h) in
     (λ i. record { lo = a i; hi = b i })
 
-abbrev sameSpans : List Span → List Span → Bool
+abbrev pub sameSpans : List Span → List Span → Bool
 sameSpans [] [] = true
 sameSpans [] (t ∷ ts) = false
 sameSpans (s ∷ ss) [] = false
@@ -49,7 +49,7 @@ spans-eq (s ∷ ss) (t ∷ ts) h =
     (λ i. a i ∷ b i)
 
 -- ---- tested of every piece, and of every 484+242
-abbrev sized : ℕ → ℕ → Resource → Bool
+abbrev pub sized : ℕ → ℕ → Resource → Bool
 sized n g r = eqb (count (runsOf n g r)) (nameOf r) && rising 0 (runsOf n g r)
 
 abbrev agrees : ℕ → ℕ → ℕ → Piece → Bool
@@ -81,6 +81,13 @@ right n g r ss t =
       named = eqb→eq (count (runsOf n g r)) (nameOf r) (both-left b (rising 0 (runsOf n g r)) u);
       rises = both-right b (rising 0 (runsOf n g r)) u;
     }
+
+-- by a test of its size and index
+abbrev pub right-test : ℕ → ℕ → Resource → Bool
+right-test n g r = sameSpans (tonesOf n g r) (map (spanOf n) (runsOf n g r)) && sized n g r
+
+pub tested-right : (n g : ℕ) (r : Resource) → T (right-test n g r) → Right n g r (tonesOf n g r)
+tested-right n g r t = right n g r (tonesOf n g r) t
 
 -- a piece that exists
 module _ (b g p : ℕ) (x : Piece) (h : b < 5) where

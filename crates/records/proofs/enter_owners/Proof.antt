@@ -1,9 +1,9 @@
 -- `records::enter_owners` meets its contract. Assumes nothing.
 use Rattle.records.proofs.Entering.{one-most, only-below, owner-next, owner-most, enter, few-here}
 use Rattle.records.proofs.Owners.{before-next}
-use Rattle.records.specs.Records.{inChannel, divides}
+use Rattle.records.specs.Records.{inChannel}
 use Rattle.records.specs.Owns.{ownerAt, ownerOf}
-use Rattle.resource.specs.Values.{fieldsOf}
+use Rattle.resource.specs.Values.{fieldsOf, divides}
 use Rattle.answer.specs.Filled.{filled}
 use Rattle.plan.specs.Guess.{onlyPlan}
 use Rattle.plan.specs.Plan.{at}
