@@ -35,6 +35,12 @@ holds-more id seen j x e l f = record {
       (eq-or-lt-of-le {n = k} {m = j} (omega arith));
 }
 
+-- n of f's from place a on, and the rest as it was
+pub record Entered (f : ℕ → ℕ) (before : List ℕ) (a n : ℕ) (after : List ℕ) : Type 0 where
+  pub entered : (k : ℕ) → k < n → getD after (a + k) 0 ≡ f k
+  pub kept : (k : ℕ) → k < a → getD after k 0 ≡ getD before k 0
+  pub as-long : length after ≡ length before
+
 repeated-by : (id : ℕ → ℕ) (seen : List ℕ) (n j : ℕ) → j < n → Holds id seen n → repeated (λ i. getD seen i 0) j ≡ repeated id j
 repeated-by id seen n j l f =
     rw (f .holds j l, least-cong (λ i. eqb (getD seen i 0) (id j)) (λ i. eqb (id i) (id j)) j (λ k m. ap (λ (y : ℕ). eqb y (id j)) (f .holds k (omega arith))))
@@ -62,7 +68,7 @@ abbrev pub among : (ℕ → ℕ) → ℕ → ℕ → Bool
 among id j x = ltb (least (λ i. eqb (id i) x) j) j
 
 -- of one more: it is, or it was before
-among-next : (p : ℕ → Bool) (j : ℕ) → ltb (least p (j + 1)) (j + 1) ≡ cond (ltb (least p j) j) true (p j)
+pub among-next : (p : ℕ → Bool) (j : ℕ) → ltb (least p (j + 1)) (j + 1) ≡ cond (ltb (least p j) j) true (p j)
 unfolding least
 among-next p j = rw (add-one j) (go (ltb (least p j) j) (p j) refl)
   where

@@ -2,24 +2,26 @@
 use answer::Answer;
 use answer::Out;
 ghost use mathlib.Core.Path.{_≡_};
-ghost use Prim.Native.Nat.{_+_, _≤_, _<_};
+ghost use Prim.Native.Nat.{_+_, _/_, _%_, _^_, _≤_, _<_};
 ghost use mathlib.Core.Bool.{_&&_};
 ghost use lib.Dec.{eqb, ltb, leb};
 ghost use lib.ListN.{length, getD};
 ghost use Rattle.answer.specs.Least.{least};
 ghost use Rattle.bits.specs.Bits.{bit, put};
-ghost use Rattle.stations.specs.Stations.{stationOf, repeated, stationPlace, firstRepeated, stationTwice};
-ghost use Rattle.stations.specs.Kept.{Holds};
+ghost use Rattle.stations.specs.Stations.{stationAt, stationOf, repeated, stationPlace, firstRepeated, stationTwice};
+ghost use Rattle.stations.specs.Kept.{Holds, Entered};
+ghost use Rattle.stations.specs.Gathered.{stationIn, anyRepeated};
+ghost use lib.Bits.{bitOr};
 
-// The STA-ID of User field j over both channels, n of which are channel 1's.
-fn station_at(bw: u32, a: &[u8], b: &[u8], n: usize, j: usize) -> u16
-    requires { ⌜ (n ≤ 72) × (j < n + 72) ⌝ }
-    ensures { λ r. ⌜ r ≡ stationOf bw (now (a .entry)) (now (b .entry)) n j ⌝ }
+// Enters the STA-IDs of a channel's n User fields, from place `at` on.
+fn enter_stations(ids: &mut [u16; 144], at: usize, bw: u32, s: &[u8], n: usize)
+    requires { ⌜ (n ≤ 72) × (at + n ≤ 144) × (length (now ids) ≡ 144) ⌝ }
+    ensures { λ _. ⌜ Entered (stationAt bw (now (s .entry))) (now (ids .entry)) at n (now (ids .exit)) ⌝ }
 {
-    if j < n {
-        bits::field_at(a, channel::user_bit(bw, j), 11) as u16
-    } else {
-        bits::field_at(b, channel::user_bit(bw, j - n), 11) as u16
+    let mut i = 0;
+    while i < n {
+        ids[at + i] = bits::field_at(s, channel::user_bit(bw, i), 11) as u16;
+        i += 1;
     }
 }
 
@@ -29,13 +31,45 @@ fn stations_of(bw: u32, a: &[u8], b: &[u8], n: usize, m: usize) -> [u16; 144]
     ensures { λ r. ⌜ (length r ≡ 144) × Holds (stationOf bw (now (a .entry)) (now (b .entry)) n) r (n + m) ⌝ }
 {
     let mut ids = [0u16; 144];
-    let mut j = 0;
-    while j < n + m {
-        ids[j] = station_at(bw, a, b, n, j);
-        j += 1;
-    }
+    enter_stations(&mut ids, 0, bw, a, n);
+    enter_stations(&mut ids, n, bw, b, m);
     ids
 }
+
+// ---- whether any stands again: a bit for each STA-ID, in words of 64, and one answer gathered over all
+
+fn is_marked(w: u64, id: u16) -> bool
+    ensures { λ r. ⌜ r ≡ (ltb 0 id && leb id 2006) && eqb (w / 2 ^ (id % 64) % 2) 1 ⌝ }
+{
+    (0 < id) & (id <= 2006) & ((w >> (id % 64)) % 2 == 1)
+}
+
+fn with_mark(w: u64, id: u16) -> u64
+    ensures { λ r. ⌜ r ≡ bitOr w (2 ^ (id % 64)) ⌝ }
+{
+    w | (1 << (id % 64))
+}
+
+// Whether any of t that may not stand again does.
+fn any_again(ids: &[u16; 144], t: usize) -> bool
+    requires { ⌜ t ≤ 144 ⌝ }
+    ensures { λ r. ⌜ r ≡ anyRepeated (stationIn (now (ids .entry))) t ⌝ }
+{
+    let mut marks = [0u64; 32];
+    let mut again = false;
+    let mut j = 0;
+    while j < t {
+        let id = ids[j] % 2048;
+        let k = id as usize / 64;
+        let w = marks[k];
+        again = again | is_marked(w, id);
+        marks[k] = with_mark(w, id);
+        j += 1;
+    }
+    again
+}
+
+// ---- which: asked only where one does
 
 // Whether a STA-ID may not stand again and is marked.
 fn stands_again(marks: &[u8], id: u16) -> bool
@@ -78,6 +112,9 @@ fn first_repeated(bw: u32, a: &[u8], b: &[u8], n: usize, m: usize) -> usize
         return n + m; // one station repeats none
     }
     let ids = stations_of(bw, a, b, n, m);
+    if !any_again(&ids, n + m) {
+        return n + m;
+    }
     first_again(&ids, n + m)
 }
 

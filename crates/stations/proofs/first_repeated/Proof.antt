@@ -1,10 +1,12 @@
 -- `stations::first_repeated` meets its contract. Assumes nothing.
-use borrow.Author.Needs.{needs}
+use Rattle.stations.proofs.Gathered.{none-again, station-low}
+use Rattle.stations.specs.Kept.{repeat-none, repeat-held}
+use Rattle.stations.specs.Stations.{stationOf, firstRepeated}
+use borrow.Author.Tests.{not-true}
 use Prim.Native.Nat.{_+_}
 use mathlib.Core.Path.{sym, _∙_}
 use native.Mathlib.Omega.{arith}
-use Rattle.stations.specs.Stations.{stationOf, firstRepeated}
-use Rattle.stations.specs.Kept.{repeat-none, repeat-held}
+use borrow.Author.Needs.{needs}
 use Rattle.stations.proofs.first_repeated.Statement.{statement}
 use Rattle.stations.proofs.first_repeated.Tie as tie
 
@@ -23,17 +25,33 @@ returns c =
 stations-of-requires : tie.Need-stations-of-requires
 stations-of-requires c κs = search needs
 
+add-any-again : tie.Need-add-any-again
+add-any-again c = search needs
+
+any-again-requires : tie.Need-any-again-requires
+any-again-requires c κs = search needs
+
+add-result-2 : tie.Need-add-result-2
+add-result-2 c = search needs
+
+returns-2 : tie.Need-returns-2
+unfolding firstRepeated
+returns-2 c =
+    let a = c .before .before .before .before .before .before .before .args in
+    let id = stationOf (a .bw) (a .a .now) (a .b .now) (a .n) in
+    (sym (none-again id _ (a .n + a .m) (λ k l. station-low (a .bw) (a .a .now) (a .b .now) (a .n) k) (c .before .before .before .stations-of .ensures .1) (sym (c .before .any-again .ensures) ∙ not-true _ (c .if2 .taken))), omega arith)
+
 add-first-again : tie.Need-add-first-again
 add-first-again c = search needs
 
 first-again-requires : tie.Need-first-again-requires
 first-again-requires c κs = search needs
 
-returns-2 : tie.Need-returns-2
+returns-3 : tie.Need-returns-3
 unfolding firstRepeated
-returns-2 c =
-    let a = c .before .before .before .before .before .before .args in
-    (c .first-again .ensures .1 ∙ repeat-held (stationOf (a .bw) (a .a .now) (a .b .now) (a .n)) _ (a .n + a .m) (c .before .before .stations-of .ensures .1), omega arith)
+returns-3 c =
+    let a = c .before .before .before .before .before .before .before .before .before .args in
+    (c .first-again .ensures .1 ∙ repeat-held (stationOf (a .bw) (a .a .now) (a .b .now) (a .n)) _ (a .n + a .m) (c .before .before .before .before .before .stations-of .ensures .1), omega arith)
 
 pub first-repeated-spec : {M : Type 1} → statement M
 first-repeated-spec =
@@ -43,6 +61,10 @@ first-repeated-spec =
     add-result
     returns
     stations-of-requires
+    add-any-again
+    any-again-requires
+    add-result-2
+    returns-2
     add-first-again
     first-again-requires
-    returns-2)
+    returns-3)
