@@ -14,7 +14,7 @@ use Rattle.answer.specs.Order.{pass-left, pass-right}
 use Rattle.answer.specs.declared.Answer.{Answer}
 use Rattle.answer.specs.declared.Out.the-variants.{Pass}
 use Rattle.bits.specs.Bits.{field}
-use Rattle.resource.specs.Values.{fieldsOf}
+use Rattle.resource.specs.Values.{fieldsOf, divides, pieceFields}
 use Rattle.resource.specs.Starts.{pieceAt}
 use Rattle.plan.specs.Kinds.{span}
 use Rattle.plan.specs.Plan.{at, Place, Fits, Signals}
@@ -25,11 +25,12 @@ use Rattle.plan.proofs.Table.{equal-or}
 use Rattle.plan.proofs.Laid.{layout-laid}
 use Rattle.plan.proofs.Demand.{accepted-plan, only-plan}
 use Rattle.records.specs.declared.Record.{Record}
-use Rattle.records.specs.Records.{inChannel, divides, pieceFields, pieceRecord, recordsFrom, recordsOf, recordAt, blank}
+use Rattle.records.specs.Records.{inChannel, pieceRecord, recordsFrom, recordsOf, recordAt, blank}
 use Rattle.records.specs.Owns.{fieldsBefore, ComesFrom, number, Owns, of-piece, of-place, lowest, ownerOf}
 use Rattle.records.proofs.Listing.{Located, located-record, own-record, larger-record}
 use Rattle.records.proofs.Lead.{lowest-only, itself-place}
-use Rattle.records.proofs.Owners.{before-next, before-rise, in-own, some-pieces, no-pieces-left, divided-low, one-owner, owner-owns}
+use Rattle.resource.proofs.Pieces.{some-pieces, no-pieces-left, divided-low}
+use Rattle.records.proofs.Owners.{before-next, before-rise, in-own, one-owner, owner-owns}
 use Rattle.records.proofs.Shares.{low-share, share-fields, own-fieldsIn, home-piece, home-whole, owner-listed}
 use Rattle.channel.specs.Layout.{row, count, userAt}
 use Rattle.words.specs.Words.{nth, userWord}

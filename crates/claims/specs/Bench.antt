@@ -14,7 +14,7 @@ use Rattle.answer.specs.declared.Out.the-variants.{Pass, Refuse}
 use Rattle.bits.specs.Bits.{bit}
 use Rattle.check4.specs.Check.{check, step, register, sent}
 use Rattle.resource.specs.Names.{nameOf, numberOf}
-use Rattle.resource.specs.Values.{carried, pieces, fieldsOf, ownPieces, smallerAt}
+use Rattle.resource.specs.Values.{carried, pieces, fieldsOf, divides, pieceFields, ownPieces, smallerAt}
 use Rattle.resource.specs.Index.{indexOf, resourceAt}
 use Rattle.plan.specs.Kinds.{kinds, kindAt, family, span, mask, takes, takesBlock, blankAt, mustName}
 use Rattle.plan.specs.Plan.{at, Signals}
@@ -25,7 +25,7 @@ use Rattle.plan.specs.Guess.{kindOf, orElse, tells, choose, onlyPlan, fitting, 
 use Rattle.plan.proofs.Laid.{layout-laid}
 use Rattle.plan.proofs.Demand.{accepted-plan, plan-accepted, only-plan, plan-parts, parts-plan}
 use Rattle.records.specs.declared.Record.{Record}
-use Rattle.records.specs.Records.{divides, pieceFields, lead, resourceColumn, larger, listAt, recordsOf}
+use Rattle.records.specs.Records.{lead, resourceColumn, larger, listAt, recordsOf}
 use Rattle.records.proofs.Listing.{same-records}
 
 -- a resource as 01 names it: its subcarriers, its index, its fields over both channels

@@ -2,7 +2,7 @@
 use mathlib.Core.Bool.{Bool, true, false, cond}
 use Prim.Native.Nat.{ℕ, _+_, _*_, _≤_}
 use native.Mathlib.Omega.{arith}
-use Rattle.records.specs.Records.{divides}
+use Rattle.resource.specs.Values.{divides}
 use Rattle.records.specs.Owns.{number, lowest, ownerAt}
 use Rattle.records.proofs.Lead.{lowest-near}
 use Rattle.records.proofs.Listing.{records-most}

@@ -7,10 +7,10 @@ use Rattle.text.specs.Text.{codes, dec, signed, upto}
 use Rattle.answer.specs.Least.{least}
 use Rattle.plan.specs.Kinds.{kinds, kindAt, family, span, mask, takes, takesBlock, blankAt, mustName}
 use Rattle.plan.specs.Guess.{kindOf, nameOf, orElse, tells, choose, onlyPlan}
-use Rattle.resource.specs.Values.{carried, pieces, fieldsOf, ownPieces}
+use Rattle.resource.specs.Values.{carried, pieces, fieldsOf, divides, pieceFields, ownPieces}
 use Rattle.resource.specs.Index.{indexOf, resourceAt, positionOf, placeOf}
 use Rattle.resource.specs.Runs.{offset106, wide, wideWith26, runsOf}
-use Rattle.records.specs.Records.{divides, pieceFields, lead, listAt}
+use Rattle.records.specs.Records.{lead, listAt}
 use Rattle.records.specs.Owns.{lowest, ownerAt, ownerOf}
 use Rattle.lines.specs.Lines.{nameText, comma, tonesText, ruHead, ruLine, staLine, headText}
 use Rattle.listed.specs.Listing.{resources, ruLines, ownerIn}

@@ -1,16 +1,22 @@
 -- The lines of a row's resources, position by position. Assumes nothing.
-use mathlib.Core.Path.{_≡_, ap, _∙_}
-use mathlib.Core.List.{List, _++_}
-use Prim.Native.Nat.{ℕ, _+_, _≤_}
+use mathlib.Core.Path.{_≡_, refl, ap, _∙_}
+use mathlib.Core.Logic.{_≢_}
+use mathlib.Core.Bool.{Bool, true, false, cond}
+use mathlib.Core.List.{List, [], _∷_, _++_}
+use Prim.Native.Nat.{ℕ, _+_, _%_, _≤_}
 use native.Mathlib.Omega.{arith}
 use native.Mathlib.Numerals.{add-one}
+use borrow.Author.Tests.{ne-eqb}
+use lib.Dec.{eqb}
 use lib.ListN.{length, getD, length-append, List·getD-append}
 use lib.Seq.{getD-append-add}
-use Rattle.text.specs.Laws.{upto-cong, upto-append}
+use Rattle.text.specs.Text.{upto, Wrote}
+use Rattle.text.specs.Laws.{no-item, upto-cong, upto-append}
+use Rattle.plan.specs.Kinds.{span}
 use Rattle.plan.specs.Plan.{at}
 use Rattle.plan.specs.Guess.{onlyPlan}
 use Rattle.records.specs.declared.Record.{Record}
-use Rattle.records.specs.Records.{listAt, recordsFrom, blank}
+use Rattle.records.specs.Records.{lead, largerRecord, listAt, recordsFrom, blank, listed}
 use Rattle.records.proofs.Listing.{records-most}
 use Rattle.listed.specs.Listing.{recordLine, resources, ruLines}
 
@@ -29,3 +35,29 @@ lines-append n xs ys =
 -- one position more
 pub lines-next : (n : ℕ) (o row : ℕ → ℕ) (p : ℕ) → ruLines n (recordsFrom o row (p + 1)) ≡ ruLines n (recordsFrom o row p) ++ ruLines n (listAt (o p) row p)
 lines-next n o row p = rw (add-one p) (lines-append n (recordsFrom o row p) (listAt (o p) row p))
+
+-- ---- a larger resource has a line where it is listed
+listed-or : (t : Bool) (r : Record) → _≡_ {A = ℕ} (cond t 1 0) 0 → cond t (r ∷ []) [] ≡ []
+listed-or true r e = absurd (omega arith)
+listed-or false r e = refl
+
+listed-if : (t : Bool) (r : Record) → (_≡_ {A = ℕ} (cond t 1 0) 0 → ⊥) → cond t (r ∷ []) [] ≡ r ∷ []
+listed-if true r e = refl
+listed-if false r e = absurd (e refl)
+
+module _ (c : ℕ) (row : ℕ → ℕ) (p : ℕ) (n : c ≢ 0) where
+  pub none-listed : listed c p (row p) ≡ 0 → listAt c row p ≡ []
+  unfolding listed listAt
+  none-listed e = rw (ne-eqb c 0 n) (listed-or (eqb (p % span c) (lead c)) (largerRecord c row p) (rw (ne-eqb c 0 n) at e))
+
+  pub one-listed : (listed c p (row p) ≡ 0 → ⊥) → listAt c row p ≡ largerRecord c row p ∷ []
+  unfolding listed listAt
+  one-listed e = rw (ne-eqb c 0 n) (listed-if (eqb (p % span c) (lead c)) (largerRecord c row p) (rw (ne-eqb c 0 n) at e))
+
+pub no-lines : (n : ℕ) (d : List ℕ) (at : ℕ) → Wrote d at (ruLines n []) d at
+unfolding ruLines
+no-lines n d at = no-item _ d at
+
+pub one-line : (n : ℕ) (r : Record) → ruLines n (r ∷ []) ≡ recordLine n r
+unfolding ruLines upto
+one-line n r = refl

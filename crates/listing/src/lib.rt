@@ -7,27 +7,76 @@ use lines::put_refusal;
 use lines::put_ru;
 use lines::put_sta;
 use records::Record;
+use resource::Tones;
+use table::Planned;
 ghost use mathlib.Core.Path.{_≡_};
 ghost use Prim.Native.Nat.{_+_, _*_, _≤_, _<_};
 ghost use lib.ListN.{length, getD};
 ghost use Rattle.text.specs.Text.{Wrote, upto};
 ghost use Rattle.input.specs.Parse.{bytesAt, secondAt};
+ghost use Rattle.resource.specs.Values.{ownPieces};
+ghost use Rattle.resource.specs.Starts.{pieceAt};
+ghost use Rattle.resource.specs.Runs.{runsOf, held};
 ghost use Rattle.plan.specs.Value.{kindsOf};
+ghost use Rattle.records.specs.Records.{pieceRecord, listAt};
 ghost use Rattle.records.specs.Tables.{numbersOf};
+ghost use Rattle.table.specs.Table.{readable};
 ghost use Rattle.listing.specs.Owned.{ownedLine, ownersIn};
+ghost use Rattle.listing.specs.Given.{Given, readablePlan};
 ghost use Rattle.longest.specs.Longest.{longestAt};
 ghost use Rattle.listed.specs.Listing.{recordLine, listedAt, resources, ruLines, staLines, listingOf, listing, listAnswer, listAfter, frameText, programText};
 
 // ---- the listing of an accepted frame
 
-fn put_record(out: &mut [u8], at: usize, n: u16, x: Record) -> usize
-    requires { ⌜ at ≤ 59000 ⌝ }
+fn put_record(out: &mut [u8], at: usize, n: u16, x: Record, tones: Tones) -> usize
+    requires { ⌜ (at ≤ 59000) × (tones ≡ held (runsOf n (x .segment) (x .resource))) ⌝ }
     ensures { λ r. ⌜ Wrote (now (out .entry)) at (recordLine n x) (now (out .exit)) r ⌝ }
     ensures bounded { λ r. ⌜ r ≤ at + 240 ⌝ }
 {
     let users = x.fields1 as u64 + x.fields2 as u64;
     let resource = x.resource;
-    put_ru(out, at, n, x.segment, resource, users)
+    put_ru(out, at, n, x.segment, resource, users, tones)
+}
+
+// The line of the k-th piece of position p, whose value is v, in a channel of n positions.
+fn put_piece(out: &mut [u8], at: usize, n: u16, v: u16, p: usize, k: u16) -> usize
+    requires { ⌜ (at ≤ 59000) × (p < 4096) × (k < length (ownPieces v)) ⌝ }
+    ensures { λ r. ⌜ Wrote (now (out .entry)) at (recordLine n (pieceRecord (λ q. v) p (pieceAt v k))) (now (out .exit)) r ⌝ }
+    ensures bounded { λ r. ⌜ r ≤ at + 240 ⌝ }
+{
+    let x = resource::piece_at(v, k);
+    let tones = resource::piece_tones(n, p as u16, x);
+    put_record(out, at, n, records::piece_record(v, p, x), tones)
+}
+
+// A line for each piece of position p, which is given to itself.
+fn put_pieces(out: &mut [u8], at: usize, n: u16, v: u16, p: usize) -> usize
+    requires { ⌜ (at ≤ 50000) × (p < 4096) ⌝ }
+    ensures { λ r. ⌜ Wrote (now (out .entry)) at (ruLines n (listAt 0 (λ q. v) p)) (now (out .exit)) r ⌝ }
+    ensures bounded { λ r. ⌜ r ≤ at + 240 * length (listAt 0 (λ q. v) p) ⌝ }
+{
+    let here = resource::pieces_of(v);
+    let mut e = at;
+    let mut k: u16 = 0;
+    while k < here {
+        e = put_piece(out, e, n, v, p, k);
+        k += 1;
+    }
+    e
+}
+
+// The line of the larger resource of this kind, where p is its lowest position.
+fn put_larger(out: &mut [u8], at: usize, row: &[u16], kind: u16, p: usize) -> usize
+    requires { ⌜ (at ≤ 50000) × (length (now row) ≤ 16) × (p < length (now row)) × (kind < 7) × (kind ≡ 0 → ⊥) ⌝ }
+    ensures { λ r. ⌜ Wrote (now (out .entry)) at (ruLines (length (now (row .entry))) (listedAt (now (row .entry)) kind p)) (now (out .exit)) r ⌝ }
+    ensures bounded { λ r. ⌜ r ≤ at + 240 * length (listedAt (now (row .entry)) kind p) ⌝ }
+{
+    if records::listed_of(kind, p, row[p]) == 0 {
+        return at;
+    }
+    let n = row.len() as u16;
+    let tones = records::larger_tones(kind, p);
+    put_record(out, at, n, records::larger_record(kind, row, p), tones)
 }
 
 // A line for each of the resources whose lowest position is p, which is given to this kind.
@@ -36,15 +85,10 @@ fn put_position(out: &mut [u8], at: usize, row: &[u16], kind: u16, p: usize) -> 
     ensures { λ r. ⌜ Wrote (now (out .entry)) at (ruLines (length (now (row .entry))) (listedAt (now (row .entry)) kind p)) (now (out .exit)) r ⌝ }
     ensures bounded { λ r. ⌜ r ≤ at + 240 * length (listedAt (now (row .entry)) kind p) ⌝ }
 {
-    let n = row.len() as u16;
-    let here = records::listed_of(kind, p, row[p]);
-    let mut e = at;
-    let mut k: u16 = 0;
-    while k < here {
-        e = put_record(out, e, n, records::record_at(kind, row, p, k));
-        k += 1;
+    if kind == 0 {
+        return put_pieces(out, at, row.len() as u16, row[p], p);
     }
-    e
+    put_larger(out, at, row, kind, p)
 }
 
 // A line for each resource, by the row's table.
@@ -150,27 +194,22 @@ fn put_tabled(
     put_stations(out, p, bw, a, b, row, kinds, before, m, k)
 }
 
-// The same with its row alone.
-fn put_row(out: &mut [u8], bw: u32, a: &[u8], b: &[u8], row: &[u16], m: usize, k: usize) -> usize
-    requires { ⌜ (m ≤ 72) × (k ≤ 72) × (length (now row) ≤ 16) ⌝ }
-    ensures { λ r. ⌜ Wrote (now (out .entry)) 0 (listingOf bw (now (row .entry)) (now (a .entry)) (now (b .entry)) m k) (now (out .exit)) r ⌝ }
-{
-    let plan = plan::plan_of(row);
-    let kinds = plan.kinds;
-    let before = records::numbers_before(&kinds, row);
-    put_tabled(out, bw, a, b, row, &kinds, &before, m, k)
-}
-
-// The listing of a frame.
-fn put_listing(out: &mut [u8], bw: u32, a: &[u8], b: &[u8]) -> usize
-    requires { ⌜ bw ≤ 4 ⌝ }
+// The listing of a frame by its row, the kinds of its plan, and the m and k fields of its channels.
+fn put_listing(
+    out: &mut [u8],
+    bw: u32,
+    a: &[u8],
+    b: &[u8],
+    row: &[u16],
+    kinds: &[u16; 16],
+    m: usize,
+    k: usize,
+) -> usize
+    requires { ⌜ (bw ≤ 4) × Given bw (now a) (now b) (now row) (now kinds) m k ⌝ }
     ensures { λ r. ⌜ Wrote (now (out .entry)) 0 (listing bw (now (a .entry)) (now (b .entry))) (now (out .exit)) r ⌝ }
 {
-    let row = channel::fill_row(bw, a, b);
-    let n = channel::positions_of(bw);
-    let m = channel::count_of(bw, 1, a);
-    let k = channel::count_of(bw, 2, b);
-    put_row(out, bw, a, b, &row[..n], m, k)
+    let before = records::numbers_before(kinds, row);
+    put_tabled(out, bw, a, b, row, kinds, &before, m, k)
 }
 
 // The bytes of a bandwidth's longest listing.
@@ -187,24 +226,30 @@ fn longest_of(bw: u32) -> usize
     }
 }
 
-// Lists a frame: 1 to 11 as the reader, then 23. A refusal writes nothing.
-pub fn list(bandwidth: u32, cc1: &[u8], cc2: &[u8], out: &mut [u8]) -> Answer
-    ensures { λ r. ⌜ r ≡ listAnswer bandwidth (now (cc1 .entry)) (now (cc2 .entry)) (length (now (out .entry))) ⌝ }
-    ensures { λ _. ⌜ now (out .exit) ≡ listAfter bandwidth (now (cc1 .entry)) (now (cc2 .entry)) (now (out .entry)) ⌝ }
+// The listing in the buffer lent, if it is long enough; else 23.
+fn list_given(
+    out: &mut [u8],
+    bw: u32,
+    a: &[u8],
+    b: &[u8],
+    row: &[u16],
+    kinds: &[u16; 16],
+    m: usize,
+    k: usize,
+) -> Answer
+    requires { ⌜ (readable bw (now a) (now b) ≡ Out.Pass) × Given bw (now a) (now b) (now row) (now kinds) m k ⌝ }
+    ensures { λ r. ⌜ r ≡ listAnswer bw (now (a .entry)) (now (b .entry)) (length (now (out .entry))) ⌝ }
+    ensures { λ _. ⌜ now (out .exit) ≡ listAfter bw (now (a .entry)) (now (b .entry)) (now (out .entry)) ⌝ }
 {
-    let checked = table::check_frame(bandwidth, cc1, cc2);
-    if let Out::Refuse(x) = checked {
-        return x;
-    }
-    if longest_of(bandwidth) <= out.len() {
-        let place = put_listing(out, bandwidth, cc1, cc2);
+    if longest_of(bw) <= out.len() {
+        let place = put_listing(out, bw, a, b, row, kinds, m, k);
         return Answer {
             number: 0,
             channel: 0,
             place,
         };
     }
-    let need = put_listing(&mut out[..0], bandwidth, cc1, cc2);
+    let need = put_listing(&mut out[..0], bw, a, b, row, kinds, m, k);
     if out.len() < need {
         return Answer {
             number: 23,
@@ -212,12 +257,63 @@ pub fn list(bandwidth: u32, cc1: &[u8], cc2: &[u8], out: &mut [u8]) -> Answer
             place: need,
         };
     }
-    let place = put_listing(out, bandwidth, cc1, cc2);
+    let place = put_listing(out, bw, a, b, row, kinds, m, k);
     Answer {
         number: 0,
         channel: 0,
         place,
     }
+}
+
+// ---- the two halves of the reading, and the lines of a frame that passes both
+
+// 1 to 11, and the plan of a frame that passes 1 to 8: nothing of it is worked out again.
+fn plan_readable(bw: u32, a: &[u8], b: &[u8]) -> Planned
+    ensures { λ r. ⌜ r ≡ readablePlan bw (now (a .entry)) (now (b .entry)) ⌝ }
+{
+    let plan = table::plan_frame(bw, a, b, false);
+    let planned = plan.out;
+    if let Out::Refuse(_) = planned {
+        return plan;
+    }
+    let m = plan.fields1;
+    let k = plan.fields2;
+    let out = table::then_users(planned, bw, a, b, m, k, false);
+    let row = plan.row;
+    let kinds = plan.kinds;
+    Planned {
+        out,
+        row,
+        kinds,
+        shared: plan.shared,
+        fields1: m,
+        fields2: k,
+    }
+}
+
+// Lists a frame: 1 to 11 as the reader, then 23. A refusal writes nothing.
+pub fn list(bandwidth: u32, cc1: &[u8], cc2: &[u8], out: &mut [u8]) -> Answer
+    ensures { λ r. ⌜ r ≡ listAnswer bandwidth (now (cc1 .entry)) (now (cc2 .entry)) (length (now (out .entry))) ⌝ }
+    ensures { λ _. ⌜ now (out .exit) ≡ listAfter bandwidth (now (cc1 .entry)) (now (cc2 .entry)) (now (out .entry)) ⌝ }
+{
+    let plan = plan_readable(bandwidth, cc1, cc2);
+    let checked = plan.out;
+    if let Out::Refuse(x) = checked {
+        return x;
+    }
+    let row = plan.row;
+    let kinds = plan.kinds;
+    let n = channel::positions_of(bandwidth);
+    list_given(
+        out,
+        bandwidth,
+        cc1,
+        cc2,
+        &row[..n],
+        &kinds,
+        plan.fields1,
+        plan.fields2,
+    )
 }
 
 // ---- the program's text
@@ -226,11 +322,15 @@ pub fn list(bandwidth: u32, cc1: &[u8], cc2: &[u8], out: &mut [u8]) -> Answer
 fn put_outcome(out: &mut [u8], bw: u32, a: &[u8], b: &[u8]) -> usize
     ensures { λ r. ⌜ Wrote (now (out .entry)) 0 (frameText bw (now (a .entry)) (now (b .entry))) (now (out .exit)) r ⌝ }
 {
-    let checked = table::check_frame(bw, a, b);
+    let plan = plan_readable(bw, a, b);
+    let checked = plan.out;
     if let Out::Refuse(x) = checked {
         return put_refusal(out, x.number, x.channel, x.place);
     }
-    put_listing(out, bw, a, b)
+    let row = plan.row;
+    let kinds = plan.kinds;
+    let n = channel::positions_of(bw);
+    put_listing(out, bw, a, b, &row[..n], &kinds, plan.fields1, plan.fields2)
 }
 
 // The same of the three lines of a text, with n and m pairs of hex digits.

@@ -16,13 +16,13 @@ use Rattle.bits.specs.Bits.{bit, field, differs}
 use Rattle.bits.specs.Writes.{Small}
 use Rattle.check4.specs.Check.{step, register, sent, check, right}
 use Rattle.resource.proofs.Test.{both-left, both-right, at-each}
-use Rattle.resource.specs.Values.{carried, pieces, fieldsOf, ownPieces, smallerAt}
+use Rattle.resource.specs.Values.{carried, pieces, fieldsOf, divides, pieceFields, ownPieces, smallerAt}
 use Rattle.channel.specs.Layout.{positions, present, firsts, seconds, firstBits, secondAt, secondBits, hasSecond, common, subfields, subfieldsIn, valueAt, value, rowAt, row, total, count, userAt, blockAt, blocks, covered, endOf}
 use Rattle.faults.specs.Checks.{tooLong, cutCommon, wrongFirst, wrongSecond, wrongCommon, overflowDiffers, foreign, firstForeign, notCarried, cutUsers, wrongBlock, firstWrong, wrongUsersOf, wrongUsers}
 use Rattle.text.specs.Text.{dec, signed, upto}
 use Rattle.resource.specs.Index.{indexOf, resourceAt, positionOf, placeOf}
 use Rattle.resource.specs.Runs.{offset26, offset52, offset106, wide, narrow, narrow26, narrow52, narrow106, runsOf}
-use Rattle.records.specs.Records.{divides, pieceFields, lead, listAt}
+use Rattle.records.specs.Records.{lead, listAt}
 use Rattle.records.specs.Owns.{lowest, ownerAt, ownerOf}
 use Rattle.lines.specs.Lines.{nameText, comma, tonesText, ruHead, ruLine, staLine, headText}
 use Rattle.listed.specs.Listing.{ruLines, ownerIn, staLineAt, staLines, listingOf, listing}

@@ -25,7 +25,7 @@ use Rattle.resource.specs.Names.{numberOf}
 use Rattle.resource.specs.declared.Piece.the-variants.{Part}
 use Rattle.resource.specs.Index.{indexOf, resourceAt, positionOf, placeOf}
 use Rattle.resource.specs.Runs.{spanOf, noRun, offset26, offset52, offset106, wide, wideWith26, narrow, narrow26, narrow52, narrow106, narrowWith26, runsOf}
-use Rattle.resource.specs.Values.{within, carried, pieces, fieldsOf, ownPieces}
+use Rattle.resource.specs.Values.{within, carried, pieces, fieldsOf, divides, pieceFields, ownPieces}
 use Rattle.resource.proofs.Held.{runs-few}
 use Rattle.resource.proofs.Test.{both-left, both-right, wherever, met, below, every-below}
 use Rattle.resource.proofs.Fields.{fields-most}
@@ -36,11 +36,12 @@ use Rattle.plan.specs.Kinds.{span}
 use Rattle.plan.specs.Plan.{at, Signals}
 use Rattle.plan.specs.Guess.{onlyPlan}
 use Rattle.records.specs.declared.Record.{Record}
-use Rattle.records.specs.Records.{inChannel, divides, pieceFields, pieceRecord, lead, listAt, recordsFrom, listed, blank}
+use Rattle.records.specs.Records.{inChannel, pieceRecord, lead, listAt, recordsFrom, listed, blank}
 use Rattle.records.specs.Owns.{fieldsBefore, number, ownerAt, ownerOf}
 use Rattle.records.proofs.Sums.{sumTo, sum-cong}
 use Rattle.records.proofs.Listing.{own-list, list-length, records-most}
-use Rattle.records.proofs.Owners.{found-left, in-most, divided-itself, divided-low, none-left}
+use Rattle.resource.proofs.Pieces.{divided-low, none-left}
+use Rattle.records.proofs.Owners.{found-left, in-most, divided-itself}
 use Rattle.input.specs.declared.Parsed.{Parsed}
 use Rattle.input.specs.declared.Parsed.the-variants.{Wrong, Lines}
 use Rattle.input.specs.Parse.{parsed, bytesAt, secondAt}

@@ -2,13 +2,9 @@
 use mathlib.Core.Path.{_≡_, sym, _∙_}
 use Rattle.table.proofs.plan_frame.Reads as plan-frame
 use Rattle.table.proofs.then_users.Reads as then-users
-use Rattle.table.proofs.check_frame.Reads as check-frame
 
 pub plan-frame-agrees : (κs : _) (a : _) (r r' : _) (s s' : _) → plan-frame.Post κs a r s → plan-frame.Post κs a r' s' → r ≡ r'
 plan-frame-agrees κs a r r' s s' p q = p ∙ sym q
 
 pub then-users-agrees : (κs : _) (a : _) (r r' : _) (s s' : _) → then-users.Post κs a r s → then-users.Post κs a r' s' → r ≡ r'
 then-users-agrees κs a r r' s s' p q = p ∙ sym q
-
-pub check-frame-agrees : (κs : _) (a : _) (r r' : _) (s s' : _) → check-frame.Post κs a r s → check-frame.Post κs a r' s' → r ≡ r'
-check-frame-agrees κs a r r' s s' p q = p ∙ sym q

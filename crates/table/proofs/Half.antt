@@ -13,7 +13,7 @@ use Rattle.plan.specs.declared.Plan.{Plan}
 use Rattle.plan.specs.Plan.{at}
 use Rattle.plan.specs.Fields as F
 use Rattle.plan.specs.Guess.{onlyPlan, layoutOf}
-use Rattle.plan.specs.Value.{planOf, fieldsTo}
+use Rattle.plan.specs.Value.{kindsOf, planOf, fieldsTo}
 use Rattle.plan.proofs.Value.{shared-bit}
 use Rattle.channel.specs.Layout.{positions, row, rowIn16, count}
 use Rattle.channel.specs.Laws.{row-length, count-le}
@@ -28,6 +28,7 @@ pub record Made (bw : ℕ) (a b : List ℕ) (p : Planned) : Type 0 where
   pub common : commonChecks bw a b ≡ Pass
   pub laid : layoutOf (row bw a b) ≡ Pass
   pub the-row : p .row ≡ rowIn16 bw a b
+  pub the-kinds : p .kinds ≡ kindsOf (row bw a b)
   pub count1 : p .fields1 ≡ count bw 1 a
   pub count2 : p .fields2 ≡ count bw 2 b
   pub most1 : p .fields1 ≤ 72
@@ -79,6 +80,7 @@ module _ (bw : ℕ) (a b : List ℕ) where
         common = c;
         laid = d;
         the-row = refl;
+        the-kinds = refl;
         count1 = n;
         count2 = k;
         most1 = rw n (count-le bw 1 a);

@@ -5,7 +5,7 @@ ghost use mathlib.Core.Bool.{true};
 ghost use Prim.Native.Nat.{_≤_};
 ghost use Rattle.answer.specs.Answer.{_or_};
 ghost use Rattle.channel.specs.Layout.{row, count};
-ghost use Rattle.table.specs.Table.{check1, check2, check3, check4, check5, check6, check10, check11, readable};
+ghost use Rattle.table.specs.Table.{check1, check2, check3, check4, check5, check6, check10, check11};
 ghost use Rattle.table.specs.Stages.{Short, Sealed, firstFive, userChecks};
 ghost use Rattle.table.specs.Half.{allCarried, noPlan, plannedOf};
 
@@ -184,16 +184,4 @@ pub fn then_users(prev: Out, bw: u32, a: &[u8], b: &[u8], n: usize, m: usize, se
     );
     let r = then_wrong_users(r, bw, a, b, n, m, sealed);
     then_twice(r, bw, a, b, n, m)
-}
-
-// 1 to 11, the two halves: what a frame is refused for, whatever the room.
-pub fn check_frame(bw: u32, a: &[u8], b: &[u8]) -> Out
-    ensures { λ r. ⌜ r ≡ readable bw (now (a .entry)) (now (b .entry)) ⌝ }
-{
-    let planned = plan_frame(bw, a, b, false);
-    let out = planned.out;
-    if let Out::Refuse(_) = out {
-        return out;
-    }
-    then_users(out, bw, a, b, planned.fields1, planned.fields2, false)
 }

@@ -19,6 +19,7 @@ ghost use mathlib.Core.Path.{_≡_};
 ghost use Prim.Native.Nat.{_≤_, _<_};
 ghost use lib.ListN.{length};
 ghost use Rattle.plan.specs.Value.{kindsOf};
+ghost use Rattle.resource.specs.Values.{ownPieces};
 
 // Whether a line's words are a row of 1, 2, 4, 8 or 16 values.
 pub fn is_row(line: &[u8]) -> bool {
@@ -106,14 +107,10 @@ fn print_tones(t: Tones, n: u16)
     }
 }
 
-// A resource of segment g, in a channel of n positions: its subcarriers.
-fn print_subcarriers(n: u16, g: u16, r: Resource) {
-    text(b" ");
-    let t = resource::tones_of(n, g, r);
-    print_tones(t, n);
-}
-
-fn print_record(x: Record, n: u16) {
+// A resource, and its subcarriers in a channel of n positions.
+fn print_record(x: Record, t: Tones, n: u16)
+    requires { ⌜ (t .count ≤ 3) × (length (t .runs) ≡ 3) ⌝ }
+{
     let resource = x.resource;
     text(b" | ");
     print_resource(resource);
@@ -121,20 +118,51 @@ fn print_record(x: Record, n: u16) {
     next(x.position as u64);
     next(x.fields1 as u64);
     next(x.fields2 as u64);
-    print_subcarriers(n, x.segment, resource);
+    text(b" ");
+    print_tones(t, n);
+}
+
+// The k-th piece of position p, whose value is v.
+fn print_piece(n: u16, v: u16, p: usize, k: u16)
+    requires { ⌜ (p < 16) × (k < length (ownPieces v)) ⌝ }
+{
+    let x = resource::piece_at(v, k);
+    let t = resource::piece_tones(n, p as u16, x);
+    print_record(records::piece_record(v, p, x), t, n);
+}
+
+// The pieces of position p, which is given to itself.
+fn print_pieces(n: u16, v: u16, p: usize)
+    requires { ⌜ p < 16 ⌝ }
+{
+    let here = resource::pieces_of(v);
+    let mut k: u16 = 0;
+    while k < here {
+        print_piece(n, v, p, k);
+        k += 1;
+    }
+}
+
+// The larger resource of this kind, where p is its lowest position.
+fn print_larger(row: &[u16], kind: u16, p: usize)
+    requires { ⌜ (length (now row) ≤ 16) × (p < length (now row)) × (kind < 7) ⌝ }
+{
+    if records::listed_of(kind, p, row[p]) == 0 {
+        return;
+    }
+    let t = records::larger_tones(kind, p);
+    print_record(records::larger_record(kind, row, p), t, row.len() as u16);
 }
 
 // The resources whose lowest position is p, which is given to this kind.
 fn print_position(row: &[u16], kind: u16, p: usize)
     requires { ⌜ (length (now row) ≤ 16) × (p < length (now row)) × (kind < 7) ⌝ }
 {
-    let n = row.len() as u16;
-    let here = records::listed_of(kind, p, row[p]);
-    let mut k: u16 = 0;
-    while k < here {
-        print_record(records::record_at(kind, row, p, k), n);
-        k += 1;
+    if kind == 0 {
+        print_pieces(row.len() as u16, row[p], p);
+        return;
     }
+    print_larger(row, kind, p);
 }
 
 // The resources of a row, by the kinds of its plan.

@@ -1,39 +1,27 @@
 -- `listing::put_listing` meets its contract. Assumes nothing.
-use native.Mathlib.Omega.{arith}
-use mathlib.Core.Path.{sym, _∙_}
-use Rattle.channel.specs.Laws.{row-length}
-use Rattle.table.proofs.Rows.{front}
+use Rattle.channel.specs.Laws.{count-le}
+use Rattle.listing.proofs.Halves.{row-few}
 use Rattle.listed.specs.Listing.{listing}
 use borrow.Author.Needs.{needs}
 use Rattle.listing.proofs.put_listing.Statement.{statement}
 use Rattle.listing.proofs.put_listing.Tie as tie
 
-fill-row-requires : tie.Need-fill-row-requires
-fill-row-requires c κs = search needs
+numbers-before-requires : tie.Need-numbers-before-requires
+numbers-before-requires c κs =
+    let s = c .before .before .before .before in
+    (row-few (s .pre .0) (s .pre .1), s .pre .1 .the-kinds)
 
-positions-of-requires : tie.Need-positions-of-requires
-positions-of-requires c κs = search needs
-
-count-of-requires : tie.Need-count-of-requires
-count-of-requires c κs = search needs
-
-count-of-requires-2 : tie.Need-count-of-requires-2
-count-of-requires-2 c κs = search needs
-
-array-share-prefix-row : tie.Need-array-share-prefix-row
-array-share-prefix-row c = search needs
-
-slice-aggregate-put-row : tie.Need-slice-aggregate-put-row
-slice-aggregate-put-row c =
-    let s = c .before .before .before .before .before .before .before .before .before .args in
-    rw (front (s .bw) (s .a .now) (s .b .now) _ _ (c .before .before .before .before .positions-of .ensures .0) (c .before .before .before .before .before .fill-row .ensures)) (c .before .before .before .before .positions-of .ensures .0 ∙ sym (row-length (s .bw) (s .a .now) (s .b .now)))
-
-put-row-requires : tie.Need-put-row-requires
-put-row-requires c κs =
-    let s = c .before .before .before .before .before .before .before .before .before .args in
-    let e = front (s .bw) (s .a .now) (s .b .now) _ _ (c .before .before .before .before .positions-of .ensures .0) (c .before .before .before .before .before .fill-row .ensures) in
-    let l = row-length (s .bw) (s .a .now) (s .b .now) in
-    (omega arith, omega arith, rw e (omega (arith, c .before .before .before .before .positions-of .ensures .0, c .before .before .before .before .positions-of .ensures .1)))
+put-tabled-requires : tie.Need-put-tabled-requires
+put-tabled-requires c κs =
+    let s = c .before .before .before .before .before .before .before in
+    let a = s .args in
+    let g = s .pre .1 in (
+      rw (g .count1) (count-le (a .bw) 1 (a .a .now)),
+      rw (g .count2) (count-le (a .bw) 2 (a .b .now)),
+      row-few (s .pre .0) g,
+      g .the-kinds,
+      c .before .before .numbers-before .ensures,
+    )
 
 same-length : tie.Need-same-length
 same-length c = search needs
@@ -41,20 +29,9 @@ same-length c = search needs
 returns : tie.Need-returns
 unfolding listing
 returns c =
-    let s = c .before .before .before .before .before .before .before .before .before .before .before .before .args in
-    let e = front (s .bw) (s .a .now) (s .b .now) _ _ (c .before .before .before .before .before .before .before .positions-of .ensures .0) (c .before .before .before .before .before .before .before .before .fill-row .ensures) in
-    rw (← e, ← (c .before .before .before .before .before .before .count-of .ensures .0), ← (c .before .before .before .before .before .count-of2 .ensures .0)) (c .before .before .put-row .ensures)
+    let g = c .before .before .before .before .before .before .before .before .before .before .pre .1 in
+    rw (← g .the-row, ← g .count1, ← g .count2) (c .before .before .put-tabled .ensures)
 
 pub put-listing-spec : {M : Type 1} → statement M
 put-listing-spec =
-    tie.close
-    (tie.spec
-    fill-row-requires
-    positions-of-requires
-    count-of-requires
-    count-of-requires-2
-    array-share-prefix-row
-    slice-aggregate-put-row
-    put-row-requires
-    same-length
-    returns)
+    tie.close (tie.spec numbers-before-requires put-tabled-requires same-length returns)

@@ -1,0 +1,66 @@
+-- The listing from the two halves of a reading. Assumes nothing.
+use mathlib.Core.Path.{_≡_, sym, _∙_, ap}
+use mathlib.Core.List.{List}
+use Prim.Native.Nat.{ℕ, _≤_}
+use native.Mathlib.Omega.{arith}
+use lib.ListN.{length, take}
+use Rattle.answer.specs.Answer.{_or_}
+use Rattle.answer.specs.Order.{pass-left, or-next}
+use Rattle.answer.specs.declared.Answer.{Answer}
+use Rattle.answer.specs.declared.Out.{Out}
+use Rattle.answer.specs.declared.Out.the-variants.{Pass, Refuse}
+use Rattle.plan.specs.Value.{kindsOf}
+use Rattle.channel.specs.Layout.{positions}
+use Rattle.channel.specs.Laws.{positions-le, row-length}
+use Rattle.table.specs.declared.Planned.{Planned}
+use Rattle.table.specs.Table.{readable}
+use Rattle.table.specs.Half.{plannedOf}
+use Rattle.table.specs.Stages.{userChecks, readable-stages}
+use Rattle.table.proofs.Half.{Made, out-is, planned-out, planned-pass, planned-refuse, planned-rest}
+use Rattle.table.proofs.Rows.{front, sixteen}
+use Rattle.listed.proofs.Accepted.{known-code}
+use Rattle.listing.specs.Given.{withOut, readablePlan, Given}
+
+module _ (bw : ℕ) (a b : List ℕ) (p : Planned) where
+  -- refused by the first
+  pub stopped : (x : Answer) → p ≡ plannedOf bw a b → p .out ≡ Refuse x → p ≡ readablePlan bw a b
+  unfolding readablePlan
+  stopped x e f =
+      let g : p .out ≡ readable bw a b = f ∙ sym (planned-refuse bw a b x (out-is e f)) in
+      ap (withOut (p .out)) e ∙ ap (λ (o : Out). withOut o (plannedOf bw a b)) g
+
+  -- the second's outcome o, where the first passes
+  pub both : (o : Out) → p ≡ plannedOf bw a b → p .out ≡ Pass → o ≡ (p .out or userChecks bw a b) → withOut o p ≡ readablePlan bw a b
+  unfolding readablePlan
+  both o e f h =
+      let g : o ≡ readable bw a b = h ∙ or-next _ _ f ∙ sym (planned-rest bw a b (out-is e f)) in
+      ap (withOut o) e ∙ ap (λ (o : Out). withOut o (plannedOf bw a b)) g
+
+  module _ (e : p ≡ readablePlan bw a b) where
+    pub outcome : (o : Out) → p .out ≡ o → readable bw a b ≡ o
+    unfolding readablePlan
+    outcome o f = sym (ap (λ (p : Planned). p .out) e) ∙ f
+
+    module _ (f : p .out ≡ Pass) where
+      made : Made bw a b (plannedOf bw a b)
+      made = planned-pass bw a b (planned-out bw a b ∙ pass-left _ (userChecks bw a b) (sym (readable-stages bw a b) ∙ outcome Pass f))
+
+      pub row-16 : length (p .row) ≡ 16
+      unfolding readablePlan
+      row-16 = ap (λ (p : Planned). length (p .row)) e ∙ ap length (made .the-row) ∙ sixteen bw a b (known-code bw a b (outcome Pass f))
+
+      -- the front of its row, its kinds and its counts are what the lines are made of
+      pub given : (n : ℕ) → n ≡ positions bw → Given bw a b (take n (p .row)) (p .kinds) (p .fields1) (p .fields2)
+      unfolding readablePlan
+      given n g =
+          let r = front bw a b n (p .row) g (ap (λ (p : Planned). p .row) e ∙ made .the-row) in
+          record {
+            the-row = r;
+            the-kinds = ap (λ (p : Planned). p .kinds) e ∙ made .the-kinds ∙ sym (ap kindsOf r);
+            count1 = ap (λ (p : Planned). p .fields1) e ∙ made .count1;
+            count2 = ap (λ (p : Planned). p .fields2) e ∙ made .count2;
+          }
+
+-- a row that is given has at most sixteen positions
+pub row-few : {bw : ℕ} {a b r c : List ℕ} {m k : ℕ} → bw ≤ 4 → Given bw a b r c m k → length r ≤ 16
+row-few {bw} {a} {b} l g = rw (g .the-row) (omega (arith, row-length bw a b, positions-le bw l))
