@@ -212,8 +212,9 @@ fn print_row(row: &[u16])
     requires { ⌜ length (now row) ≤ 16 ⌝ }
 {
     let plan = plan::plan_of(row);
+    let out = plan.out;
     let kinds = plan.kinds;
-    if let Out::Refuse(x) = plan.out {
+    if let Out::Refuse(x) = out {
         print_answer(x);
         return;
     }

@@ -18,8 +18,7 @@ loop-holds : tie.Need-loop-holds Inv-loop μ-loop
 loop-holds c = search needs
 
 print-piece-requires : tie.Need-print-piece-requires Inv-loop μ-loop
-print-piece-requires c κs =
-    (search needs, omega (arith, c .before .before .pieces-of .ensures))
+print-piece-requires c κs = (search needs, omega (arith, c .before .before .pieces-of .ensures))
 
 add-k : tie.Need-add-k Inv-loop μ-loop
 add-k c = search needs

@@ -1,0 +1,42 @@
+-- `vectors::rows::print_row` is safe: the kinds that are printed are those of the row's plan. Assumes nothing.
+use mathlib.Core.Path.{ap}
+use Rattle.plan.specs.declared.Plan.{Plan}
+use Rattle.plan.specs.Value.{planOf}
+use borrow.Author.Needs.{needs}
+use Rattle.vectors.proofs.rows.print_row.Statement.{statement}
+use Rattle.vectors.proofs.rows.print_row.Tie as tie
+
+plan-of-requires : tie.Need-plan-of-requires
+plan-of-requires c κs = search needs
+
+enum-known-out : tie.Need-enum-known-out
+enum-known-out c = search needs
+
+answer-requires : tie.Need-answer-requires
+answer-requires c κs = search needs
+
+returns : tie.Need-returns
+returns c = search needs
+
+enum-told : tie.Need-enum-told
+enum-told c = search needs
+
+print-plan-requires : tie.Need-print-plan-requires
+unfolding planOf
+print-plan-requires c κs =
+    (c .before .before .before .before .before .before .pre, ap (λ (p : Plan). p .kinds) (c .before .before .before .before .plan-of .ensures .0))
+
+returns-2 : tie.Need-returns-2
+returns-2 c = search needs
+
+pub print-row-spec : {M : Type 1} → statement M
+print-row-spec =
+    tie.close
+    (tie.spec
+    plan-of-requires
+    enum-known-out
+    answer-requires
+    returns
+    enum-told
+    print-plan-requires
+    returns-2)
