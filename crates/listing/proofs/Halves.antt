@@ -36,30 +36,38 @@ module _ (bw : ℕ) (a b : List ℕ) (p : Planned) where
       let g : o ≡ readable bw a b = h ∙ or-next _ _ f ∙ sym (planned-rest bw a b (out-is e f)) in
       ap (withOut o) e ∙ ap (λ (o : Out). withOut o (plannedOf bw a b)) g
 
-  module _ (e : p ≡ readablePlan bw a b) where
-    pub outcome : (o : Out) → p .out ≡ o → readable bw a b ≡ o
+-- ---- the plan that both have told
+module _ (bw : ℕ) (a b : List ℕ) {p : Planned} (e : p ≡ readablePlan bw a b) where
+  pub outcome : {o : Out} → p .out ≡ o → readable bw a b ≡ o
+  unfolding readablePlan
+  outcome f = sym (ap (λ (p : Planned). p .out) e) ∙ f
+
+  -- of a frame that passes 1 to 11
+  module _ (f : p .out ≡ Pass) where
+    pub code : bw ≤ 4
+    code = known-code bw a b (outcome f)
+
+    made : Made bw a b (plannedOf bw a b)
+    made = planned-pass bw a b (planned-out bw a b ∙ pass-left _ (userChecks bw a b) (sym (readable-stages bw a b) ∙ outcome f))
+
+    pub row-16 : length (p .row) ≡ 16
     unfolding readablePlan
-    outcome o f = sym (ap (λ (p : Planned). p .out) e) ∙ f
+    row-16 = ap (λ (p : Planned). length (p .row)) e ∙ ap length (made .the-row) ∙ sixteen bw a b code
 
-    module _ (f : p .out ≡ Pass) where
-      made : Made bw a b (plannedOf bw a b)
-      made = planned-pass bw a b (planned-out bw a b ∙ pass-left _ (userChecks bw a b) (sym (readable-stages bw a b) ∙ outcome Pass f))
+    -- the front of its row, its kinds and its counts are what the lines are made of
+    pub given : {n : ℕ} → n ≡ positions bw → Given bw a b (take n (p .row)) (p .kinds) (p .fields1) (p .fields2)
+    unfolding readablePlan
+    given {n} g =
+        let r = front bw a b n (p .row) g (ap (λ (p : Planned). p .row) e ∙ made .the-row) in
+        record {
+          the-row = r;
+          the-kinds = ap (λ (p : Planned). p .kinds) e ∙ made .the-kinds ∙ sym (ap kindsOf r);
+          count1 = ap (λ (p : Planned). p .fields1) e ∙ made .count1;
+          count2 = ap (λ (p : Planned). p .fields2) e ∙ made .count2;
+        }
 
-      pub row-16 : length (p .row) ≡ 16
-      unfolding readablePlan
-      row-16 = ap (λ (p : Planned). length (p .row)) e ∙ ap length (made .the-row) ∙ sixteen bw a b (known-code bw a b (outcome Pass f))
-
-      -- the front of its row, its kinds and its counts are what the lines are made of
-      pub given : (n : ℕ) → n ≡ positions bw → Given bw a b (take n (p .row)) (p .kinds) (p .fields1) (p .fields2)
-      unfolding readablePlan
-      given n g =
-          let r = front bw a b n (p .row) g (ap (λ (p : Planned). p .row) e ∙ made .the-row) in
-          record {
-            the-row = r;
-            the-kinds = ap (λ (p : Planned). p .kinds) e ∙ made .the-kinds ∙ sym (ap kindsOf r);
-            count1 = ap (λ (p : Planned). p .fields1) e ∙ made .count1;
-            count2 = ap (λ (p : Planned). p .fields2) e ∙ made .count2;
-          }
+    pub given-front : {n : ℕ} → n ≡ positions bw → n ≡ length (take n (p .row))
+    given-front g = rw (given g .the-row) (g ∙ sym (row-length bw a b))
 
 -- a row that is given has at most sixteen positions
 pub row-few : {bw : ℕ} {a b r c : List ℕ} {m k : ℕ} → bw ≤ 4 → Given bw a b r c m k → length r ≤ 16

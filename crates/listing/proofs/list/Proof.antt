@@ -1,9 +1,6 @@
 -- `listing::list` meets its contract. Assumes nothing.
 use native.Mathlib.Omega.{arith}
-use mathlib.Core.Path.{sym, _∙_}
-use Rattle.channel.specs.Laws.{row-length}
-use Rattle.listed.proofs.Accepted.{known-code}
-use Rattle.listing.proofs.Halves.{outcome, row-16, given}
+use Rattle.listing.proofs.Halves.{outcome, code, row-16, given, given-front}
 use Rattle.listing.proofs.Outcome.{refused-by}
 use borrow.Author.Needs.{needs}
 use Rattle.listing.proofs.list.Statement.{statement}
@@ -18,31 +15,30 @@ enum-known-checked c = search needs
 returns : tie.Need-returns
 returns c =
     let s = c .before .before .before .before .before .before .before .args in
-    refused-by (s .bandwidth) (s .cc1 .now) (s .cc2 .now) (s .out .now) _ (outcome (s .bandwidth) (s .cc1 .now) (s .cc2 .now) _ (c .before .before .before .plan-readable .ensures) _ (c .before .checked .given .1))
+    refused-by (s .bandwidth) (s .cc1 .now) (s .cc2 .now) (s .out .now) _
+    (outcome _ _ _ (c .before .before .before .plan-readable .ensures) (c .before .checked .given .1))
 
 enum-told : tie.Need-enum-told
 enum-told c = search needs
 
 positions-of-requires : tie.Need-positions-of-requires
-positions-of-requires c κs =
-    let s = c .before .before .before .before .before .before .before .before .args in
-    known-code (s .bandwidth) (s .cc1 .now) (s .cc2 .now) (outcome (s .bandwidth) (s .cc1 .now) (s .cc2 .now) _ (c .before .before .before .before .plan-readable .ensures) _ (c .before .before .enum-told .given .1))
+positions-of-requires c κs = code _ _ _ (c .before .before .before .before .plan-readable .ensures) (c .before .before .enum-told .given .1)
 
 array-share-prefix-row : tie.Need-array-share-prefix-row
 array-share-prefix-row c =
-    let s = c .before .before .before .before .before .before .before .before .before .before .args in
-    let l = row-16 (s .bandwidth) (s .cc1 .now) (s .cc2 .now) _ (c .before .before .before .before .before .before .plan-readable .ensures) (c .before .before .before .before .enum-told .given .1) in
+    let l = row-16 _ _ _ (c .before .before .before .before .before .before .plan-readable .ensures) (c .before .before .before .before .enum-told .given .1) in
     omega (arith, l, c .before .positions-of .ensures .1)
 
 slice-aggregate-list-given : tie.Need-slice-aggregate-list-given
 slice-aggregate-list-given c =
-    let s = c .before .before .before .before .before .before .before .before .before .before .before .args in
-    rw ((given (s .bandwidth) (s .cc1 .now) (s .cc2 .now) _ (c .before .before .before .before .before .before .before .plan-readable .ensures) (c .before .before .before .before .before .enum-told .given .1) _ (c .before .before .positions-of .ensures .0)) .the-row) (c .before .before .positions-of .ensures .0 ∙ sym (row-length (s .bandwidth) (s .cc1 .now) (s .cc2 .now)))
+    let e = c .before .before .before .before .before .before .before .plan-readable .ensures in
+    given-front _ _ _ e (c .before .before .before .before .before .enum-told .given .1) (c .before .before .positions-of .ensures .0)
 
 list-given-requires : tie.Need-list-given-requires
 list-given-requires c κs =
-    let s = c .before .before .before .before .before .before .before .before .before .before .before .before .args in
-    (outcome (s .bandwidth) (s .cc1 .now) (s .cc2 .now) _ (c .before .before .before .before .before .before .before .before .plan-readable .ensures) _ (c .before .before .before .before .before .before .enum-told .given .1), given (s .bandwidth) (s .cc1 .now) (s .cc2 .now) _ (c .before .before .before .before .before .before .before .before .plan-readable .ensures) (c .before .before .before .before .before .before .enum-told .given .1) _ (c .before .before .before .positions-of .ensures .0))
+    let e = c .before .before .before .before .before .before .before .before .plan-readable .ensures in
+    let f = c .before .before .before .before .before .before .enum-told .given .1 in
+    (outcome _ _ _ e f, given _ _ _ e f (c .before .before .before .positions-of .ensures .0))
 
 same-length : tie.Need-same-length
 same-length c = search needs

@@ -27,7 +27,8 @@ returns c =
     let t = c .before .before .before .before .before .before .before .before .before .before in
     let s = t .args in
     let w = c .before .before .put-listing .ensures in
-    at-once (s .bw) (s .a .now) (s .b .now) (s .out .now) (t .pre .0) w (omega (arith, count w, listing-within (s .bw) (s .a .now) (s .b .now) (t .pre .0), c .before .before .before .before .before .longest-of .ensures))
+    let l = listing-within (s .bw) (s .a .now) (s .b .now) (t .pre .0) in
+    at-once (s .bw) (s .a .now) (s .b .now) (s .out .now) (t .pre .0) w (omega (arith, count w, l, c .before .before .before .before .before .longest-of .ensures))
 
 slice-relend-prefix-put-listing : tie.Need-slice-relend-prefix-put-listing
 slice-relend-prefix-put-listing c = search needs
@@ -61,7 +62,8 @@ returns-3 : tie.Need-returns-3
 returns-3 c =
     let t = c .before .before .before .before .before .before .before .before .before .before .before .before .before .before .before in
     let s = t .args in
-    listed (s .bw) (s .a .now) (s .b .now) (s .out .now) (t .pre .0) (c .before .before .before .before .before .before .before .put-listing2 .ensures) (c .before .before .before .before .if2 .left) (c .before .before .put-listing3 .ensures)
+    let w = c .before .before .before .before .before .before .before .put-listing2 .ensures in
+    listed (s .bw) (s .a .now) (s .b .now) (s .out .now) (t .pre .0) w (c .before .before .before .before .if2 .left) (c .before .before .put-listing3 .ensures)
 
 pub list-given-spec : {M : Type 1} → statement M
 list-given-spec =

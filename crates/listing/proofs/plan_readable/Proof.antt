@@ -30,7 +30,8 @@ then-users-requires c κs =
 returns-2 : tie.Need-returns-2
 returns-2 c =
     let s = c .before .before .before .before .before .before .before .before .args in
-    both (s .bw) (s .a .now) (s .b .now) _ _ (c .before .before .before .before .before .plan-frame .ensures) (c .before .before .before .enum-told2 .given .1) (c .before .before .then-users .ensures)
+    let e = c .before .before .before .before .before .plan-frame .ensures in
+    both (s .bw) (s .a .now) (s .b .now) _ _ e (c .before .before .before .enum-told2 .given .1) (c .before .before .then-users .ensures)
 
 pub plan-readable-spec : {M : Type 1} → statement M
 plan-readable-spec =

@@ -1,9 +1,6 @@
 -- `listing::put_outcome` meets its contract. Assumes nothing.
 use native.Mathlib.Omega.{arith}
-use mathlib.Core.Path.{sym, _∙_}
-use Rattle.channel.specs.Laws.{row-length}
-use Rattle.listed.proofs.Accepted.{known-code}
-use Rattle.listing.proofs.Halves.{outcome, row-16, given}
+use Rattle.listing.proofs.Halves.{outcome, code, row-16, given, given-front}
 use Rattle.listed.specs.Listing.{frameText}
 use borrow.Author.Needs.{needs}
 use Rattle.listing.proofs.put_outcome.Statement.{statement}
@@ -24,32 +21,30 @@ same-length c = search needs
 returns : tie.Need-returns
 unfolding frameText
 returns c =
-    let s = c .before .before .before .before .before .before .before .before .before .before .before .args in
-    rw (outcome (s .bw) (s .a .now) (s .b .now) _ (c .before .before .before .before .before .before .before .plan-readable .ensures) _ (c .before .before .before .before .before .checked .given .1)) (c .before .before .put-refusal .ensures .0)
+    rw (outcome _ _ _ (c .before .before .before .before .before .before .before .plan-readable .ensures) (c .before .before .before .before .before .checked .given .1))
+    (c .before .before .put-refusal .ensures .0)
 
 enum-told : tie.Need-enum-told
 enum-told c = search needs
 
 positions-of-requires : tie.Need-positions-of-requires
-positions-of-requires c κs =
-    let s = c .before .before .before .before .before .before .before .before .args in
-    known-code (s .bw) (s .a .now) (s .b .now) (outcome (s .bw) (s .a .now) (s .b .now) _ (c .before .before .before .before .plan-readable .ensures) _ (c .before .before .enum-told .given .1))
+positions-of-requires c κs = code _ _ _ (c .before .before .before .before .plan-readable .ensures) (c .before .before .enum-told .given .1)
 
 array-share-prefix-row : tie.Need-array-share-prefix-row
 array-share-prefix-row c =
-    let s = c .before .before .before .before .before .before .before .before .before .before .args in
-    let l = row-16 (s .bw) (s .a .now) (s .b .now) _ (c .before .before .before .before .before .before .plan-readable .ensures) (c .before .before .before .before .enum-told .given .1) in
+    let l = row-16 _ _ _ (c .before .before .before .before .before .before .plan-readable .ensures) (c .before .before .before .before .enum-told .given .1) in
     omega (arith, l, c .before .positions-of .ensures .1)
 
 slice-aggregate-put-listing : tie.Need-slice-aggregate-put-listing
 slice-aggregate-put-listing c =
-    let s = c .before .before .before .before .before .before .before .before .before .before .before .args in
-    rw ((given (s .bw) (s .a .now) (s .b .now) _ (c .before .before .before .before .before .before .before .plan-readable .ensures) (c .before .before .before .before .before .enum-told .given .1) _ (c .before .before .positions-of .ensures .0)) .the-row) (c .before .before .positions-of .ensures .0 ∙ sym (row-length (s .bw) (s .a .now) (s .b .now)))
+    let e = c .before .before .before .before .before .before .before .plan-readable .ensures in
+    given-front _ _ _ e (c .before .before .before .before .before .enum-told .given .1) (c .before .before .positions-of .ensures .0)
 
 put-listing-requires : tie.Need-put-listing-requires
 put-listing-requires c κs =
-    let s = c .before .before .before .before .before .before .before .before .before .before .before .before .args in
-    (known-code (s .bw) (s .a .now) (s .b .now) (outcome (s .bw) (s .a .now) (s .b .now) _ (c .before .before .before .before .before .before .before .before .plan-readable .ensures) _ (c .before .before .before .before .before .before .enum-told .given .1)), given (s .bw) (s .a .now) (s .b .now) _ (c .before .before .before .before .before .before .before .before .plan-readable .ensures) (c .before .before .before .before .before .before .enum-told .given .1) _ (c .before .before .before .positions-of .ensures .0))
+    let e = c .before .before .before .before .before .before .before .before .plan-readable .ensures in
+    let f = c .before .before .before .before .before .before .enum-told .given .1 in
+    (code _ _ _ e f, given _ _ _ e f (c .before .before .before .positions-of .ensures .0))
 
 same-length-2 : tie.Need-same-length-2
 same-length-2 c = search needs
@@ -57,8 +52,8 @@ same-length-2 c = search needs
 returns-2 : tie.Need-returns-2
 unfolding frameText
 returns-2 c =
-    let s = c .before .before .before .before .before .before .before .before .before .before .before .before .before .before .before .args in
-    rw (outcome (s .bw) (s .a .now) (s .b .now) _ (c .before .before .before .before .before .before .before .before .before .before .before .plan-readable .ensures) _ (c .before .before .before .before .before .before .before .before .before .enum-told .given .1)) (c .before .before .put-listing .ensures)
+    let e = c .before .before .before .before .before .before .before .before .before .before .before .plan-readable .ensures in
+    rw (outcome _ _ _ e (c .before .before .before .before .before .before .before .before .before .enum-told .given .1)) (c .before .before .put-listing .ensures)
 
 pub put-outcome-spec : {M : Type 1} → statement M
 put-outcome-spec =
