@@ -80,13 +80,12 @@ fn overflow_diff(a: &[u8], b: &[u8]) -> usize
 pub fn overflow_differs(bw: u32, a: &[u8], b: &[u8]) -> Out
     ensures { λ r. ⌜ r ≡ overflowDiffers bw (now (a .entry)) (now (b .entry)) ⌝ }
 {
-    let symbols = bits::field_at(a, 6, 3);
-    let there = channel::is_present(bw, 2);
+    let first = answer::refuse_if(4 < bits::field_at(a, 6, 3), 5, 1, 6);
+    if !channel::is_present(bw, 2) {
+        return first;
+    }
     let k = overflow_diff(a, b);
-    answer::or_else(
-        answer::refuse_if(4 < symbols, 5, 1, 6),
-        answer::refuse_if(there & (k < 17), 5, 2, k),
-    )
+    answer::or_else(first, answer::refuse_if(k < 17, 5, 2, k))
 }
 
 fn is_foreign(bw: u32, s: &[u8], k: usize) -> bool
@@ -157,6 +156,9 @@ pub fn wrong_users(bw: u32, channel: u32, s: &[u8], n: usize) -> Out
     requires { ⌜ (n ≤ 72) × (n ≡ count bw channel (now s)) ⌝ }
     ensures { λ r. ⌜ r ≡ wrongUsers bw channel (now (s .entry)) ⌝ }
 {
+    if n == 0 {
+        return Out::Pass;
+    }
     let b = first_wrong(bw, s, n);
     answer::refuse_if(
         b < (n + 1) / 2,

@@ -114,22 +114,23 @@ pub again-none : (id : ℕ → ℕ) → false ≡ anyRepeated id 0
 unfolding anyRepeated least
 again-none id = refl
 
-pub again-more : (id : ℕ → ℕ) (marks : List ℕ) (j x : ℕ) (a b : Bool) → x ≡ id j → x < 2048 → Marked id marks j → a ≡ anyRepeated id j
-    → b ≡ (ltb 0 x && leb x 2006) && eqb (getD marks (x / 64) 0 / 2 ^ (x % 64) % 2) 1 → a || b ≡ anyRepeated id (j + 1)
-unfolding anyRepeated
-again-more id marks j x a b e l f h q =
-    ap₂ _||_ h (q ∙ seen) ∙ or-cond (anyRepeated id j) (repeated id j) ∙ sym (among-next (repeated id) j)
-  where
-    one : (s : Bool) → eqb (cond s 1 0) 1 ≡ s
-    one true = refl
-    one false = refl
+one : (s : Bool) → eqb (cond s 1 0) 1 ≡ s
+one true = refl
+one false = refl
 
+-- a marked one that may not stand again was seen before
+pub seen : (id : ℕ → ℕ) (marks : List ℕ) (j x : ℕ) (b : Bool) → x ≡ id j → x < 2048 → Marked id marks j
+    → b ≡ (ltb 0 x && leb x 2006) && eqb (getD marks (x / 64) 0 / 2 ^ (x % 64) % 2) 1 → b ≡ repeated id j
+seen id marks j x b e l f q =
+    q ∙ ap (_&&_ (ltb 0 x && leb x 2006)) (ap (λ (z : ℕ). eqb z 1) (f .marked x l) ∙ one (among id j x)) ∙ ap (λ (z : ℕ). seenBefore id j z) e
+
+pub again-more : (id : ℕ → ℕ) (j : ℕ) (a b : Bool) → a ≡ anyRepeated id j → b ≡ repeated id j → a || b ≡ anyRepeated id (j + 1)
+unfolding anyRepeated
+again-more id j a b h q = ap₂ _||_ h q ∙ or-cond (anyRepeated id j) (repeated id j) ∙ sym (among-next (repeated id) j)
+  where
     or-cond : (s t : Bool) → s || t ≡ cond s true t
     or-cond true t = refl
     or-cond false t = refl
-
-    seen : (ltb 0 x && leb x 2006) && eqb (getD marks (x / 64) 0 / 2 ^ (x % 64) % 2) 1 ≡ repeated id j
-    seen = ap (_&&_ (ltb 0 x && leb x 2006)) (ap (λ (z : ℕ). eqb z 1) (f .marked x l) ∙ one (among id j x)) ∙ ap (λ (z : ℕ). seenBefore id j z) e
 
 -- a STA-ID has 11 bits
 pub station-low : (bw : ℕ) (a b : List ℕ) (n j : ℕ) → stationOf bw a b n j < 2048
@@ -139,20 +140,21 @@ station-low bw a b n j = go (ltb j n)
     go true = field-lt a (userAt bw j) 11
     go false = field-lt b (userAt bw (j - n)) 11
 
--- where none stands again, the first that does is none of them
-pub none-again : (id : ℕ → ℕ) (ids : List ℕ) (t : ℕ) → ((k : ℕ) → k < t → id k < 2048) → Holds id ids t → anyRepeated (stationIn ids) t ≡ false → least (repeated id) t ≡ t
-unfolding anyRepeated stationIn
-none-again id ids t h f e =
-    let same : least (repeated (stationIn ids)) t ≡ least (repeated id) t = least-cong (repeated (stationIn ids)) (repeated id) t one in
-    let l = ltb-false (least (repeated (stationIn ids)) t) t e in
-    let m = least-le (repeated id) t in
-    omega arith
+-- the first that stands again in an array that holds them is theirs
+pub repeat-in : (id : ℕ → ℕ) (ids : List ℕ) (t : ℕ) → ((k : ℕ) → id k < 2048) → Holds id ids t → least (repeated (stationIn ids)) t ≡ least (repeated id) t
+unfolding stationIn
+repeat-in id ids t h f = least-cong (repeated (stationIn ids)) (repeated id) t here
   where
     at : (k : ℕ) → k < t → getD ids k 0 % 2048 ≡ id k
-    at k l = let q = f .holds k l in let r = h k l in omega arith
+    at k l = let q = f .holds k l in let r = h k in omega arith
 
-    one : (k : ℕ) → k < t → repeated (stationIn ids) k ≡ repeated id k
-    one k l = rw (at k l, least-cong (λ i. eqb (getD ids i 0 % 2048) (id k)) (λ i. eqb (id i) (id k)) k (λ i m. ap (λ (y : ℕ). eqb y (id k)) (at i (omega arith))))
+    here : (k : ℕ) → k < t → repeated (stationIn ids) k ≡ repeated id k
+    here k l = rw (at k l, least-cong (λ i. eqb (getD ids i 0 % 2048) (id k)) (λ i. eqb (id i) (id k)) k (λ i m. ap (λ (y : ℕ). eqb y (id k)) (at i (omega arith))))
+
+-- and none does where the gathered answer says so
+pub none-again : (id : ℕ → ℕ) (t : ℕ) → anyRepeated id t ≡ false → least (repeated id) t ≡ t
+unfolding anyRepeated
+none-again id t e = let l = ltb-false (least (repeated id) t) t e in let m = least-le (repeated id) t in omega arith
 
 -- ---- the array, one channel after the other
 pub entered-none : (f : ℕ → ℕ) (w : List ℕ) (a : ℕ) → Entered f w a 0 w

@@ -5,9 +5,8 @@ ghost use mathlib.Core.Path.{_≡_};
 ghost use Prim.Native.Nat.{_+_, _/_, _%_, _^_, _≤_, _<_};
 ghost use mathlib.Core.Bool.{_&&_};
 ghost use lib.Dec.{eqb, ltb, leb};
-ghost use lib.ListN.{length, getD};
+ghost use lib.ListN.{length};
 ghost use Rattle.answer.specs.Least.{least};
-ghost use Rattle.bits.specs.Bits.{bit, put};
 ghost use Rattle.stations.specs.Stations.{stationAt, stationOf, repeated, stationPlace, firstRepeated, stationTwice};
 ghost use Rattle.stations.specs.Kept.{Holds, Entered};
 ghost use Rattle.stations.specs.Gathered.{stationIn, anyRepeated};
@@ -71,32 +70,21 @@ fn any_again(ids: &[u16; 144], t: usize) -> bool
 
 // ---- which: asked only where one does
 
-// Whether a STA-ID may not stand again and is marked.
-fn stands_again(marks: &[u8], id: u16) -> bool
-    ensures { λ r. ⌜ r ≡ (ltb 0 id && leb id 2006) && eqb (bit (now (marks .entry)) id) 1 ⌝ }
-{
-    (0 < id) & (id <= 2006) & (bits::bit_at(marks, id as usize) == 1)
-}
-
-fn mark(marks: &mut [u8], id: u16)
-    ensures { λ _. ⌜ now (marks .exit) ≡ put (now (marks .entry)) id 1 1 ⌝ }
-{
-    bits::set_bit(marks, id as usize);
-}
-
-// The first of t that may not stand again and does. A bit for each STA-ID marks those that were met.
+// The first of t that may not stand again and does.
 fn first_again(ids: &[u16; 144], t: usize) -> usize
     requires { ⌜ t ≤ 144 ⌝ }
-    ensures { λ r. ⌜ (r ≤ t) × (r ≡ least (repeated (λ i. getD (now (ids .entry)) i 0)) t) ⌝ }
+    ensures { λ r. ⌜ (r ≤ t) × (r ≡ least (repeated (stationIn (now (ids .entry)))) t) ⌝ }
 {
-    let mut marks = [0u8; 256];
+    let mut marks = [0u64; 32];
     let mut j = 0;
     while j < t {
-        let id = ids[j];
-        if stands_again(&marks, id) {
+        let id = ids[j] % 2048;
+        let k = id as usize / 64;
+        let w = marks[k];
+        if is_marked(w, id) {
             return j;
         }
-        mark(&mut marks, id);
+        marks[k] = with_mark(w, id);
         j += 1;
     }
     j

@@ -1,5 +1,10 @@
 -- `faults::overflow_differs` meets its contract. Assumes nothing.
 use Rattle.faults.specs.Checks.{overflowDiffers}
+use Rattle.channel.specs.Layout.{present}
+use Rattle.answer.specs.Order.{or-end}
+use borrow.Author.Tests.{not-true, not-false}
+use mathlib.Core.Bool.{true, false}
+use mathlib.Core.Path.{_≡_, sym, _∙_}
 use borrow.Author.Needs.{needs}
 use Rattle.faults.proofs.overflow_differs.Statement.{statement}
 use Rattle.faults.proofs.overflow_differs.Tie as tie
@@ -7,14 +12,20 @@ use Rattle.faults.proofs.overflow_differs.Tie as tie
 field-at-requires : tie.Need-field-at-requires
 field-at-requires c κs = search needs
 
+refuse-if-requires : tie.Need-refuse-if-requires
+refuse-if-requires c κs = search needs
+
 is-present-requires : tie.Need-is-present-requires
 is-present-requires c κs = search needs
 
+returns : tie.Need-returns
+unfolding overflowDiffers
+returns c =
+    let e : present (c .before .before .before .before .before .before .args .bw) 2 ≡ false = sym (c .before .is-present .ensures) ∙ not-true _ (c .if1 .taken) in
+    c .before .before .refuse-if .ensures ∙ rw (e, ← c .before .before .before .field-at .ensures) (sym (or-end _))
+
 overflow-diff-requires : tie.Need-overflow-diff-requires
 overflow-diff-requires c κs = search needs
-
-refuse-if-requires : tie.Need-refuse-if-requires
-refuse-if-requires c κs = search needs
 
 refuse-if-requires-2 : tie.Need-refuse-if-requires-2
 refuse-if-requires-2 c κs = search needs
@@ -22,18 +33,21 @@ refuse-if-requires-2 c κs = search needs
 or-else-requires : tie.Need-or-else-requires
 or-else-requires c κs = search needs
 
-returns : tie.Need-returns
+returns-2 : tie.Need-returns-2
 unfolding overflowDiffers
-returns c = cc
+returns-2 c =
+    let e : present (c .before .before .before .before .before .before .before .before .before .args .bw) 2 ≡ true = sym (c .before .before .before .before .is-present .ensures) ∙ not-false _ (c .before .before .before .if1 .left) in
+    rw e cc
 
 pub overflow-differs-spec : {M : Type 1} → statement M
 overflow-differs-spec =
     tie.close
     (tie.spec
     field-at-requires
-    is-present-requires
-    overflow-diff-requires
     refuse-if-requires
+    is-present-requires
+    returns
+    overflow-diff-requires
     refuse-if-requires-2
     or-else-requires
-    returns)
+    returns-2)

@@ -1,9 +1,27 @@
 -- `faults::wrong_users` meets its contract. Assumes nothing.
-use Rattle.channel.specs.Layout.{blocks}
 use Rattle.faults.specs.Checks.{wrongUsers, wrongUsersOf}
+use Rattle.channel.specs.Layout.{count, blocks}
+use mathlib.Core.Path.{_≡_, sym, _∙_}
+use Prim.Native.Nat.{ℕ, _+_, _/_}
+use native.Mathlib.Omega.{arith}
+use lib.Dec.{ltb}
+use borrow.Author.Tests.{le-ltb}
+use Rattle.answer.specs.Answer.{refuseIf}
+use Rattle.answer.specs.declared.Answer.{Answer}
+use Rattle.answer.specs.declared.Out.the-variants.{Pass}
 use borrow.Author.Needs.{needs}
 use Rattle.faults.proofs.wrong_users.Statement.{statement}
 use Rattle.faults.proofs.wrong_users.Tie as tie
+
+no-blocks : (b : ℕ) (x : Answer) → Pass ≡ refuseIf (ltb b ((0 + 1) / 2)) x
+no-blocks b x = rw (le-ltb b ((0 + 1) / 2) (omega arith))
+
+returns : tie.Need-returns
+unfolding wrongUsers wrongUsersOf blocks
+returns c =
+    let s = c .before .before in
+    let e : count (s .args .bw) (s .args .channel) (s .args .s .now) ≡ 0 = sym (s .pre .1) ∙ c .if1 .taken in
+    rw e (no-blocks _ _)
 
 first-wrong-requires : tie.Need-first-wrong-requires
 first-wrong-requires c κs = search needs
@@ -23,18 +41,19 @@ add-refuse-if-2 c = search needs
 refuse-if-requires : tie.Need-refuse-if-requires
 refuse-if-requires c κs = search needs
 
-returns : tie.Need-returns
+returns-2 : tie.Need-returns-2
 unfolding wrongUsers wrongUsersOf blocks
-returns c = cc
+returns-2 c = cc
 
 pub wrong-users-spec : {M : Type 1} → statement M
 wrong-users-spec =
     tie.close
     (tie.spec
+    returns
     first-wrong-requires
     add-refuse-if
     block-bit-requires
     covered-bits-requires
     add-refuse-if-2
     refuse-if-requires
-    returns)
+    returns-2)

@@ -6,7 +6,7 @@ use mathlib.Core.List.{List}
 use native.Mathlib.Omega.{arith}
 use lib.ListN.{length, length-set}
 use Rattle.stations.specs.Gathered.{stationIn, anyRepeated}
-use Rattle.stations.proofs.Gathered.{station-lt, Marked, marked-none, marked-more, again-none, again-more}
+use Rattle.stations.proofs.Gathered.{station-lt, Marked, marked-none, marked-more, again-none, again-more, seen}
 use Rattle.stations.proofs.any_again.Statement.{statement}
 use Rattle.stations.proofs.any_again.Tie as tie
 
@@ -61,7 +61,8 @@ loop-again c =
     let x = stationIn (a .ids .now) (l .j) in (
       search needs,
       simp length-set (l .inv .1),
-      again-more (stationIn (a .ids .now)) (l .marks) (l .j) x (l .again) (c .before .is-marked .result) refl (station-lt (a .ids .now) (l .j)) (l .inv .3) (l .inv .2) (c .before .is-marked .ensures),
+      again-more (stationIn (a .ids .now)) (l .j) (l .again) (c .before .is-marked .result) (l .inv .2)
+          (seen (stationIn (a .ids .now)) (l .marks) (l .j) x _ refl (station-lt (a .ids .now) (l .j)) (l .inv .3) (c .before .is-marked .ensures)),
       rw (c .with-mark .ensures) (marked-more (stationIn (a .ids .now)) (l .marks) (l .j) x refl (station-lt (a .ids .now) (l .j)) (l .inv .1) (l .inv .3)),
     )
 

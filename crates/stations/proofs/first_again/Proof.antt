@@ -1,24 +1,24 @@
 -- `stations::first_again` meets its contract. Assumes nothing.
-use borrow.Author.Needs.{needs}
-use Prim.Native.Nat.{ℕ, _-_, _≤_}
-use mathlib.Core.Path.{_≡_, refl, sym, _∙_}
-use native.Mathlib.Omega.{arith}
-use lib.ListN.{length, getD}
-use Rattle.answer.specs.Least.{least, least-start, least-step, least-stop, least-end}
-use Rattle.bits.specs.Writes.{put-length}
+use Rattle.stations.proofs.Gathered.{station-lt, Marked, marked-none, marked-more, seen}
+use Rattle.stations.specs.Gathered.{stationIn}
 use Rattle.stations.specs.Stations.{repeated}
-use Rattle.stations.specs.Kept.{Marks, marks-none, marks-more, marked-before}
+use Rattle.answer.specs.Least.{least, least-start, least-step, least-stop, least-end}
+use lib.ListN.{length, length-set}
+use Prim.Native.Nat.{_-_, _≤_}
+use mathlib.Core.Path.{_≡_, refl, sym, _∙_}
+use borrow.Author.Needs.{needs}
+use native.Mathlib.Omega.{arith}
 use Rattle.stations.proofs.first_again.Statement.{statement}
 use Rattle.stations.proofs.first_again.Tie as tie
 
 abbrev Inv-loop : tie.InvT-loop
-Inv-loop ids t marks₀ j₀ marks j = (j ≤ t) × (length marks ≡ 256) × (least (repeated (λ i. getD ids i 0)) j ≡ j) × Marks (λ i. getD ids i 0) marks j
+Inv-loop ids t marks₀ j₀ marks j = (j ≤ t) × (length marks ≡ 32) × (least (repeated (stationIn ids)) j ≡ j) × Marked (stationIn ids) marks j
 
 abbrev μ-loop : tie.MeasureT-loop
 μ-loop ids t marks₀ j₀ marks j = t - j
 
 loop-holds : tie.Need-loop-holds Inv-loop μ-loop
-loop-holds c = (search needs, refl, least-start _, marks-none _ 256)
+loop-holds c = (search needs, refl, least-start _, marked-none _ 32)
 
 mul-id : tie.Need-mul-id Inv-loop μ-loop
 mul-id c = search needs
@@ -26,25 +26,36 @@ mul-id c = search needs
 element-copy-out-id : tie.Need-element-copy-out-id Inv-loop μ-loop
 element-copy-out-id c = search needs
 
-slice-aggregate-stands-again : tie.Need-slice-aggregate-stands-again Inv-loop μ-loop
-slice-aggregate-stands-again c = search needs
+cast-k : tie.Need-cast-k Inv-loop μ-loop
+cast-k c = search needs
 
-stands-again-requires : tie.Need-stands-again-requires Inv-loop μ-loop
-stands-again-requires c κs = search needs
+mul-w : tie.Need-mul-w Inv-loop μ-loop
+mul-w c = search needs
+
+array-read-w : tie.Need-array-read-w Inv-loop μ-loop
+array-read-w c = search needs
+
+is-marked-requires : tie.Need-is-marked-requires Inv-loop μ-loop
+is-marked-requires c κs = search needs
 
 returns : tie.Need-returns Inv-loop μ-loop
+unfolding stationIn
 returns c =
-    let l = c .before .before .before .before .before .loop in
-    let ids = c .before .before .before .before .before .before .args .ids .now in
-    let id : ℕ → ℕ = λ i. getD ids i 0 in
-    let r = sym (marked-before id (l .marks) (l .j) (id (l .j)) (l .inv .3)) ∙ sym (c .before .stands-again .ensures) in
-    (omega arith, sym (least-stop (repeated id) (l .j) _ (omega arith) (l .inv .2) (r ∙ c .if1 .taken)))
+    let a = c .before .before .before .before .before .args in
+    let l = c .before .before .before .before .loop in (
+      omega arith,
+      sym (least-stop (repeated (stationIn (a .ids .now))) (l .j) (a .t) (omega arith) (l .inv .2)
+          (sym (seen (stationIn (a .ids .now)) (l .marks) (l .j) (stationIn (a .ids .now) (l .j)) _ refl (station-lt (a .ids .now) (l .j)) (l .inv .3) (c .before .is-marked .ensures)) ∙ c .if1 .taken)),
+    )
 
-slice-aggregate-mark : tie.Need-slice-aggregate-mark Inv-loop μ-loop
-slice-aggregate-mark c = search needs
+with-mark-requires : tie.Need-with-mark-requires Inv-loop μ-loop
+with-mark-requires c κs = search needs
 
-mark-requires : tie.Need-mark-requires Inv-loop μ-loop
-mark-requires c κs = search needs
+mul-marks : tie.Need-mul-marks Inv-loop μ-loop
+mul-marks c = search needs
+
+array-write-marks : tie.Need-array-write-marks Inv-loop μ-loop
+array-write-marks c = search needs
 
 add-j : tie.Need-add-j Inv-loop μ-loop
 add-j c = search needs
@@ -53,18 +64,20 @@ loop-less : tie.Need-loop-less Inv-loop μ-loop
 loop-less c = search needs
 
 loop-again : tie.Need-loop-again Inv-loop μ-loop
+unfolding stationIn
 loop-again c =
-    let l = c .before .before .before .before .before .before .before .before .loop in
-    let ids = c .before .before .before .before .before .before .before .before .before .args .ids .now in
-    let id : ℕ → ℕ = λ i. getD ids i 0 in
-    let r = sym (marked-before id (l .marks) (l .j) (id (l .j)) (l .inv .3)) ∙ sym (c .before .before .before .before .stands-again .ensures) in
-    let e = c .before .mark .ensures in
-    (search needs, rw e (put-length _ _ 1 1 ∙ l .inv .1), least-step (repeated id) (l .j) (l .inv .2) (r ∙ c .before .before .before .if1 .left), rw e (marks-more id (l .marks) (l .j) _ refl (l .inv .1) (l .inv .3)))
+    let a = c .before .before .before .before .before .before .args in
+    let l = c .before .before .before .before .before .loop in
+    let x = stationIn (a .ids .now) (l .j) in (
+      search needs,
+      simp length-set (l .inv .1),
+      least-step (repeated (stationIn (a .ids .now))) (l .j) (l .inv .2)
+          (sym (seen (stationIn (a .ids .now)) (l .marks) (l .j) x _ refl (station-lt (a .ids .now) (l .j)) (l .inv .3) (c .before .before .is-marked .ensures)) ∙ c .before .if1 .left),
+      rw (c .with-mark .ensures) (marked-more (stationIn (a .ids .now)) (l .marks) (l .j) x refl (station-lt (a .ids .now) (l .j)) (l .inv .1) (l .inv .3)),
+    )
 
 returns-2 : tie.Need-returns-2 Inv-loop μ-loop
-returns-2 c =
-    let ids = c .before .before .args .ids .now in
-    (search needs, sym (least-end (repeated (λ i. getD ids i 0)) _ _ (omega arith) (c .before .loop .inv .2)))
+returns-2 c = (omega arith, sym (least-end (repeated (stationIn (c .before .before .args .ids .now))) (c .before .loop .j) (c .before .before .args .t) (omega arith) (c .before .loop .inv .2)))
 
 pub first-again-spec : {M : Type 1} → statement M
 first-again-spec =
@@ -75,11 +88,14 @@ first-again-spec =
     loop-holds
     mul-id
     element-copy-out-id
-    slice-aggregate-stands-again
-    stands-again-requires
+    cast-k
+    mul-w
+    array-read-w
+    is-marked-requires
     returns
-    slice-aggregate-mark
-    mark-requires
+    with-mark-requires
+    mul-marks
+    array-write-marks
     add-j
     loop-less
     loop-again

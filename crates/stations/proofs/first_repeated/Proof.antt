@@ -1,6 +1,6 @@
 -- `stations::first_repeated` meets its contract. Assumes nothing.
-use Rattle.stations.proofs.Gathered.{none-again, station-low}
-use Rattle.stations.specs.Kept.{repeat-none, repeat-held}
+use Rattle.stations.proofs.Gathered.{none-again, repeat-in, station-low}
+use Rattle.stations.specs.Kept.{repeat-none}
 use Rattle.stations.specs.Stations.{stationOf, firstRepeated}
 use borrow.Author.Tests.{not-true}
 use Prim.Native.Nat.{_+_}
@@ -39,7 +39,7 @@ unfolding firstRepeated
 returns-2 c =
     let a = c .before .before .before .before .before .before .before .args in
     let id = stationOf (a .bw) (a .a .now) (a .b .now) (a .n) in
-    (sym (none-again id _ (a .n + a .m) (λ k l. station-low (a .bw) (a .a .now) (a .b .now) (a .n) k) (c .before .before .before .stations-of .ensures .1) (sym (c .before .any-again .ensures) ∙ not-true _ (c .if2 .taken))), omega arith)
+    (sym (sym (repeat-in id _ (a .n + a .m) (station-low (a .bw) (a .a .now) (a .b .now) (a .n)) (c .before .before .before .stations-of .ensures .1)) ∙ none-again _ (a .n + a .m) (sym (c .before .any-again .ensures) ∙ not-true _ (c .if2 .taken))), omega arith)
 
 add-first-again : tie.Need-add-first-again
 add-first-again c = search needs
@@ -51,7 +51,7 @@ returns-3 : tie.Need-returns-3
 unfolding firstRepeated
 returns-3 c =
     let a = c .before .before .before .before .before .before .before .before .before .args in
-    (c .first-again .ensures .1 ∙ repeat-held (stationOf (a .bw) (a .a .now) (a .b .now) (a .n)) _ (a .n + a .m) (c .before .before .before .before .before .stations-of .ensures .1), omega arith)
+    (c .first-again .ensures .1 ∙ repeat-in (stationOf (a .bw) (a .a .now) (a .b .now) (a .n)) _ (a .n + a .m) (station-low (a .bw) (a .a .now) (a .b .now) (a .n)) (c .before .before .before .before .before .stations-of .ensures .1), omega arith)
 
 pub first-repeated-spec : {M : Type 1} → statement M
 first-repeated-spec =
