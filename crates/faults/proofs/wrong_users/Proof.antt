@@ -1,27 +1,26 @@
 -- `faults::wrong_users` meets its contract. Assumes nothing.
-use Rattle.faults.specs.Checks.{wrongUsers, wrongUsersOf}
+use Rattle.faults.specs.Checks.{firstWrong, wrongUsers, wrongUsersOf}
 use Rattle.channel.specs.Layout.{count, blocks}
 use mathlib.Core.Path.{_≡_, sym, _∙_}
+use mathlib.Core.List.{List}
 use Prim.Native.Nat.{ℕ, _+_, _/_}
 use native.Mathlib.Omega.{arith}
-use lib.Dec.{ltb}
 use borrow.Author.Tests.{le-ltb}
-use Rattle.answer.specs.Answer.{refuseIf}
-use Rattle.answer.specs.declared.Answer.{Answer}
 use Rattle.answer.specs.declared.Out.the-variants.{Pass}
 use borrow.Author.Needs.{needs}
 use Rattle.faults.proofs.wrong_users.Statement.{statement}
 use Rattle.faults.proofs.wrong_users.Tie as tie
 
-no-blocks : (b : ℕ) (x : Answer) → Pass ≡ refuseIf (ltb b ((0 + 1) / 2)) x
-no-blocks b x = rw (le-ltb b ((0 + 1) / 2) (omega arith))
+no-blocks : (bw c : ℕ) (s : List ℕ) → Pass ≡ wrongUsersOf bw c s 0
+unfolding wrongUsersOf blocks
+no-blocks bw c s = rw (le-ltb (firstWrong bw s 0) ((0 + 1) / 2) (omega arith))
 
 returns : tie.Need-returns
 unfolding wrongUsers wrongUsersOf blocks
 returns c =
     let s = c .before .before in
     let e : count (s .args .bw) (s .args .channel) (s .args .s .now) ≡ 0 = sym (s .pre .1) ∙ c .if1 .taken in
-    rw e (no-blocks _ _)
+    rw e (no-blocks (s .args .bw) (s .args .channel) (s .args .s .now))
 
 first-wrong-requires : tie.Need-first-wrong-requires
 first-wrong-requires c κs = search needs
