@@ -25,9 +25,9 @@ use Rattle.plan.proofs.Table.{equal-or}
 use Rattle.plan.proofs.Laid.{layout-laid}
 use Rattle.plan.proofs.Demand.{accepted-plan, only-plan}
 use Rattle.records.specs.declared.Record.{Record}
-use Rattle.records.specs.Records.{inChannel, pieceRecord, recordsFrom, recordsOf, recordAt, blank}
+use Rattle.records.specs.Records.{inChannel, pieceRecord, recordsFrom, recordsOf, blank}
 use Rattle.records.specs.Owns.{fieldsBefore, ComesFrom, number, Owns, of-piece, of-place, lowest, ownerOf}
-use Rattle.records.proofs.Listing.{Located, located-record, own-record, larger-record}
+use Rattle.records.proofs.Listing.{recordAt, Located, located-record, own-record, larger-record}
 use Rattle.records.proofs.Lead.{lowest-only, itself-place}
 use Rattle.resource.proofs.Pieces.{some-pieces, no-pieces-left, divided-low}
 use Rattle.records.proofs.Owners.{before-next, before-rise, in-own, one-owner, owner-owns}

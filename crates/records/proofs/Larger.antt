@@ -94,7 +94,8 @@ larger-inside c n p u h d t =
     let v = u / 256 in
     let w = places-inside (p / 4) (placesOf c p) u (rw (larger-runs c n p h d) at t) in
     let s = eqb (v % 4 / span c) (p % 4 / span c) in
-    let f = every-below (λ q. below (inside-test c q) 4) 4 (every-below (λ c. below (λ q. below (inside-test c q) 4) 4) 7 insides-tested c h) (p % 4) (omega arith) in
+    let line = every-below (λ c. below (λ q. below (inside-test c q) 4) 4) 7 insides-tested c h in
+    let f = every-below (λ q. below (inside-test c q) 4) 4 line (p % 4) (omega arith) in
     let y = met (set-at (v % 4) (placesOf c (p % 4))) (s && takes c (v % 4 % span c)) (every-below (inside-test c (p % 4)) 4 f (v % 4) (omega arith))
     (rw (places-within c p h) at (w .1)) in
     (one-span v p (w .0) (span c) (spans c h) (eqb→eq _ _ (both-left s _ y)), rw (← one-place v (span c) (spans c h)) (is-true _ (both-right s _ y)))

@@ -1,8 +1,8 @@
 -- The lowest place of a kind, its upper places and its width: what the table of kinds says of them, each rule a test that the checker
 -- computes over its lines. Assumes nothing.
 use mathlib.Core.Path.{_≡_, refl, sym, _∙_, ap}
-use mathlib.Core.Logic.{_≢_, _⊎_, inl, inr, ⊎-elim}
-use mathlib.Core.Bool.{Bool, true, false, cond, _&&_}
+use mathlib.Core.Logic.{_⊎_, inl, inr, ⊎-elim}
+use mathlib.Core.Bool.{Bool, true, _&&_}
 use Prim.Native.Nat.{ℕ, zero, suc, _+_, _-_, _*_, _/_, _%_, _^_, _≤_, _<_}
 use native.Mathlib.Omega.{arith}
 use native.Mathlib.Nat.{div-add-mod}
@@ -13,7 +13,7 @@ use Rattle.answer.specs.Least.{least, least-holds, least-le, least-below}
 use Rattle.resource.proofs.Test.{below-or, both-left, both-right, below, every-below}
 use Rattle.plan.specs.Kinds.{kind, kinds, kindAt, spanIn, span, mask, takes}
 use Rattle.plan.specs.Plan.{Place}
-use Rattle.plan.proofs.Table.{holds, is-true, by-test, at-span, at-place, span-some, span-is, spans, span-0, place-mod, takes-known}
+use Rattle.plan.proofs.Table.{holds, is-true, by-test, at-span, at-place, span-some, spans, span-0, place-mod, takes-known}
 use Rattle.records.specs.Records.{lead}
 use Rattle.records.specs.Owns.{lowest}
 
@@ -116,14 +116,6 @@ itself-place p q w = let e = rw span-0 at (w .0) in omega arith
 pub itself-lowest : (p : ℕ) → lowest 0 p ≡ p
 unfolding lowest
 itself-lowest p = rw (span-0, lead-0) (omega arith)
-
--- any other is wider
-pub span-two : (c : ℕ) → c < 7 → c ≢ 0 → 2 ≤ span c
-span-two c h n = rw (span-is c h) (go (ltb c 2))
-  where
-    go : (t : Bool) → 2 ≤ cond t (c + 1) 4
-    go true = omega arith
-    go false = omega arith
 
 -- ---- where every place of a resource lies in a channel of 2 ^ b positions, so does its span
 power : (b : ℕ) → b < 5 → (2 ^ b ≡ 1) ⊎ ((2 ^ b ≡ 2) ⊎ (2 ^ b % 4 ≡ 0))

@@ -3,7 +3,7 @@ use mathlib.Core.Path.{_≡_, refl, sym, _∙_, ap}
 use mathlib.Core.Logic.{⊎-elim, _≢_}
 use mathlib.Core.Bool.{Bool, true, false, cond, false≢true}
 use mathlib.Core.List.{List, [], _∷_, map}
-use Prim.Native.Nat.{ℕ, zero, suc, _+_, _-_, _*_, _/_, _%_, _≤_, _<_}
+use Prim.Native.Nat.{ℕ, zero, suc, _+_, _-_, _*_, _%_, _≤_, _<_}
 use native.Mathlib.Omega.{arith}
 use native.Mathlib.Nat.{eq-or-lt-of-le, le-of-suc-le-suc}
 use native.Mathlib.Numerals.{add-one}
@@ -18,8 +18,13 @@ use Rattle.resource.specs.Values.{ownPieces}
 use Rattle.resource.specs.Starts.{noPiece, pieceAt}
 use Rattle.resource.proofs.Test.{below-or}
 use Rattle.resource.proofs.Starts.{own-most}
-use Rattle.records.specs.Records.{pieceRecord, lead, largerRecord, once, listAt, recordsFrom, blank, recordAt, listed}
+use Rattle.records.specs.declared.Record.{Record}
+use Rattle.records.specs.Records.{pieceRecord, lead, largerRecord, once, listAt, recordsFrom, blank, listed}
 use Rattle.records.proofs.Lead.{lead-0}
+
+-- the k-th of those that are listed at p, where there are so many
+unfoldable pub recordAt : ℕ → (ℕ → ℕ) → ℕ → ℕ → Record
+recordAt c row p k = cond (eqb c 0) (pieceRecord row p (pieceAt (row p) k)) (largerRecord c row p)
 
 -- ---- at one position: its own pieces, or a larger resource once
 module _ (c : ℕ) (row : ℕ → ℕ) (p : ℕ) where

@@ -23,14 +23,14 @@ use Rattle.resource.specs.Values.{within, pieces, fieldsOf, divides, pieceField
 use Rattle.resource.proofs.Test.{below-or}
 use Rattle.resource.proofs.Starts.{own-fields, own-whole}
 use Rattle.records.specs.declared.Record.{Record}
-use Rattle.records.specs.Records.{inChannel, listAt, recordsFrom, recordAt}
+use Rattle.records.specs.Records.{inChannel, listAt, recordsFrom}
 use Rattle.records.specs.Records.{blank as noRecord}
 use Rattle.records.specs.Owns.{fieldsBefore, ComesFrom, number, Owns, lowest, ownerAt, ownerOf, Counts, none, one-more, no-more, shareOf, allShares}
 use Rattle.records.proofs.Sums.{sumTo, sumFrom, sum-cong, sum-one, sum-past, sum-window, from-cong}
 use Rattle.records.proofs.Sums.{tally, tally-cong, tally-split, tally-none, tally-all, tally-once, all-placed}
 use Rattle.records.proofs.Lead.{lowest-place, lowest-only, itself-place, itself-lowest}
 use Rattle.records.proofs.Listing.{Located, located, located-record, located-once, records-rise}
-use Rattle.records.proofs.Listing.{own-length, own-record, larger-record, larger-one, once-lead}
+use Rattle.records.proofs.Listing.{recordAt, own-length, own-record, larger-record, larger-one, once-lead}
 use Rattle.resource.proofs.Pieces.{none-left, divided-not, divided-low}
 use Rattle.records.proofs.Owners.{found-left, divided-itself, owner-only, owner-owns, search-comes, comes}
 

@@ -2,7 +2,7 @@
 -- signals the row. Assumes nothing.
 use mathlib.Core.Path.{_≡_}
 use mathlib.Core.Logic.{⊎-elim}
-use Prim.Native.Nat.{ℕ, _^_, _≤_, _<_}
+use Prim.Native.Nat.{ℕ, _^_, _<_}
 use native.Mathlib.Omega.{arith}
 use lib.ListN.{length, getD}
 use Rattle.plan.specs.Plan.{Signals}
@@ -10,9 +10,9 @@ use Rattle.plan.proofs.Table.{equal-or, known}
 use Rattle.resource.specs.Starts.{pieceAt}
 use Rattle.resource.proofs.Pieces.{own-piece}
 use Rattle.records.specs.declared.Record.{Record}
-use Rattle.records.specs.Records.{listAt, recordsFrom, recordAt, blank}
+use Rattle.records.specs.Records.{listAt, recordsFrom, blank}
 use Rattle.records.proofs.Larger.{RightAt, piece-there, larger-right}
-use Rattle.records.proofs.Listing.{Somewhere, located, located-record, own-length, own-record, larger-record}
+use Rattle.records.proofs.Listing.{recordAt, Somewhere, located, located-record, own-length, own-record, larger-record}
 use Rattle.records.proofs.Subcarriers.{whole-span}
 
 -- the runs of a record's resource are those that 01 lists

@@ -12,11 +12,11 @@ use Rattle.plan.proofs.Table.{equal-or, known, takes-known, family-low, blank-l
 use Rattle.resource.specs.Values.{pieces, ownPieces}
 use Rattle.resource.specs.Starts.{noPiece}
 use Rattle.resource.proofs.Apart.{piece-inside, pieces-apart}
-use Rattle.records.specs.Records.{lead, listAt, recordsFrom, recordAt, HasTone, Punctured}
+use Rattle.records.specs.Records.{lead, listAt, recordsFrom, HasTone, Punctured}
 use Rattle.records.specs.Records.{blank as noRecord}
 use Rattle.records.proofs.Lead.{itself-place, span-within}
 use Rattle.records.proofs.Larger.{larger-inside}
-use Rattle.records.proofs.Listing.{Located, Somewhere, located, located-record, own-length, own-record, larger-record, larger-most, once-lead}
+use Rattle.records.proofs.Listing.{recordAt, Located, Somewhere, located, located-record, own-length, own-record, larger-record, larger-most, once-lead}
 
 -- a punctured position is given to itself
 alone-26 : (c q v : ℕ) → v ≡ 26 → Fits c q v → c ≡ 0

@@ -16,7 +16,6 @@ use Rattle.resource.specs.declared.Resource.the-variants.{Single}
 use Rattle.resource.specs.Values.{pieceFields, ownPieces}
 use Rattle.resource.specs.Index.{resourceAt, leavingOut}
 use Rattle.resource.specs.Runs.{In, runsOf}
-use Rattle.resource.specs.Starts.{pieceAt}
 use Rattle.records.specs.declared.Record.{Record}
 
 -- "Content channel 1 holds the even positions, channel 2 the odd ones": f where position p is channel c's, counted from 0
@@ -97,11 +96,7 @@ Punctured n q u = In u (runsOf n (q / 4) (resourceAt (q % 4) (Part S242 1)))
 abbrev pub blank : Record
 blank = record { resource = Single S26 0; segment = 0; position = 0; fields1 = 0; fields2 = 0 }
 
--- ---- how the program counts: `proofs/` shows that these are the list's
--- the k-th of those that are listed at p
-unfoldable pub recordAt : ℕ → (ℕ → ℕ) → ℕ → ℕ → Record
-recordAt c row p k = cond (eqb c itself) (pieceRecord row p (pieceAt (row p) k)) (largerRecord c row p)
-
--- how many are
+-- ---- how the program counts: `proofs/` shows that it is the list's
+-- how many are listed at p
 unfoldable pub listed : ℕ → ℕ → ℕ → ℕ
 listed c p v = cond (eqb c itself) (length (ownPieces v)) (cond (eqb (p % span c) (lead c)) 1 0)

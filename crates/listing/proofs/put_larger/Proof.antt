@@ -1,6 +1,6 @@
 -- `listing::put_larger` meets its contract. Assumes nothing.
 use native.Mathlib.Omega.{arith}
-use mathlib.Core.Path.{_≡_, sym, ap, _∙_}
+use mathlib.Core.Path.{sym, ap, _∙_}
 use lib.ListN.{length}
 use Rattle.resource.specs.Runs.{held}
 use Rattle.plan.specs.Plan.{at as value}
@@ -39,7 +39,8 @@ put-record-requires : tie.Need-put-record-requires
 put-record-requires c κs =
     let s = c .before .before .before .before .before .before .before .before in
     let a = s .args in
-    (omega (arith, s .pre .0), c .before .before .larger-tones .ensures ∙ ap held (sym (larger-runs (a .kind) (length (a .row .now)) (a .p) (s .pre .3) (s .pre .4))) ∙ rw (c .larger-record .ensures))
+    let e = larger-runs (a .kind) (length (a .row .now)) (a .p) (s .pre .3) (s .pre .4) in
+    (omega (arith, s .pre .0), c .before .before .larger-tones .ensures ∙ ap held (sym e) ∙ rw (c .larger-record .ensures))
 
 same-length : tie.Need-same-length
 same-length c = search needs
@@ -48,7 +49,8 @@ returns-2 : tie.Need-returns-2
 returns-2 c =
     let s = c .before .before .before .before .before .before .before .before .before .before .before in
     let a = s .args in
-    let e = one-listed (a .kind) (value (a .row .now)) (a .p) (s .pre .4) (λ z. c .before .before .before .before .before .before .if1 .left (c .before .before .before .before .before .before .before .listed-of .ensures .0 ∙ z)) in
+    let i = c .before .before .before .before .before .before in
+    let e = one-listed (a .kind) (value (a .row .now)) (a .p) (s .pre .4) (λ z. i .if1 .left (i .before .listed-of .ensures .0 ∙ z)) in
     let w = rw (c .before .before .before .larger-record .ensures) at (c .before .before .put-record .ensures) in
     (rw (e, one-line) (w .0), rw e (omega (arith, w .1)))
 

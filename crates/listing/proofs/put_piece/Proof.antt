@@ -33,7 +33,8 @@ same-length c = search needs
 
 returns : tie.Need-returns
 returns c =
-    rw (c .before .before .before .piece-record .ensures, c .before .before .before .before .before .before .piece-at .ensures) at (c .before .before .put-record .ensures)
+    let x = c .before .before .before in
+    rw (x .piece-record .ensures, x .before .before .before .piece-at .ensures) at (c .before .before .put-record .ensures)
 
 pub put-piece-spec : {M : Type 1} → statement M
 put-piece-spec =
