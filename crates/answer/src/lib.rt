@@ -31,9 +31,16 @@ pub fn refuse_if(test: bool, number: u32, channel: u32, place: usize) -> Out
     }
 }
 
-// The first of two that refuses.
+// The first of two that refuses. Made of the answer's numbers anew, so that the compiler keeps them in registers and copies no
+// outcome through memory.
 pub fn or_else(a: Out, b: Out) -> Out
     ensures { λ r. ⌜ r ≡ (a or b) ⌝ }
 {
-    if let Out::Refuse(_) = a { a } else { b }
+    match a {
+        Out::Refuse(x) => Out::Refuse(x),
+        Out::Pass => match b {
+            Out::Refuse(y) => Out::Refuse(y),
+            Out::Pass => Out::Pass,
+        },
+    }
 }
