@@ -7,7 +7,6 @@ use Rattle.bits.proofs.field_at.Reads as field-at
 use Rattle.bits.proofs.wide_from.Reads as wide-from
 use Rattle.bits.proofs.lacks_at.Reads as lacks-at
 use Rattle.bits.proofs.first_diff.Reads as first-diff
-use Rattle.bits.proofs.set_bit.Reads as set-bit
 use Rattle.bits.proofs.put_field.Reads as put-field
 
 pub byte-at-agrees : (κs : _) (a : _) (r r' : _) (s s' : _) → byte-at.Post κs a r s → byte-at.Post κs a r' s' → r ≡ r'
@@ -30,6 +29,3 @@ first-diff-agrees κs a r r' s s' p q = p ∙ sym q
 
 pub put-field-agrees : (κs : _) (a : _) (r r' : _) (s s' : _) → put-field.Post κs a r s → put-field.Post κs a r' s' → now (s .0) ≡ now (s' .0)
 put-field-agrees κs a r r' s s' p q = p ∙ sym q
-
-pub set-bit-agrees : (κs : _) (a : _) (r r' : _) (s s' : _) → set-bit.Post κs a r s → set-bit.Post κs a r' s' → now (s .0) ≡ now (s' .0)
-set-bit-agrees κs a r r' s s' p q = p ∙ sym q

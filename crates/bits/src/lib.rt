@@ -160,13 +160,6 @@ fn put_part(d: &mut [u8], i: usize, m: usize, w: u32)
     }
 }
 
-// Bit i made 1.
-pub fn set_bit(d: &mut [u8], i: usize)
-    ensures { λ _. ⌜ now (d .exit) ≡ put (now (d .entry)) i 1 1 ⌝ }
-{
-    put_part(d, i, 1, 1);
-}
-
 // As many of the n bits from i as lie in its byte.
 fn part_of(i: usize, n: usize) -> usize
     ensures { λ r. ⌜ r ≡ min n (8 - i % 8) ⌝ }

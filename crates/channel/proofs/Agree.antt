@@ -11,7 +11,6 @@ use Rattle.channel.proofs.common_bits.Reads as common-bits
 use Rattle.channel.proofs.subfields_of.Reads as subfields-of
 use Rattle.channel.proofs.value_bit.Reads as value-bit
 use Rattle.channel.proofs.value_of.Reads as value-of
-use Rattle.channel.proofs.count_of.Reads as count-of
 use Rattle.channel.proofs.fill_row.Reads as fill-row
 use Rattle.channel.proofs.user_bit.Reads as user-bit
 use Rattle.channel.proofs.block_bit.Reads as block-bit
@@ -50,9 +49,6 @@ value-bit-agrees κs a r r' s s' p q = p ∙ sym q
 
 pub value-of-agrees : (κs : _) (a : _) (r r' : _) (s s' : _) → value-of.Post κs a r s → value-of.Post κs a r' s' → r ≡ r'
 value-of-agrees κs a r r' s s' p q = p ∙ sym q
-
-pub count-of-agrees : (κs : _) (a : _) (r r' : _) (s s' : _) → count-of.Post κs a r s → count-of.Post κs a r' s' → r ≡ r'
-count-of-agrees κs a r r' s s' p q = p .0 ∙ sym (q .0)
 
 pub fill-row-agrees : (κs : _) (a : _) (r r' : _) (s s' : _) → fill-row.Post κs a r s → fill-row.Post κs a r' s' → r ≡ r'
 fill-row-agrees κs a r r' s s' p q = p ∙ sym q

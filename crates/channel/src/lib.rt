@@ -3,7 +3,7 @@ ghost use mathlib.Core.Path.{_≡_};
 ghost use Prim.Native.Nat.{_+_, _*_, _≤_, _<_};
 ghost use lib.ListN.{length};
 ghost use Rattle.channel.specs.Windows.{firstWindow, Turns};
-ghost use Rattle.channel.specs.Layout.{positions, present, firsts, seconds, firstBits, secondAt, secondBits, hasSecond, common, subfieldsIn, valueAt, value, rowIn16, count, userAt, blockAt, covered, endOf};
+ghost use Rattle.channel.specs.Layout.{positions, present, firsts, seconds, firstBits, secondAt, secondBits, hasSecond, common, subfieldsIn, valueAt, value, rowIn16, userAt, blockAt, covered, endOf};
 
 // Whether the bandwidth has the channel.
 pub fn is_present(bw: u32, channel: u32) -> bool
@@ -115,21 +115,6 @@ pub fn value_of(bw: u32, s: &[u8], k: usize) -> u16
     ensures { λ r. ⌜ r ≡ value bw (now (s .entry)) k ⌝ }
 {
     bits::field_at(s, value_bit(bw, k), 9) as u16
-}
-
-// How many User fields the channel has.
-pub fn count_of(bw: u32, channel: u32, s: &[u8]) -> usize
-    ensures { λ r. ⌜ r ≡ count bw channel (now (s .entry)) ⌝ }
-    ensures { λ r. ⌜ r ≤ 72 ⌝ }
-{
-    let n = subfields_of(bw, channel);
-    let mut sum: usize = 0;
-    let mut k: usize = 0;
-    while k < n {
-        sum += resource::fields_of(value_of(bw, s, k)) as usize;
-        k += 1;
-    }
-    sum
 }
 
 // The window at bit 0 from its first value on: a channel's values of the first part, the lowest first. 0 where the

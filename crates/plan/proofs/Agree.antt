@@ -1,13 +1,9 @@
 -- Any two results that a public function's contract allows for one input agree: each contract is an equation. Assumes nothing.
 use mathlib.Core.Path.{_≡_, sym, _∙_}
-use Rattle.plan.proofs.span_of.Reads as span-of
 use Rattle.plan.proofs.mask_of.Reads as mask-of
 use Rattle.plan.proofs.start_of.Reads as start-of
 use Rattle.plan.proofs.fields_in.Reads as fields-in
 use Rattle.plan.proofs.plan_of.Reads as plan-of
-
-pub span-of-agrees : (κs : _) (a : _) (r r' : _) (s s' : _) → span-of.Post κs a r s → span-of.Post κs a r' s' → r ≡ r'
-span-of-agrees κs a r r' s s' p q = p .2 ∙ sym (q .2)
 
 pub mask-of-agrees : (κs : _) (a : _) (r r' : _) (s s' : _) → mask-of.Post κs a r s → mask-of.Post κs a r' s' → r ≡ r'
 mask-of-agrees κs a r r' s s' p q = p .1 ∙ sym (q .1)

@@ -1,8 +1,8 @@
 -- The only plan signals a row where its tests say so, whatever the row's length. Assumes nothing.
-use mathlib.Core.Path.{_≡_, refl, sym, _∙_, ap, subst}
-use mathlib.Core.Logic.{_≢_, _⊎_, inl, inr, ⊎-elim}
-use mathlib.Core.Bool.{Bool, true, false, cond, _&&_, _||_}
-use Prim.Native.Nat.{ℕ, _+_, _*_, _/_, _%_, _≤_, _<_}
+use mathlib.Core.Path.{_≡_, refl, subst}
+use mathlib.Core.Logic.{_⊎_, inl, inr, ⊎-elim}
+use mathlib.Core.Bool.{Bool, true, false, _&&_, _||_}
+use Prim.Native.Nat.{ℕ, _*_, _/_, _%_, _≤_, _<_}
 use native.Mathlib.Omega.{arith}
 use lib.Dec.{eqb}
 use borrow.Author.Tests.{eqb-true, eq-eqb, lt-ltb, le-ltb}
@@ -10,10 +10,10 @@ use Rattle.resource.specs.Values.{smallerAt}
 use Rattle.resource.proofs.Test.{below-or}
 use Rattle.plan.specs.Kinds.{family, span, takes, blankAt, mustName}
 use Rattle.plan.specs.Plan.{Place, Fits, own, blank, smaller, Signals}
-use Rattle.plan.specs.Guess.{firstNamed, tells, choose, onlyPlan, fitting, within, rightAt}
+use Rattle.plan.specs.Guess.{firstNamed, tells, choose, onlyPlan, fitting}
 use Rattle.plan.proofs.Tests.{decided, refuted}
-use Rattle.plan.proofs.Table.{by-test, not-both, span-0, span-1, span-2, named-high, family-high, span-four, place-segment, leaf, within-yes}
-use Rattle.plan.proofs.Only.{Names, First, first-view, Told, tells-told, Chosen, left, joined, whole, half, alone, chosen, only-known, Ends}
+use Rattle.plan.proofs.Table.{by-test, not-both, span-0, span-1, span-2, named-high, family-high, span-four, place-segment, leaf}
+use Rattle.plan.proofs.Only.{First, first-view, Told, tells-told, Chosen, left, joined, whole, half, alone, chosen, only-known, Ends}
 
 -- ---- the test of `Fits`
 pub fitting-fits : (c p v : ℕ) → fitting c p v ≡ true → Fits c p v

@@ -1,13 +1,13 @@
 -- The layout's answer is 01's, and 01 has one answer for a row. Assumes nothing.
-use mathlib.Core.Path.{_≡_, refl, sym, _∙_, ap, subst}
-use mathlib.Core.Logic.{_⊎_, inl, inr, ⊎-elim}
-use mathlib.Core.Bool.{Bool, true, false, not, _&&_}
+use mathlib.Core.Path.{_≡_, refl, sym, ap, subst}
+use mathlib.Core.Logic.{_⊎_, inl, inr}
+use mathlib.Core.Bool.{Bool, true, false, _&&_}
 use mathlib.Core.List.{List}
-use Prim.Native.Nat.{ℕ, _+_, _*_, _/_, _%_, _≤_, _<_, min}
+use Prim.Native.Nat.{ℕ, _+_, _*_, _/_, _%_, _≤_, _<_}
 use native.Mathlib.Omega.{arith}
 use lib.Dec.{ltb}
 use lib.ListN.{length, List·getD-eq-default}
-use borrow.Author.Tests.{ltb-true, ltb-false, lt-ltb, not-true, not-false}
+use borrow.Author.Tests.{ltb-true, ltb-false, not-true, not-false}
 use Rattle.answer.specs.Answer.{no, refuseIf, _or_}
 use Rattle.answer.specs.Order.{pass-right, pass-if}
 use Rattle.answer.specs.Least.{least-holds, least-before, least-le}
@@ -16,9 +16,9 @@ use Rattle.answer.specs.declared.Out.the-variants.{Pass, Refuse}
 use Rattle.plan.specs.Plan.{at, Place, Fits, Signals}
 use Rattle.plan.specs.Fields.{total}
 use Rattle.plan.specs.Layout.{segments, segmentEnd, Plan, PlanOfEight, SegmentPlan, SegmentOfEight, Laid, accepted, no-plan, over-eight}
-use Rattle.plan.specs.Guess.{onlyPlan, fitting, within, rightAt, wrongAt, overAt, firstWrong, firstOver, answer7, answer8, layoutOf}
+use Rattle.plan.specs.Guess.{onlyPlan, fitting, rightAt, wrongAt, overAt, firstWrong, firstOver, answer7, answer8, layoutOf}
 use Rattle.plan.proofs.Tests.{Tested, ltb-decides}
-use Rattle.plan.proofs.Table.{not-both, known, place-segment, within-yes, yes-within}
+use Rattle.plan.proofs.Table.{not-both, place-segment, within-yes, yes-within}
 use Rattle.plan.proofs.Only.{Ends, signalled, only-known}
 use Rattle.plan.proofs.Found.{fitting-fits, fits-fitting, right-signals}
 use Rattle.plan.proofs.Parts.{restrict}

@@ -5,14 +5,14 @@ use mathlib.Core.Bool.{Bool, true, false, cond}
 use Prim.Native.Nat.{ℕ, zero, suc, _+_, _-_, _*_, _/_, _%_, _≤_, _<_}
 use native.Mathlib.Omega.{arith}
 use lib.Dec.{ltb, eqb}
-use borrow.Author.Tests.{ltb-true, ltb-false, eqb-true, lt-ltb, le-ltb}
+use borrow.Author.Tests.{eqb-true}
 use Rattle.answer.specs.Least.{least-holds, least-le}
 use Rattle.resource.proofs.Test.{below-or}
 use Rattle.plan.specs.Kinds.{family, span, takes, blankAt, mustName}
-use Rattle.plan.specs.Plan.{Place, Fits, own, blank, smaller, Signals}
+use Rattle.plan.specs.Plan.{Place, Fits, Signals}
 use Rattle.plan.specs.Guess.{kindOf, nameOf, orElse, firstNamed, tells, choose, onlyPlan}
 use Rattle.plan.proofs.Tests.{Tested, move, eqb-decides, ltb-decides, or-tested}
-use Rattle.plan.proofs.Table.{by-test, not-both, equal-or, takes-known, known, span-some, span-1, span-2, named-high, high-named, family-back, family-high, span-four, beside, meets, plain-family, full, plain-blank, place-mod, fits-takes, names-fits, Leaf, leaf}
+use Rattle.plan.proofs.Table.{not-both, equal-or, takes-known, known, span-some, span-1, span-2, named-high, high-named, family-back, family-high, span-four, beside, meets, plain-family, full, plain-blank, place-mod, fits-takes, names-fits, Leaf, leaf}
 use Rattle.plan.proofs.Steps.{orElse-low, orElse-high}
 
 -- ---- the kind that a value names

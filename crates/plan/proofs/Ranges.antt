@@ -1,12 +1,12 @@
 -- 01's sentences on what may stand where, in its own ranges of values, as laws of the table of kinds: so the definitions by
 -- the table say what 01 says kind by kind ("What a plan is"). Assumes nothing.
-use mathlib.Core.Path.{_≡_, refl, sym, _∙_, ap, subst}
+use mathlib.Core.Path.{_≡_, refl, sym, _∙_}
 use mathlib.Core.Logic.{_≢_, _⊎_, inl, inr, ⊎-elim}
 use mathlib.Core.Bool.{Bool, true, false, cond, not, _&&_, _||_}
 use Prim.Native.Nat.{ℕ, _+_, _-_, _*_, _/_, _%_, _≤_, _<_}
 use native.Mathlib.Omega.{arith}
-use lib.Dec.{T, eqb, leb, eqb→eq}
-use borrow.Author.Tests.{eqb-true, eqb-false, eq-eqb, ne-eqb, le-leb, lt-leb}
+use lib.Dec.{T, eqb, eqb→eq}
+use borrow.Author.Tests.{eq-eqb, ne-eqb, le-leb}
 use Rattle.resource.specs.Values.{smallerAt, carried, fieldsOf}
 use Rattle.resource.proofs.Test.{both-right, below, every-below, every-between}
 use mir.Facts.{or-yes}

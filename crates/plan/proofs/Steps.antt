@@ -1,7 +1,7 @@
 -- The steps of the engine, as the code takes them. Assumes nothing.
 use mathlib.Core.Path.{_≡_, refl, sym, _∙_, ap}
 use mathlib.Core.Logic.{_⊎_, ⊎-elim, inl, inr}
-use mathlib.Core.Bool.{Bool, true, false, cond, not, _&&_, _||_}
+use mathlib.Core.Bool.{Bool, true, false, cond, _&&_, _||_}
 use Prim.Native.Nat.{ℕ, _+_, _-_, _*_, _/_, _%_, _^_, _≤_, _<_}
 use native.Mathlib.Omega.{arith}
 use native.Mathlib.Numerals.{add-one}
@@ -9,7 +9,7 @@ use native.Mathlib.Nat.{add-zero, zero-add, eq-or-lt-of-le, mod-eq-of-lt}
 use mathlib.Core.List.{List, [], _∷_}
 use lib.Pow.{pow-mono}
 use lib.Dec.{T, eqb, eqb→eq}
-use borrow.Author.Tests.{lt-ltb, le-ltb, le-leb, lt-leb, eq-eqb, ne-eqb, eqb-true}
+use borrow.Author.Tests.{lt-ltb, le-ltb, eq-eqb, ne-eqb, eqb-true}
 use Rattle.answer.specs.Least.{least, least-holds, least-le}
 use Rattle.resource.specs.Values.{fieldsOf, smallerAt}
 use Rattle.resource.proofs.Test.{below-or, below, every-below, Missed, key-or, no-key}

@@ -9,7 +9,7 @@ use native.Mathlib.Nat.{zero-div, mod-lt, mod-eq-of-lt, div-eq-of-lt, mul-add-di
 use lib.Dec.{T, ltb, leb, eqb, eqb→eq}
 use lib.ListN.{List·getD-eq-default}
 use lib.Pow.{pow-mono}
-use borrow.Author.Tests.{ltb-true, leb-true, eqb-true, eqb-false, eq-eqb, ne-eqb, le-leb, lt-ltb, le-ltb}
+use borrow.Author.Tests.{ltb-true, leb-true, eqb-true, eqb-false, le-leb, lt-ltb, le-ltb}
 use Rattle.answer.specs.Least.{least, least-holds}
 use Rattle.resource.specs.Values.{smallerAt}
 use Rattle.resource.proofs.Test.{below-or, both-left, both-right, wherever, met, below, every-below, Missed, key-or, no-key}

@@ -12,7 +12,7 @@ ghost use Rattle.plan.specs.Kinds.{family, span, mask, takes, blankAt};
 ghost use Rattle.plan.specs.Plan.{at};
 ghost use Rattle.plan.specs.Fields.{gives, share, fieldsIn, channelShare, total};
 ghost use Rattle.plan.specs.Layout.{Laid};
-ghost use Rattle.plan.specs.Guess.{nameOf, orElse, firstNamed, tells, choose, onlyPlan, fitting, within, rightAt, firstWrong, firstOver};
+ghost use Rattle.plan.specs.Guess.{nameOf, orElse, firstNamed, tells, choose, onlyPlan, fitting, within, firstWrong, firstOver};
 ghost use Rattle.plan.specs.Value.{fieldsTo, sharedTo, kindsOf, planOf};
 
 // The plan of a row.
@@ -52,7 +52,7 @@ fn family_of(kind: u16) -> u16
 }
 
 // How many positions it lies among.
-pub fn span_of(kind: u16) -> usize
+fn span_of(kind: u16) -> usize
     requires { ⌜ kind < 7 ⌝ }
     ensures { λ r. ⌜ (0 < r) × (r ≤ 4) × (r ≡ span kind) ⌝ }
 {

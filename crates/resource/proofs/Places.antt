@@ -10,11 +10,10 @@ use borrow.Author.Tests.{ne-eqb}
 use lib.Dec.{T, leb, eqb, eqb→eq}
 use lib.ListN.{length}
 use Rattle.resource.specs.declared.Size.the-variants.{S242, S484, S996}
-use Rattle.resource.specs.declared.Piece.the-variants.{Part}
 use Rattle.resource.specs.declared.Resource.the-variants.{Single}
 use Rattle.resource.specs.declared.Run.{Run}
 use Rattle.resource.specs.Values.{set-at}
-use Rattle.resource.specs.Index.{leavingOut, indexOf, resourceAt, positionOf, placeOf}
+use Rattle.resource.specs.Index.{leavingOut, positionOf}
 use Rattle.resource.specs.Runs.{In, runOf, the242, the242If, placesRuns, wide, runsOf}
 use Rattle.resource.proofs.Test.{below-or, both-left, both-right}
 

@@ -1,21 +1,16 @@
 -- What the repeat check keeps of the first j STA-IDs: themselves, and a mark for each. Assumes nothing.
-use mathlib.Core.Path.{_≡_, refl, sym, _∙_, ap}
+use mathlib.Core.Path.{_≡_, refl}
 use mathlib.Core.Bool.{Bool, true, false, cond, _&&_}
-use mathlib.Core.Logic.{⊎-elim}
 use mathlib.Core.List.{List}
-use Prim.Native.Nat.{ℕ, zero, suc, _+_, _/_, _%_, _^_, _≤_, _<_}
+use Prim.Native.Nat.{ℕ, suc, _+_, _<_}
 use native.Mathlib.Omega.{arith}
 use native.Mathlib.Numerals.{add-one}
-use native.Mathlib.Nat.{eq-or-lt-of-le, zero-div, zero-mod, add-zero}
-use native.Mathlib.Decide.{decLt}
 use lib.Dec.{eqb, ltb, leb}
-use lib.ListN.{length, getD, set, replicate}
-use lib.Seq.{getD-set-same, getD-set-other}
-use borrow.Author.Tests.{lt-ltb, le-ltb, eq-eqb, ne-eqb, ltb-true, leb-true}
-use Rattle.answer.specs.Least.{least, least-none, least-cong}
-use Rattle.bits.specs.Bits.{bit, put}
-use Rattle.bits.specs.Writes.{put-in, put-before, put-after}
-use Rattle.stations.specs.Stations.{seenBefore, repeated}
+use lib.ListN.{length, getD, set}
+use borrow.Author.Tests.{lt-ltb, le-ltb, ltb-true}
+use Rattle.answer.specs.Least.{least, least-none}
+use Rattle.bits.specs.Bits.{bit}
+use Rattle.stations.specs.Stations.{repeated}
 
 -- ---- an array that holds them
 

@@ -5,7 +5,7 @@ use Rattle.plan.proofs.Value.{fields-most, fields-start, fields-next, f
 use Rattle.plan.specs.Value.{fieldsTo}
 use Rattle.plan.specs.Plan.{at}
 use Prim.Native.Nat.{_+_, _-_, _%_, _≤_}
-use mathlib.Core.Path.{_≡_, sym, _∙_}
+use mathlib.Core.Path.{_≡_, _∙_}
 use borrow.Author.Needs.{needs}
 use native.Mathlib.Omega.{arith}
 use Rattle.plan.proofs.channel_fields.Statement.{statement}

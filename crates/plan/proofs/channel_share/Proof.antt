@@ -2,7 +2,6 @@
 use Rattle.plan.proofs.Steps.{channel-own, channel-other}
 use mathlib.Core.Path.{_∙_}
 use native.Mathlib.Omega.{arith}
-use borrow.Author.Tests.{ne-eqb}
 use borrow.Author.Needs.{needs}
 use Rattle.plan.proofs.channel_share.Statement.{statement}
 use Rattle.plan.proofs.channel_share.Tie as tie

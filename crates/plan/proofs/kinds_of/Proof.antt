@@ -6,7 +6,6 @@ use Rattle.answer.specs.Filled.{filled, filled-start}
 use lib.ListN.{length, replicate}
 use Prim.Native.Nat.{_-_, _%_, _≤_, _<_}
 use mathlib.Core.Path.{_≡_}
-use borrow.Author.Needs.{needs}
 use native.Mathlib.Omega.{arith}
 use Rattle.plan.proofs.kinds_of.Statement.{statement}
 use Rattle.plan.proofs.kinds_of.Tie as tie

@@ -2,7 +2,6 @@
 use Rattle.records.specs.Records.{resourceColumn, larger}
 use Rattle.records.proofs.Larger.{larger-high}
 use Rattle.resource.specs.Index.{resourceAt, indexOf}
-use native.Mathlib.Omega.{arith}
 use borrow.Author.Needs.{needs}
 use Rattle.records.proofs.larger_of.Statement.{statement}
 use Rattle.records.proofs.larger_of.Tie as tie

@@ -4,7 +4,7 @@ use Rattle.stations.proofs.Gathered.{entered-none, entered-more}
 use Rattle.stations.specs.Kept.{Entered}
 use Rattle.stations.specs.Stations.{stationAt}
 use Prim.Native.Nat.{_-_, _≤_}
-use mathlib.Core.Path.{_≡_, _∙_}
+use mathlib.Core.Path.{_≡_}
 use borrow.Author.Needs.{needs}
 use native.Mathlib.Omega.{arith}
 use Rattle.stations.proofs.enter_stations.Statement.{statement}
