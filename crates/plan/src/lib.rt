@@ -426,7 +426,7 @@ fn channel_fields(row: &[u16], channel: usize) -> usize
     sum
 }
 
-// The plan of a row, in one go over it.
+// The plan of a row.
 pub fn plan_of(row: &[u16]) -> Plan
     requires { ⌜ length (now row) ≤ 16 ⌝ }
     ensures { λ r. ⌜ r ≡ planOf (now (row .entry)) ⌝ }
