@@ -1,1 +1,4 @@
 pub mod Agree
+pub mod Least
+pub mod Lists
+pub mod Order

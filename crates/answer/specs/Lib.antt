@@ -1,4 +1,4 @@
 pub mod Least
 pub mod Answer
 pub mod Order
-pub mod Filled
+pub mod Lists

@@ -11,36 +11,36 @@ pub struct Answer {
 }
 
 // What the checks so far have come to.
-pub enum Out {
+pub enum Outcome {
     Pass,
     Refuse(Answer),
 }
 
 // One check: the refusal with its number, channel and place, where the test holds.
-pub fn refuse_if(test: bool, number: u32, channel: u32, place: usize) -> Out
+pub fn refuse_if(test: bool, number: u32, channel: u32, place: usize) -> Outcome
     ensures { λ r. ⌜ r ≡ refuseIf test (no number channel place) ⌝ }
 {
     if test {
-        Out::Refuse(Answer {
+        Outcome::Refuse(Answer {
             number,
             channel,
             place,
         })
     } else {
-        Out::Pass
+        Outcome::Pass
     }
 }
 
 // The first of two that refuses. Made of the answer's numbers anew, so that the compiler keeps them in registers and copies no
 // outcome through memory.
-pub fn or_else(a: Out, b: Out) -> Out
+pub fn or_else(a: Outcome, b: Outcome) -> Outcome
     ensures { λ r. ⌜ r ≡ (a or b) ⌝ }
 {
     match a {
-        Out::Refuse(x) => Out::Refuse(x),
-        Out::Pass => match b {
-            Out::Refuse(y) => Out::Refuse(y),
-            Out::Pass => Out::Pass,
+        Outcome::Refuse(x) => Outcome::Refuse(x),
+        Outcome::Pass => match b {
+            Outcome::Refuse(y) => Outcome::Refuse(y),
+            Outcome::Pass => Outcome::Pass,
         },
     }
 }

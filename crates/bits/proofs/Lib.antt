@@ -1,2 +1,5 @@
 pub mod Agree
 pub mod Windows
+pub mod Writes
+pub mod Fields
+pub mod Differs

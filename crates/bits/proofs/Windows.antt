@@ -1,4 +1,4 @@
--- The laws behind the windows of 64 bits, over every place and width. Assumes nothing.
+-- The laws behind the windows of 64 bits, over every place and width.
 use Prim.Native.Nat.{ℕ, _+_, _-_, _*_, _/_, _%_, _^_, _≤_, _<_}
 use mathlib.Core.Path.{_≡_, sym, _∙_, ap, ap₂, subst}
 use mathlib.Core.List.{List}
@@ -7,7 +7,7 @@ use native.Mathlib.Omega.{arith}
 use lib.ListN.{getD, length}
 use lib.Pow as P
 use Rattle.bits.specs.Bits.{field, lacks}
-use Rattle.bits.specs.Fields.{field-lt, field-part, field-split, field-byte, field-lacks, lacks-all}
+use Rattle.bits.proofs.Fields.{field-lt, field-part, field-split, field-byte, field-lacks, lacks-all}
 
 -- the low end of a low end
 pub low-low : (x n m : ℕ) → m ≤ n → x % 2 ^ n % 2 ^ m ≡ x % 2 ^ m

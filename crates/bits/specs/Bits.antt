@@ -1,13 +1,14 @@
--- Bits and fields of a byte list. Assumes nothing.
+-- Bits and fields of a byte list.
 --
 -- 01, "Bandwidth and channels": "its first bit is the lowest bit of byte 0; all fields go lowest bit first."
 -- Past the end of the list every bit is 0, so nothing here asks for a range.
-use Prim.Native.Nat.{ℕ, zero, suc, _+_, _-_, _*_, _/_, _%_, _^_}
+use mathlib.Core.Path.{_≡_}
 use mathlib.Core.Bool.{Bool, cond, not, _&&_}
 use mathlib.Core.List.{List}
+use Prim.Native.Nat.{ℕ, zero, suc, _+_, _-_, _*_, _/_, _%_, _^_, _<_}
 use lib.ListN.{getD, length}
 use lib.Dec.{eqb, leb, ltb}
-use Rattle.answer.specs.Filled.{build}
+use Rattle.answer.specs.Lists.{build}
 
 -- bit i
 unfoldable pub bit : List ℕ → ℕ → ℕ
@@ -42,3 +43,11 @@ within at n i = leb at i && ltb i (at + n)
 -- the list with the n bits from `at` made those of v: bit i is v's bit i - at where at ≤ i < at + n, else the list's own
 unfoldable pub put : List ℕ → ℕ → ℕ → ℕ → List ℕ
 put s at n v = bytes (λ i. cond (within at n i) (v / 2 ^ (i - at)) (bit s i)) (length s)
+
+-- a list of bytes: no element is above 255
+pub record Small (s : List ℕ) : Type 0 where
+  pub small : (k : ℕ) → getD s k 0 < 256
+
+-- the first n bits of s and t are the same
+pub record Same (s t : List ℕ) (n : ℕ) : Type 0 where
+  pub same : (i : ℕ) → i < n → bit s i ≡ bit t i

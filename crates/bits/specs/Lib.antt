@@ -1,4 +1,2 @@
 pub mod Bits
-pub mod Fields
-pub mod Writes
-pub mod Differs
+pub mod Engine

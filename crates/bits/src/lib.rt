@@ -5,7 +5,8 @@ ghost use Prim.Native.Nat.{_+_, _-_, _*_, _%_, _^_, _≤_, _<_, min};
 ghost use lib.ListN.{getD, length};
 ghost use Rattle.answer.specs.Least.{least};
 ghost use Rattle.bits.specs.Bits.{bit, field, lacks, differs, put};
-ghost use Rattle.bits.specs.Writes.{Small, merge};
+ghost use Rattle.bits.specs.Bits.{Small};
+ghost use Rattle.bits.specs.Engine.{merge};
 
 // Byte i.
 pub fn byte_at(s: &[u8], i: usize) -> u8

@@ -1,13 +1,13 @@
--- What the contracts of the C entries leave open: nothing. Assumes nothing.
+-- What the contracts of the C entries leave open: nothing.
 use mathlib.Core.Path.{_≡_, sym, _∙_, ap}
 use denote.Ref.{now}
 use lib.ListN.{length}
 use Prim.Native.Nat.{_*_, _/_}
 use Rattle.answer.specs.declared.Answer.{Answer}
-use Rattle.answer.specs.Order.{after-kept}
-use Rattle.answer.specs.Filled.{filled}
+use Rattle.answer.proofs.Order.{after-kept}
+use Rattle.answer.specs.Lists.{filled}
 use Rattle.frame.specs.Words.{wordCount, wordsOf}
-use Rattle.reader.specs.Table.{reading}
+use Rattle.reader.specs.Table.{readOutcome}
 use Rattle.reader.specs.Result.{answerOf}
 use Rattle.octets.specs.Octets.{byteAt}
 use Rattle.brachymel.specs.Bytes.{readBytes}
@@ -35,5 +35,5 @@ read-keeps κs a r s p n =
     let y = now (a .1 .1 .0) in
     let w = now (a .1 .1 .1 .0) in
     p .1
-    ∙ after-kept (reading (a .0) x y (length w / 4)) (wordCount (a .0) x y) (filled (byteAt (wordsOf (a .0) x y)) (4 * wordCount (a .0) x y) w) w
+    ∙ after-kept (readOutcome (a .0) x y (length w / 4)) (wordCount (a .0) x y) (filled (byteAt (wordsOf (a .0) x y)) (4 * wordCount (a .0) x y) w) w
     (λ e. n (ap (λ (z : Answer). z .number) (p .0) ∙ e))

@@ -1,4 +1,4 @@
--- The C entries' answers are by the same rows of 01's table, and a refusal writes nothing. Assumes nothing.
+-- The C entries' answers are by the same bytesChecks of 01's table, and a refusal writes nothing.
 use mathlib.Core.Path.{_≡_, refl, _∙_, ap}
 use mathlib.Core.Bool.{true, not}
 use mathlib.Core.List.{List, [], _∷_}
@@ -7,51 +7,47 @@ use lib.Dec.{eqb}
 use lib.ListN.{length}
 use denote.Ref.{now}
 use Rattle.answer.specs.Answer.{_or_, answerAt}
-use Rattle.answer.specs.Order.{Only, only-if, only-or, firstOf, first-chain, Gives, none, more, distinct, absent, after-kept}
+use Rattle.answer.specs.Order.{firstOf, Judged}
 use Rattle.answer.specs.declared.Answer.{Answer}
-use Rattle.answer.specs.declared.Out.{Out}
-use Rattle.answer.specs.declared.Out.the-variants.{Pass, Refuse}
-use Rattle.table.specs.Table.{check1}
-use Rattle.table.specs.Judged.{Judged, judged}
-use Rattle.candidate.specs.Candidate.{needed, candidate}
-use Rattle.writer.specs.Result.{check13, check14, writing, front}
-use Rattle.writer.proofs.Exactly.{numbers, only-1, only-13, only-14}
+use Rattle.answer.specs.declared.Outcome.{Outcome}
+use Rattle.answer.specs.declared.Outcome.the-variants.{Pass, Refuse}
+use Rattle.answer.proofs.Order.{Only, only-if, only-or, first-chain, Gives, none, more, distinct, absent, after-kept, judged}
+use Rattle.halves.specs.Table.{check1}
+use Rattle.candidate.specs.Engine.{needed, candidate}
+use Rattle.writer.specs.Result.{check13, check14, writeOutcome, front, writeNumbers}
+use Rattle.writer.proofs.Exactly.{only-1, only-13, only-14}
 use Rattle.listing.proofs.Facts.{list-kept}
 use Rattle.octets.specs.Octets.{wordsIn}
-use Rattle.brachymel.specs.Bytes.{ragged, writingText, writeAnswer, writeChannel}
+use Rattle.brachymel.specs.Bytes.{ragged, bytesOutcome, writeAnswer, writeChannel, bytesChecks}
 use Rattle.brachymel.proofs.brachymel_write.Reads as write
 use Rattle.brachymel.proofs.brachymel_list.Reads as list
-
--- the writer's rows, of a text: what is no whole words is 13 too
-abbrev pub rows : ℕ → List ℕ → ℕ → ℕ → List Out
-rows bw t n m = check1 bw ∷ (ragged t or check13 bw (wordsIn t)) ∷ check14 bw (wordsIn t) n m ∷ []
 
 only-ragged : (t : List ℕ) → Only 13 (ragged t)
 unfolding ragged
 only-ragged t = only-if (not (eqb (length t % 4) 0)) 13 0 0
 
-numbers-distinct : distinct (0 ∷ numbers) ≡ true
+numbers-distinct : distinct (0 ∷ writeNumbers) ≡ true
 unfolding distinct absent
 numbers-distinct = refl
 
-rows-give : (bw : ℕ) (t : List ℕ) (n m : ℕ) → Gives numbers (rows bw t n m)
+rows-give : (bw : ℕ) (t : List ℕ) (n m : ℕ) → Gives writeNumbers (bytesChecks bw t n m)
 rows-give bw t n m =
     more (only-1 bw (wordsIn t) n m)
     (more (only-or (only-ragged t) (only-13 bw (wordsIn t) n m)) (more (only-14 bw (wordsIn t) n m) none))
 
-writing-rows : (bw : ℕ) (t : List ℕ) (n m : ℕ) → firstOf (rows bw t n m) ≡ writingText bw t n m
-unfolding writingText writing _or_
+writing-rows : (bw : ℕ) (t : List ℕ) (n m : ℕ) → firstOf (bytesChecks bw t n m) ≡ bytesOutcome bw t n m
+unfolding bytesOutcome writeOutcome _or_
 writing-rows bw t n m =
     first-chain (check1 bw) ((ragged t or check13 bw (wordsIn t)) ∷ check14 bw (wordsIn t) n m ∷ [])
     ∙ twice (check1 bw) (ragged t) (check13 bw (wordsIn t)) (check14 bw (wordsIn t) n m)
   where
     -- a first check that is looked at twice
-    twice : (o p q r : Out) → o or (p or q) or r ≡ o or p or (o or q or r)
+    twice : (o p q r : Outcome) → o or (p or q) or r ≡ o or p or (o or q or r)
     twice Pass Pass q r = refl
     twice Pass (Refuse x) q r = refl
     twice (Refuse x) p q r = refl
 
-pub write-judged : (bw : ℕ) (t : List ℕ) (n m : ℕ) → Judged numbers (rows bw t n m) (needed bw (wordsIn t)) (writeAnswer bw t n m)
+pub write-judged : (bw : ℕ) (t : List ℕ) (n m : ℕ) → Judged writeNumbers (bytesChecks bw t n m) (needed bw (wordsIn t)) (writeAnswer bw t n m)
 unfolding writeAnswer
 write-judged bw t n m = rw (writing-rows bw t n m) at (judged (rows-give bw t n m) numbers-distinct (needed bw (wordsIn t)))
 
@@ -64,7 +60,7 @@ write-keeps κs a r s p n =
     let t = now (a .1 .0) in
     let x = now (a .1 .1 .0) in
     let y = now (a .1 .1 .1 .0) in
-    let o = writingText bw t (length x) (length y) in
+    let o = bytesOutcome bw t (length x) (length y) in
     let z : answerAt o (needed bw (wordsIn t)) .number ≡ 0 → ⊥ = λ e. n (ap (λ (z : Answer). z .number) (p .0) ∙ e) in (
       p .1 .0 ∙ after-kept o (needed bw (wordsIn t)) (front (candidate bw (wordsIn t) 1) x) x z,
       p .1 .1 ∙ after-kept o (needed bw (wordsIn t)) (front (candidate bw (wordsIn t) 2) y) y z,

@@ -1,54 +1,54 @@
--- Reading through words of its own: what comes of the lent bytes. Assumes nothing.
+-- Reading through words of its own: what comes of the lent bytes.
 use mathlib.Core.Path.{_≡_, sym, _∙_, ap}
 use mathlib.Core.List.{List, _++_, append-assoc}
 use Prim.Native.Nat.{ℕ, _*_, _/_, _%_, _^_, _≤_, _<_, min}
 use native.Mathlib.Omega.{arith}
 use lib.ListN.{length, drop, length-append, List·getD-append}
 use Rattle.answer.specs.Answer.{answerAt}
-use Rattle.answer.specs.Order.{after-kept, after-passed}
-use Rattle.answer.specs.Filled.{filled, filled-cong}
+use Rattle.answer.proofs.Order.{after-kept, after-passed}
+use Rattle.answer.specs.Lists.{filled, at}
+use Rattle.answer.proofs.Lists.{filled-cong}
 use Rattle.answer.specs.declared.Answer.{Answer}
-use Rattle.answer.specs.declared.Out.{Out}
-use Rattle.answer.specs.declared.Out.the-variants.{Pass}
-use Rattle.words.specs.Words.{nth}
+use Rattle.answer.specs.declared.Outcome.{Outcome}
+use Rattle.answer.specs.declared.Outcome.the-variants.{Pass}
 use Rattle.frame.specs.Words.{wordCount, wordsOf}
-use Rattle.reader.specs.Table.{reading}
+use Rattle.reader.specs.Table.{readOutcome}
 use Rattle.reader.specs.Result.{answerOf, wordsAfter}
-use Rattle.reader.specs.Stages.{reading-pass}
-use Rattle.frame.specs.Determine.{words-length}
+use Rattle.reader.proofs.Stages.{reading-pass}
+use Rattle.frame.proofs.Determine.{words-length}
 use Rattle.reader.proofs.Exactly.{accepted-exactly}
 use Rattle.octets.specs.Octets.{byteAt}
 use Rattle.brachymel.specs.Bytes.{readAnswer, readBytes}
-use Rattle.brachymel.specs.Rooms.{reading-room}
+use Rattle.brachymel.proofs.Rooms.{reading-room}
 
 module _ (bw : ℕ) (a b w p p′ : List ℕ) (x : Answer) (er : length p ≡ min (length w / 4) 154) (ex : x ≡ answerOf bw a b (length p)) (ep : p′ ≡ wordsAfter bw a b p) where
-  same-reading : reading bw a b (length p) ≡ reading bw a b (length w / 4)
-  same-reading = ap (reading bw a b) er ∙ reading-room bw a b (length w / 4)
+  same-reading : readOutcome bw a b (length p) ≡ readOutcome bw a b (length w / 4)
+  same-reading = ap (readOutcome bw a b) er ∙ reading-room bw a b (length w / 4)
 
   pub answer-is : x ≡ readAnswer bw a b w
   unfolding answerOf
-  answer-is = ex ∙ ap (λ (o : Out). answerAt o (wordCount bw a b)) same-reading
+  answer-is = ex ∙ ap (λ (o : Outcome). answerAt o (wordCount bw a b)) same-reading
 
   pub kept-bytes : (x .number ≡ 0 → ⊥) → w ≡ readBytes bw a b w
   unfolding readBytes answerOf
   kept-bytes n =
-      sym (after-kept (reading bw a b (length w / 4)) (wordCount bw a b) (filled (byteAt (wordsOf bw a b)) (4 * wordCount bw a b) w) w
+      sym (after-kept (readOutcome bw a b (length w / 4)) (wordCount bw a b) (filled (byteAt (wordsOf bw a b)) (4 * wordCount bw a b) w) w
       (λ e. n (ap (λ (y : Answer). y .number) answer-is ∙ e)))
 
   module _ (z : x .number ≡ 0) where
-    passed : reading bw a b (length p) ≡ Pass
+    passed : readOutcome bw a b (length p) ≡ Pass
     passed = accepted-exactly bw a b (length p) (ap (λ (y : Answer). y .number) (sym ex) ∙ z)
 
     pub place-is : x .place ≡ wordCount bw a b
     unfolding answerOf
-    place-is = ap (λ (y : Answer). y .place) ex ∙ ap (λ (o : Out). answerAt o (wordCount bw a b) .place) passed
+    place-is = ap (λ (y : Answer). y .place) ex ∙ ap (λ (o : Outcome). answerAt o (wordCount bw a b) .place) passed
 
     pub room-for : wordCount bw a b ≤ length p
     room-for = reading-pass bw a b (length p) passed .room-enough
 
     words-there : p′ ≡ wordsOf bw a b ++ drop (wordCount bw a b) p
     unfolding wordsAfter
-    words-there = ep ∙ after-passed (reading bw a b (length p)) _ _ passed
+    words-there = ep ∙ after-passed (readOutcome bw a b (length p)) _ _ passed
 
     pub holds-words : (rest : List ℕ) → wordCount bw a b ≤ length (p′ ++ rest)
     holds-words rest =
@@ -58,9 +58,9 @@ module _ (bw : ℕ) (a b w p p′ : List ℕ) (x : Answer) (er : length p ≡ mi
     unfolding byteAt
     same-byte rest j l =
         let i : j / 4 < length (wordsOf bw a b) = omega (arith, words-length bw a b) in
-        let e : nth (p′ ++ rest) (j / 4) ≡ nth (wordsOf bw a b) (j / 4) =
-        ap (λ (q : List ℕ). nth (q ++ rest) (j / 4)) words-there
-        ∙ ap (λ (q : List ℕ). nth q (j / 4)) (append-assoc (wordsOf bw a b) (drop (wordCount bw a b) p) rest)
+        let e : at (p′ ++ rest) (j / 4) ≡ at (wordsOf bw a b) (j / 4) =
+        ap (λ (q : List ℕ). at (q ++ rest) (j / 4)) words-there
+        ∙ ap (λ (q : List ℕ). at q (j / 4)) (append-assoc (wordsOf bw a b) (drop (wordCount bw a b) p) rest)
         ∙ List·getD-append (wordsOf bw a b) (drop (wordCount bw a b) p ++ rest) 0 (j / 4) i in
         ap (λ (q : ℕ). q / 256 ^ (j % 4) % 256) e
 
@@ -69,4 +69,4 @@ module _ (bw : ℕ) (a b w p p′ : List ℕ) (x : Answer) (er : length p ≡ mi
     bytes-are rest out e =
         e ∙ ap (λ (n : ℕ). filled (byteAt (p′ ++ rest)) (4 * n) w) place-is
         ∙ filled-cong (byteAt (p′ ++ rest)) (byteAt (wordsOf bw a b)) (4 * wordCount bw a b) w (same-byte rest)
-        ∙ sym (after-passed (reading bw a b (length w / 4)) _ _ (sym same-reading ∙ passed))
+        ∙ sym (after-passed (readOutcome bw a b (length w / 4)) _ _ (sym same-reading ∙ passed))

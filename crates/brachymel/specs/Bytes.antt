@@ -1,23 +1,23 @@
--- Words as bytes, for C. Assumes nothing.
+-- Words as bytes, for C.
 --
 -- 01, "What comes back": "The capture software is written in C and calls reader and writer with numbers and bytes, words then being
 -- little-endian. For the reader's room only whole words count".
 use mathlib.Core.Bool.{not}
-use mathlib.Core.List.{List}
+use mathlib.Core.List.{List, [], _∷_}
 use Prim.Native.Nat.{ℕ, _*_, _/_, _%_}
 use lib.Dec.{eqb}
 use lib.ListN.{length}
 use Rattle.answer.specs.Answer.{no, refuseIf, _or_, answerAt, after}
-use Rattle.answer.specs.Filled.{filled}
+use Rattle.answer.specs.Lists.{filled}
 use Rattle.answer.specs.declared.Answer.{Answer}
-use Rattle.answer.specs.declared.Out.{Out}
-use Rattle.octets.specs.Octets.{byteAt, wordsIn}
-use Rattle.table.specs.Table.{check1}
+use Rattle.answer.specs.declared.Outcome.{Outcome}
+use Rattle.halves.specs.Table.{check1}
 use Rattle.frame.specs.Words.{wordCount, wordsOf}
-use Rattle.reader.specs.Table.{reading}
+use Rattle.reader.specs.Table.{readOutcome}
 use Rattle.reader.specs.Result.{answerOf}
-use Rattle.candidate.specs.Candidate.{needed, candidate}
-use Rattle.writer.specs.Result.{writing, front}
+use Rattle.candidate.specs.Engine.{needed, candidate}
+use Rattle.writer.specs.Result.{writeOutcome, front, check13, check14}
+use Rattle.octets.specs.Octets.{byteAt, wordsIn}
 
 -- "0 and 12 give places in words"
 abbrev pub readAnswer : ℕ → List ℕ → List ℕ → List ℕ → Answer
@@ -25,21 +25,25 @@ readAnswer bw a b w = answerOf bw a b (length w / 4)
 
 -- the lent bytes afterwards; those past the words keep what they held
 unfoldable pub readBytes : ℕ → List ℕ → List ℕ → List ℕ → List ℕ
-readBytes bw a b w = after (reading bw a b (length w / 4)) (filled (byteAt (wordsOf bw a b)) (4 * wordCount bw a b) w) w
+readBytes bw a b w = after (readOutcome bw a b (length w / 4)) (filled (byteAt (wordsOf bw a b)) (4 * wordCount bw a b) w) w
 
 -- ---- the writer's words
 
 -- "a word text not divisible by four gives the writer's 13"
-unfoldable pub ragged : List ℕ → Out
+unfoldable pub ragged : List ℕ → Outcome
 ragged t = refuseIf (not (eqb (length t % 4) 0)) (no 13 0 0)
 
 -- of a text, n and m bytes lent for the channels: 1, 13, 14 in that order
-unfoldable pub writingText : ℕ → List ℕ → ℕ → ℕ → Out
-writingText bw t n m = check1 bw or ragged t or writing bw (wordsIn t) n m
+unfoldable pub bytesOutcome : ℕ → List ℕ → ℕ → ℕ → Outcome
+bytesOutcome bw t n m = check1 bw or ragged t or writeOutcome bw (wordsIn t) n m
 
 unfoldable pub writeAnswer : ℕ → List ℕ → ℕ → ℕ → Answer
-writeAnswer bw t n m = answerAt (writingText bw t n m) (needed bw (wordsIn t))
+writeAnswer bw t n m = answerAt (bytesOutcome bw t n m) (needed bw (wordsIn t))
 
 -- channel c afterwards, which was d
 unfoldable pub writeChannel : ℕ → List ℕ → ℕ → ℕ → ℕ → List ℕ → List ℕ
-writeChannel bw t n m c d = after (writingText bw t n m) (front (candidate bw (wordsIn t) c) d) d
+writeChannel bw t n m c d = after (bytesOutcome bw t n m) (front (candidate bw (wordsIn t) c) d) d
+
+-- the writer's rows, of a text: what is no whole words is 13 too
+abbrev pub bytesChecks : ℕ → List ℕ → ℕ → ℕ → List Outcome
+bytesChecks bw t n m = check1 bw ∷ (ragged t or check13 bw (wordsIn t)) ∷ check14 bw (wordsIn t) n m ∷ []

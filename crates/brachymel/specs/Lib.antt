@@ -1,3 +1,2 @@
 pub mod Bytes
-pub mod Rooms
-pub mod Early
+pub mod Engine

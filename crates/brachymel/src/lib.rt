@@ -1,12 +1,12 @@
 // The C entries: numbers and bytes. include/brachymel.h is what C sees of them.
 use answer::Answer;
-use answer::Out;
+use answer::Outcome;
 ghost use mathlib.Core.Path.{_≡_};
 ghost use Prim.Native.Nat.{_/_, _%_, _≤_, _<_};
 ghost use lib.ListN.{length};
 ghost use Rattle.octets.specs.Octets.{wordsIn};
 ghost use Rattle.brachymel.specs.Bytes.{readAnswer, readBytes, writeAnswer, writeChannel};
-ghost use Rattle.brachymel.specs.Early.{early};
+ghost use Rattle.brachymel.specs.Engine.{early};
 ghost use Rattle.writer.specs.Result.{answerOf, channelAfter};
 ghost use Rattle.listed.specs.Listing.{listAnswer, listAfter};
 
@@ -71,7 +71,7 @@ pub extern "C" fn brachymel_write(
 {
     let n = words.len() / 4;
     let early = refused_early(bandwidth, words.len(), n);
-    if let Out::Refuse(x) = early {
+    if let Outcome::Refuse(x) = early {
         return x;
     }
     let mut local = [0u32; 154];
@@ -79,7 +79,7 @@ pub extern "C" fn brachymel_write(
 }
 
 // 1, and the 13 of a text that is not whole words or has more than any frame.
-fn refused_early(bandwidth: u32, bytes: usize, n: usize) -> Out
+fn refused_early(bandwidth: u32, bytes: usize, n: usize) -> Outcome
     ensures { λ r. ⌜ r ≡ early bandwidth bytes n ⌝ }
 {
     answer::or_else(

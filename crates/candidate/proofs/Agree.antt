@@ -1,4 +1,4 @@
--- Any two results, and any two states of a lent channel, that a public function's contract allows for one input agree. Assumes nothing.
+-- Any two results, and any two states of a lent channel, that a public function's contract allows for one input agree.
 use mathlib.Core.Path.{_≡_, sym, _∙_}
 use denote.Ref.{now}
 use Rattle.candidate.proofs.count_in.Reads as count-in

@@ -1,1 +1,5 @@
 pub mod Agree
+pub mod Contents
+pub mod Built
+pub mod Held
+pub mod Steps

@@ -1,5 +1,2 @@
-pub mod Candidate
-pub mod Carries
-pub mod Built
-pub mod Held
-pub mod Steps
+pub mod Length
+pub mod Engine

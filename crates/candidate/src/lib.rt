@@ -2,15 +2,16 @@
 ghost use mathlib.Core.Path.{_≡_};
 ghost use Prim.Native.Nat.{_+_, _<_, _≤_};
 ghost use Rattle.channel.specs.Layout.{subfieldsIn, valueAt, userAt, blocks};
-ghost use Rattle.words.specs.Words.{nth};
-ghost use Rattle.words.specs.Back.{userField};
-ghost use Rattle.candidate.specs.Candidate.{puts, seal, sealSecond, sealBlocks, valueIn, countIn, firstIn, bytesFor, channelIn};
+ghost use Rattle.answer.specs.Lists.{at};
+ghost use Rattle.words.specs.Engine.{userField};
+ghost use Rattle.candidate.specs.Engine.{puts, seal, sealSecond, sealBlocks, valueIn, countIn, firstIn, channelIn};
+ghost use Rattle.candidate.specs.Length.{bytesFor};
 
 // ---- what the words say
 
 // Word i, and 0 past the end.
 fn word_at(words: &[u32], i: usize) -> u32
-    ensures { λ r. ⌜ r ≡ nth (now (words .entry)) i ⌝ }
+    ensures { λ r. ⌜ r ≡ at (now (words .entry)) i ⌝ }
 {
     if i < words.len() { words[i] } else { 0 }
 }
@@ -61,7 +62,7 @@ fn put_values(d: &mut [u8], bw: u32, words: &[u32], channel: u32)
 // n User fields, of the words from `first` on.
 fn put_users(d: &mut [u8], bw: u32, words: &[u32], first: usize, n: usize)
     requires { ⌜ (first ≤ 82) × (n ≤ 72) ⌝ }
-    ensures { λ _. ⌜ now (d .exit) ≡ puts (userAt bw) 22 (λ i. userField (nth (now (words .entry)) (first + i))) n (now (d .entry)) ⌝ }
+    ensures { λ _. ⌜ now (d .exit) ≡ puts (userAt bw) 22 (λ i. userField (at (now (words .entry)) (first + i))) n (now (d .entry)) ⌝ }
 {
     let mut i: usize = 0;
     while i < n {
@@ -76,7 +77,7 @@ fn put_check(d: &mut [u8], at: usize, n: usize)
     requires { ⌜ (at ≤ 2053) × (n ≤ 54) ⌝ }
     ensures { λ _. ⌜ now (d .exit) ≡ seal at n (now (d .entry)) ⌝ }
 {
-    let c = check4::check_at(d, at, n);
+    let c = block::check_at(d, at, n);
     bits::put_field(d, at + n, 4, c);
 }
 

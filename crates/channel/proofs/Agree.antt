@@ -1,4 +1,4 @@
--- Any two results that a public function's contract allows for one input agree: each contract is an equation. Assumes nothing.
+-- Any two results that a public function's contract allows for one input agree: each contract is an equation.
 use mathlib.Core.Path.{_≡_, sym, _∙_}
 use Rattle.channel.proofs.is_present.Reads as is-present
 use Rattle.channel.proofs.positions_of.Reads as positions-of

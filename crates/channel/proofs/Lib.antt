@@ -1,2 +1,3 @@
 pub mod Windows
 pub mod Agree
+pub mod Laws

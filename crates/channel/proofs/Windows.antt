@@ -1,4 +1,4 @@
--- The values in the windows are the row. Assumes nothing.
+-- The values in the windows are the row.
 use mathlib.Core.Path.{_≡_, refl, sym, _∙_, ap}
 use mathlib.Core.Bool.{Bool, true, false, cond, not, false≢true}
 use mathlib.Core.List.{List}
@@ -9,12 +9,12 @@ use lib.Dec.{eqb}
 use lib.ListN.{length, getD, set, replicate, length-set}
 use lib.Seq.{getD-set-same, getD-set-other}
 use borrow.Author.Tests.{ltb-false, eq-eqb, ne-eqb}
-use Rattle.answer.specs.Filled.{filled-is}
+use Rattle.answer.proofs.Lists.{filled-is}
 use Rattle.bits.specs.Bits.{field}
-use Rattle.bits.specs.Fields.{field-part}
+use Rattle.bits.proofs.Fields.{field-part}
 use Rattle.channel.specs.Layout.{positions, present, firsts, seconds, secondAt, hasSecond, subfields, valueAt, value, rowAt, rowIn16}
-use Rattle.channel.specs.Laws.{present-1, absent-2, present-wide, positions-le, firsts-le, seconds-le, half, value-first, value-second}
-use Rattle.channel.specs.Windows.{firstWindow, Turns}
+use Rattle.channel.proofs.Laws.{present-1, absent-2, present-wide, positions-le, firsts-le, seconds-le, half, value-first, value-second}
+use Rattle.channel.specs.Engine.{firstWindow, Turns}
 
 -- ---- the turns
 

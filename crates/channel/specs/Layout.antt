@@ -1,4 +1,4 @@
--- Where everything stands in a channel, by bandwidth code (01, "Bandwidth and channels"). Assumes nothing.
+-- Where everything stands in a channel, by bandwidth code (01, "Bandwidth and channels").
 --
 -- Bits count from 0 in each channel. Every definition is total; past code 4, and past a list's end, it says nothing of 01.
 use Prim.Native.Nat.{ℕ, zero, suc, _+_, _-_, _*_, _/_, _%_, _^_}
@@ -6,7 +6,7 @@ use mathlib.Core.Bool.{Bool, cond, _||_}
 use mathlib.Core.List.{List}
 use lib.ListN.{replicate}
 use lib.Dec.{eqb, ltb}
-use Rattle.answer.specs.Filled.{build, filled}
+use Rattle.answer.specs.Lists.{build, filled}
 use Rattle.bits.specs.Bits.{field}
 use Rattle.resource.specs.Values.{fieldsOf}
 

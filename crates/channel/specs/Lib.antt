@@ -1,3 +1,2 @@
 pub mod Layout
-pub mod Laws
-pub mod Windows
+pub mod Engine

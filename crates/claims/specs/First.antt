@@ -1,4 +1,4 @@
--- The first demand. Assumes nothing.
+-- The first demand.
 --
 -- "Any bytes, any bandwidth code, any buffer: each call ends with an acceptance or one numbered refusal from the table in document 01, in the
 -- order set there. No caller checks anything first. A refused call writes nothing into the caller's buffers."
@@ -11,23 +11,18 @@ use mathlib.Core.Path.{_≡_}
 use Prim.Native.Nat.{_/_}
 use lib.ListN.{length}
 use denote.Ref.{now}
+use Rattle.answer.specs.Order.{Judged}
 use Rattle.frame.specs.Words.{wordCount}
-use Rattle.reader.specs.Table.{table}
-use Rattle.table.specs.Judged.{Judged}
-use Rattle.reader.proofs.Exactly as reading
-use Rattle.reader.proofs.Agree as reader
+use Rattle.reader.specs.Table.{readNumbers, readChecks}
 use Rattle.reader.proofs.read.Reads as read
-use Rattle.candidate.specs.Candidate.{needed}
-use Rattle.writer.proofs.Exactly as writing
-use Rattle.writer.proofs.Agree as writer
+use Rattle.candidate.specs.Engine.{needed}
+use Rattle.writer.specs.Result.{writeNumbers, writeChecks}
 use Rattle.writer.proofs.write.Reads as write
-use Rattle.listed.specs.Listing.{listing}
-use Rattle.listing.proofs.Judged as listed
+use Rattle.listed.specs.Listing.{listing, listNumbers, listChecks}
 use Rattle.listing.proofs.list.Reads as list
 use Rattle.listing.proofs.respond.Reads as respond
 use Rattle.octets.specs.Octets.{wordsIn}
-use Rattle.brachymel.proofs.Judged as entries
-use Rattle.brachymel.proofs.Agree as library
+use Rattle.brachymel.specs.Bytes.{bytesChecks}
 use Rattle.brachymel.proofs.brachymel_read.Reads as c-read
 use Rattle.brachymel.proofs.brachymel_write.Reads as c-write
 use Rattle.brachymel.proofs.brachymel_list.Reads as c-list
@@ -36,18 +31,18 @@ pub record First : Type 1 where
   -- "each call ends with an acceptance or one numbered refusal from the table in document 01, in the order set there": `Judged`, by the rows 1 to
   -- 12 of the reader, 1, 13 and 14 of the writer, 1 to 11 and 23 of the listing
   pub read-ends : (κs : _) (a : _) (r : _) (s : _) → read.Post κs a r s
-      → Judged reading.numbers (table (a .0) (now (a .1 .0)) (now (a .1 .1 .0)) (length (now (a .1 .1 .1 .0)))) (wordCount (a .0) (now (a .1 .0)) (now (a .1 .1 .0))) r
+      → Judged readNumbers (readChecks (a .0) (now (a .1 .0)) (now (a .1 .1 .0)) (length (now (a .1 .1 .1 .0)))) (wordCount (a .0) (now (a .1 .0)) (now (a .1 .1 .0))) r
   pub write-ends : (κs : _) (a : _) (r : _) (s : _) → write.Post κs a r s
-      → Judged writing.numbers (writing.rows (a .0) (now (a .1 .0)) (length (now (a .1 .1 .0))) (length (now (a .1 .1 .1 .0)))) (needed (a .0) (now (a .1 .0))) r
+      → Judged writeNumbers (writeChecks (a .0) (now (a .1 .0)) (length (now (a .1 .1 .0))) (length (now (a .1 .1 .1 .0)))) (needed (a .0) (now (a .1 .0))) r
   pub list-ends : (κs : _) (a : _) (r : _) (s : _) → list.Post κs a r s
-      → Judged listed.numbers (listed.rows (a .0) (now (a .1 .0)) (now (a .1 .1 .0)) (length (now (a .1 .1 .1 .0)))) (length (listing (a .0) (now (a .1 .0)) (now (a .1 .1 .0)))) r
+      → Judged listNumbers (listChecks (a .0) (now (a .1 .0)) (now (a .1 .1 .0)) (length (now (a .1 .1 .1 .0)))) (length (listing (a .0) (now (a .1 .0)) (now (a .1 .1 .0)))) r
   -- from C: room in whole words, and 13 where the words' bytes are not whole words
   pub c-read-ends : (κs : _) (a : _) (r : _) (s : _) → c-read.Post κs a r s
-      → Judged reading.numbers (table (a .0) (now (a .1 .0)) (now (a .1 .1 .0)) (length (now (a .1 .1 .1 .0)) / 4)) (wordCount (a .0) (now (a .1 .0)) (now (a .1 .1 .0))) r
+      → Judged readNumbers (readChecks (a .0) (now (a .1 .0)) (now (a .1 .1 .0)) (length (now (a .1 .1 .1 .0)) / 4)) (wordCount (a .0) (now (a .1 .0)) (now (a .1 .1 .0))) r
   pub c-write-ends : (κs : _) (a : _) (r : _) (s : _) → c-write.Post κs a r s
-      → Judged writing.numbers (entries.rows (a .0) (now (a .1 .0)) (length (now (a .1 .1 .0))) (length (now (a .1 .1 .1 .0)))) (needed (a .0) (wordsIn (now (a .1 .0)))) r
+      → Judged writeNumbers (bytesChecks (a .0) (now (a .1 .0)) (length (now (a .1 .1 .0))) (length (now (a .1 .1 .1 .0)))) (needed (a .0) (wordsIn (now (a .1 .0)))) r
   pub c-list-ends : (κs : _) (a : _) (r : _) (s : _) → c-list.Post κs a r s
-      → Judged listed.numbers (listed.rows (a .0) (now (a .1 .0)) (now (a .1 .1 .0)) (length (now (a .1 .1 .1 .0)))) (length (listing (a .0) (now (a .1 .0)) (now (a .1 .1 .0)))) r
+      → Judged listNumbers (listChecks (a .0) (now (a .1 .0)) (now (a .1 .1 .0)) (length (now (a .1 .1 .1 .0)))) (length (listing (a .0) (now (a .1 .0)) (now (a .1 .1 .0)))) r
   -- "No caller checks anything first."
   pub read-asks-nothing : (κs : _) (a : _) → read.Asked κs a
   pub write-asks-nothing : (κs : _) (a : _) → write.Asked κs a
@@ -66,26 +61,3 @@ pub record First : Type 1 where
   pub c-write-keeps : (κs : _) (a : _) (r : _) (s : _) → c-write.Post κs a r s → (r .number ≡ 0 → ⊥)
       → (now (s .1 .1 .0) ≡ now (a .1 .1 .0)) × (now (s .1 .1 .1 .0) ≡ now (a .1 .1 .1 .0))
   pub c-list-keeps : (κs : _) (a : _) (r : _) (s : _) → c-list.Post κs a r s → (r .number ≡ 0 → ⊥) → now (s .1 .1 .1 .0) ≡ now (a .1 .1 .1 .0)
-
-pub first-demand : First
-first-demand = record {
-  read-ends = λ κs a r s p. rw (p .0) (reading.read-judged (a .0) (now (a .1 .0)) (now (a .1 .1 .0)) (length (now (a .1 .1 .1 .0))));
-  write-ends = λ κs a r s p. rw (p .0) (writing.write-judged (a .0) (now (a .1 .0)) (length (now (a .1 .1 .0))) (length (now (a .1 .1 .1 .0))));
-  list-ends = λ κs a r s p. rw (p .0) (listed.list-judged (a .0) (now (a .1 .0)) (now (a .1 .1 .0)) (length (now (a .1 .1 .1 .0))));
-  c-read-ends = λ κs a r s p. rw (p .0) (reading.read-judged (a .0) (now (a .1 .0)) (now (a .1 .1 .0)) (length (now (a .1 .1 .1 .0)) / 4));
-  c-write-ends = λ κs a r s p. rw (p .0) (entries.write-judged (a .0) (now (a .1 .0)) (length (now (a .1 .1 .0))) (length (now (a .1 .1 .1 .0))));
-  c-list-ends = λ κs a r s p. rw (p .0) (listed.list-judged (a .0) (now (a .1 .0)) (now (a .1 .1 .0)) (length (now (a .1 .1 .1 .0))));
-  read-asks-nothing = λ κs a. tt;
-  write-asks-nothing = λ κs a. tt;
-  list-asks-nothing = λ κs a. tt;
-  respond-asks-nothing = λ κs a. tt;
-  c-read-asks-nothing = λ κs a. tt;
-  c-write-asks-nothing = λ κs a. tt;
-  c-list-asks-nothing = λ κs a. tt;
-  read-keeps = reader.read-keeps;
-  write-keeps = writer.write-keeps;
-  list-keeps = listed.list-keeps;
-  c-read-keeps = library.read-keeps;
-  c-write-keeps = entries.write-keeps;
-  c-list-keeps = entries.list-keeps;
-}

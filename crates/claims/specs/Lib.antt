@@ -2,3 +2,5 @@ pub mod First
 pub mod Second
 pub mod Third
 pub mod Bench
+pub mod Rows
+pub mod Formats

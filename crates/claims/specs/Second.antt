@@ -1,4 +1,4 @@
--- The second demand. Assumes nothing.
+-- The second demand.
 --
 -- "Reading is what IEEE 802.11be and the radiotap EHT page say, to the bit: checks, tails, layout, User fields, words. Writing those words
 -- gives the same channels back, padding zero, up to the end of the longer channel's last block. Words that no accepted pair of channels reads
@@ -14,16 +14,15 @@ use Prim.Native.Nat.{ℕ, _≤_}
 use lib.ListN.{length, take}
 use denote.Ref.{now}
 use Rattle.answer.specs.Answer.{no}
-use Rattle.bits.specs.Writes.{Small}
+use Rattle.bits.specs.Bits.{Small}
 use Rattle.channel.specs.Layout.{present, count}
+use Rattle.frame.specs.Words.{SameFrame}
 use Rattle.reader.specs.Result.{answerOf, wordsAfter}
-use Rattle.frame.specs.Determine.{SameFrame}
 use Rattle.reader.proofs.read.Reads as read
-use Rattle.candidate.specs.Candidate.{bytesFor}
+use Rattle.candidate.specs.Length.{bytesFor}
+use Rattle.writer.specs.Inverse.{Accepts, GivenBack}
 use Rattle.writer.proofs.write.Reads as write
-use Rattle.writer.proofs.Inverse.{Accepts, GivenBack, write-after-read, read-after-write, thirteen-none, none-thirteen, equal-words}
-use Rattle.carried.specs.Formats.{UserWords}
-use Rattle.carried.proofs.Formats.{user-words}
+use Rattle.claims.specs.Formats.{UserWords}
 
 pub record Second : Type 1 where
   -- "Reading is what IEEE 802.11be and the radiotap EHT page say, to the bit": as 01's table and words, `reader`'s Table, Words and Result
@@ -62,14 +61,3 @@ pub record Second : Type 1 where
       → ((x y w : List ℕ) → Small x → Small y → Accepts (a .0) x y w (now (a .1 .0)) → ⊥) → r .number ≡ 13
   pub only-words-of-none-refused : (κs : _) (a : _) (r : _) (s : _) → write.Post κs a r s → r .number ≡ 13
       → (x y w : List ℕ) → Accepts (a .0) x y w (now (a .1 .0)) → ⊥
-
-pub second-demand : Second
-second-demand = record {
-  reading-is = λ κs a r s p. (p .0, p .1);
-  user-words-are = user-words;
-  words-say-all = equal-words;
-  writing-gives-back = write-after-read;
-  reading-gives-back = read-after-write;
-  words-of-none-refused = none-thirteen;
-  only-words-of-none-refused = thirteen-none;
-}

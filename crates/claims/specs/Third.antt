@@ -1,4 +1,4 @@
--- The third demand. Assumes nothing.
+-- The third demand.
 --
 -- "Take any bandwidth and any row of carried RU Allocation values of the number it needs. If any plan, as 01 defines one, signals that row
 -- with at most eight User fields on each resource, the row is accepted and only that plan does. Otherwise it is refused, for its layout. In the
@@ -7,32 +7,23 @@
 --
 -- A plan is `plan`'s `Signals`; its resources are `records`' `recordsOf`; what `plan::layout` answers is what its contract says, `Laid`; what
 -- `reader::read` answers to channels that carry the row is what its contract says, `read.Post`.
-use mathlib.Core.Path.{_≡_, sym, subst}
-use mathlib.Core.Logic.{_≢_, _⊎_, ⊎-elim}
+use mathlib.Core.Path.{_≡_}
+use mathlib.Core.Logic.{_≢_, _⊎_}
 use mathlib.Core.List.{List}
-use Prim.Native.Nat.{ℕ, _^_, _≤_, _<_}
-use native.Mathlib.Omega.{arith}
-use denote.Ref.{now}
+use Prim.Native.Nat.{ℕ, _<_}
 use lib.ListN.{length, getD}
+use denote.Ref.{now}
 use Rattle.answer.specs.Answer.{no}
-use Rattle.answer.specs.declared.Out.{Out}
-use Rattle.answer.specs.declared.Out.the-variants.{Pass, Refuse}
-use Rattle.bits.specs.Writes.{Small}
-use Rattle.plan.specs.Plan.{at, Signals}
-use Rattle.plan.specs.Layout.{PlanOfEight, Laid, accepted}
-use Rattle.plan.proofs.Laid.{laid-same}
-use Rattle.plan.proofs.Demand.{accepted-plan, one-plan, refused-layout}
-use Rattle.records.specs.Records.{recordsFrom, recordsOf, HasTone, Punctured, blank}
-use Rattle.records.specs.Owns.{Owns, fieldsBefore, ownerOf}
-use Rattle.records.proofs.Listing.{same-records}
-use Rattle.records.proofs.Owners.{one-owner, owner-owns}
-use Rattle.records.proofs.Subcarriers.{no-shared, none-punctured}
-use Rattle.records.proofs.Sizes.{RightRecord, record-right}
-use Rattle.records.proofs.Shares.{owner-listed}
+use Rattle.answer.specs.declared.Outcome.{Outcome}
+use Rattle.answer.specs.declared.Outcome.the-variants.{Pass, Refuse}
+use Rattle.bits.specs.Bits.{Small}
+use Rattle.answer.specs.Lists.{at}
+use Rattle.plan.specs.Signals.{Signals}
+use Rattle.plan.specs.Answers.{SomePlanOfEight, Laid}
+use Rattle.records.specs.Records.{recordsFrom, recordsOf, HasTone, Punctured, blank, RightRecord}
+use Rattle.records.specs.Owns.{Owns, fieldsBefore}
 use Rattle.reader.proofs.read.Reads as read
-use Rattle.carried.specs.Carried.{CarriedRow, Carry, ForLayout}
-use Rattle.carried.proofs.Channels.{some-channels}
-use Rattle.carried.proofs.Answers.{ReadAccepts, all-channels, no-reader-always-refuses}
+use Rattle.claims.specs.Rows.{CarriedRow, CarryRow, ForLayout, ReadAccepts}
 
 -- the resources of the plan o at the first n positions, and u a subcarrier of resource i, counted from the lower edge of the channel
 abbrev pub Tone : (ℕ → ℕ) → (ℕ → ℕ) → ℕ → ℕ → ℕ → Type 0
@@ -54,13 +45,13 @@ RightTones o row n = (i : ℕ) → i < length (recordsFrom o row n) → RightRec
 
 pub record Third (b : ℕ) (row : List ℕ) : Type 1 where
   -- "If any plan .. signals that row with at most eight User fields on each resource, the row is accepted"
-  pub is-accepted : (x : Out) → Laid row x → PlanOfEight row 0 (length row) → x ≡ Pass
-  pub has-plan : (x : Out) → Laid row x → x ≡ Pass → PlanOfEight row 0 (length row)
+  pub is-accepted : (x : Outcome) → Laid row x → SomePlanOfEight row 0 (length row) → x ≡ Pass
+  pub has-plan : (x : Outcome) → Laid row x → x ≡ Pass → SomePlanOfEight row 0 (length row)
   -- "and only that plan does": at every position of the row, and so in its resources
   pub only-that : (o o′ : ℕ → ℕ) → Signals o (at row) 0 (length row) → Signals o′ (at row) 0 (length row)
       → ((p : ℕ) → p < length row → o p ≡ o′ p) × (recordsOf o row ≡ recordsOf o′ row)
   -- "Otherwise it is refused, for its layout"
-  pub refused-otherwise : (x : Out) → Laid row x → (PlanOfEight row 0 (length row) → ⊥)
+  pub refused-otherwise : (x : Outcome) → Laid row x → (SomePlanOfEight row 0 (length row) → ⊥)
       → (s : ℕ) × ((x ≡ Refuse (no 7 0 s)) ⊎ (x ≡ Refuse (no 8 0 s)))
   -- "In the plan no two resources share a subcarrier"
   pub apart : (o : ℕ → ℕ) → Signals o (at row) 0 (length row) → Apart o (at row) (length row)
@@ -72,31 +63,10 @@ pub record Third (b : ℕ) (row : List ℕ) : Type 1 where
       → (i : ℕ) × (i < length (recordsOf o row)) × Owns o (at row) (length row) i c j × ((i′ : ℕ) → Owns o (at row) (length row) i′ c j → i′ ≡ i)
   -- of whole frames, "A row is accepted when channels that carry it pass checks 1 to 6 and get neither 7 nor 8." (01, "What a plan is").
   -- "any row of carried RU Allocation values of the number it needs": some channels, of bytes, carry it and pass 1 to 6
-  pub row-is-carried : CarriedRow b row → (x : List ℕ) × (y : List ℕ) × Carry b row x y × Small x × Small y
+  pub row-is-carried : CarriedRow b row → (x : List ℕ) × (y : List ℕ) × CarryRow b row x y × Small x × Small y
   -- "the row is accepted .. Otherwise it is refused, for its layout": all channels that carry it and pass 1 to 6 get 7 or 8 exactly when no
   -- plan signals it with at most eight on each resource, with the segment that 01's table says
-  pub row-is-answered : (κs : _) (a : _) (x : _) (s : _) → read.Post κs a x s → Carry (a .0) row (now (a .1 .0)) (now (a .1 .1 .0)) → ForLayout row x
+  pub row-is-answered : (κs : _) (a : _) (x : _) (s : _) → read.Post κs a x s → CarryRow (a .0) row (now (a .1 .0)) (now (a .1 .1 .0)) → ForLayout row x
   -- "A reader that always refuses falls to the third demand, as the row's plan exists." (01, "What nobody may get away with")
-  pub plan-is-read : CarriedRow b row → PlanOfEight row 0 (length row)
-      → (x : List ℕ) × (y : List ℕ) × Carry b row x y × Small x × Small y × ReadAccepts b x y
-
--- for every bandwidth code b, 0 to 4, and every row of the number of values that it needs
-pub third-demand : (b : ℕ) (row : List ℕ) → b ≤ 4 → length row ≡ 2 ^ b → Third b row
-third-demand b row l e = record {
-  is-accepted = λ x w p. laid-same row x Pass w (accepted p);
-  has-plan = λ x w q. accepted-plan row (subst (Laid row) q w);
-  only-that = λ o o′ s t. (one-plan row o o′ s t, same-records o o′ (at row) (length row) (one-plan row o o′ s t));
-  refused-otherwise = λ x w n. ⊎-elim (λ q. absurd (n (accepted-plan row (subst (Laid row) q w)))) (λ r. r) (refused-layout row x w);
-  apart = λ o. subst (λ (n : ℕ). Signals o (at row) 0 n → Apart o (at row) n) (sym e) (λ t. no-shared o (at row) b (omega arith) t);
-  not-punctured = λ o. subst (λ (n : ℕ). Signals o (at row) 0 n → NotPunctured o (at row) n) (sym e) (λ t. none-punctured o (at row) b (omega arith) t);
-  right-tones = λ o. subst (λ (n : ℕ). Signals o (at row) 0 n → RightTones o (at row) n) (sym e) (λ t. record-right o (at row) b (omega arith) t);
-  one-resource = λ o s c j h. (
-    ownerOf o (at row) c (length row) j,
-    owner-listed o (at row) (length row) s c j h,
-    owner-owns o (at row) (length row) s c j h,
-    λ i′ w. one-owner o (at row) (length row) i′ (ownerOf o (at row) c (length row) j) c j w (owner-owns o (at row) (length row) s c j h),
-  );
-  row-is-carried = λ w. let g = some-channels b row w in (g .0, g .1, g .2, g .3, g .4);
-  row-is-answered = all-channels row;
-  plan-is-read = no-reader-always-refuses b row;
-}
+  pub plan-is-read : CarriedRow b row → SomePlanOfEight row 0 (length row)
+      → (x : List ℕ) × (y : List ℕ) × CarryRow b row x y × Small x × Small y × ReadAccepts b x y

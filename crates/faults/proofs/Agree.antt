@@ -1,4 +1,4 @@
--- Any two results that a public function's contract allows for one input agree: each contract is an equation. Assumes nothing.
+-- Any two results that a public function's contract allows for one input agree: each contract is an equation.
 use mathlib.Core.Path.{_≡_, sym, _∙_}
 use Rattle.faults.proofs.too_long.Reads as too-long
 use Rattle.faults.proofs.cut_common.Reads as cut-common

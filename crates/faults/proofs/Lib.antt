@@ -1,1 +1,3 @@
 pub mod Agree
+pub mod Passing
+pub mod Padding

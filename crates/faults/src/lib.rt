@@ -1,15 +1,15 @@
 // The answers 2 to 6, 9 and 10, each of one channel but 5.
-use answer::Out;
+use answer::Outcome;
 ghost use mathlib.Core.Path.{_≡_};
 ghost use Prim.Native.Nat.{_≤_};
 ghost use lib.ListN.{length};
 ghost use Rattle.answer.specs.Least.{least};
 ghost use Rattle.bits.specs.Bits.{differs};
 ghost use Rattle.channel.specs.Layout.{count};
-ghost use Rattle.faults.specs.Checks.{lent, tooLong, cutCommon, wrongFirst, wrongSecond, wrongCommon, overflowDiffers, foreign, firstForeign, notCarried, cutUsers, wrongBlock, firstWrong, wrongUsers};
+ghost use Rattle.faults.specs.Checks.{lent, tooLong, cutCommon, wrongFirst, wrongSecond, wrongCommon, overflowDiffers, uncarried, firstUncarried, notCarried, cutUsers, wrongBlock, firstWrong, wrongUsers};
 
 // Answer 2 for one channel.
-pub fn too_long(bw: u32, channel: u32, s: &[u8]) -> Out
+pub fn too_long(bw: u32, channel: u32, s: &[u8]) -> Outcome
     ensures { λ r. ⌜ r ≡ tooLong bw channel (now (s .entry)) ⌝ }
 {
     let there = channel::is_present(bw, channel);
@@ -25,7 +25,7 @@ fn lent_bits(s: &[u8]) -> usize
 }
 
 // Answer 3.
-pub fn cut_common(bw: u32, channel: u32, s: &[u8]) -> Out
+pub fn cut_common(bw: u32, channel: u32, s: &[u8]) -> Outcome
     requires { ⌜ length (now s) ≤ 512 ⌝ }
     ensures { λ r. ⌜ r ≡ cutCommon bw channel (now (s .entry)) ⌝ }
 {
@@ -38,7 +38,7 @@ fn is_wrong_first(bw: u32, channel: u32, s: &[u8]) -> bool
     ensures { λ r. ⌜ r ≡ wrongFirst bw channel (now (s .entry)) ⌝ }
 {
     if channel::is_present(bw, channel) {
-        !check4::block_right(s, 0, channel::first_bits(bw))
+        !block::block_right(s, 0, channel::first_bits(bw))
     } else {
         false
     }
@@ -48,14 +48,14 @@ fn is_wrong_second(bw: u32, channel: u32, s: &[u8]) -> bool
     ensures { λ r. ⌜ r ≡ wrongSecond bw channel (now (s .entry)) ⌝ }
 {
     if channel::is_present(bw, channel) & channel::has_second(bw) {
-        !check4::block_right(s, channel::second_at(bw), channel::second_bits(bw))
+        !block::block_right(s, channel::second_at(bw), channel::second_bits(bw))
     } else {
         false
     }
 }
 
 // Answer 4.
-pub fn wrong_common(bw: u32, channel: u32, s: &[u8]) -> Out
+pub fn wrong_common(bw: u32, channel: u32, s: &[u8]) -> Outcome
     ensures { λ r. ⌜ r ≡ wrongCommon bw channel (now (s .entry)) ⌝ }
 {
     let first = channel::first_bits(bw);
@@ -77,7 +77,7 @@ fn overflow_diff(a: &[u8], b: &[u8]) -> usize
 }
 
 // Answer 5.
-pub fn overflow_differs(bw: u32, a: &[u8], b: &[u8]) -> Out
+pub fn overflow_differs(bw: u32, a: &[u8], b: &[u8]) -> Outcome
     ensures { λ r. ⌜ r ≡ overflowDiffers bw (now (a .entry)) (now (b .entry)) ⌝ }
 {
     let first = answer::refuse_if(4 < bits::field_at(a, 6, 3), 5, 1, 6);
@@ -90,13 +90,13 @@ pub fn overflow_differs(bw: u32, a: &[u8], b: &[u8]) -> Out
 
 fn is_foreign(bw: u32, s: &[u8], k: usize) -> bool
     requires { ⌜ k ≤ 8 ⌝ }
-    ensures { λ r. ⌜ r ≡ foreign bw (now (s .entry)) k ⌝ }
+    ensures { λ r. ⌜ r ≡ uncarried bw (now (s .entry)) k ⌝ }
 {
     !resource::is_carried(channel::value_of(bw, s, k))
 }
 
-fn first_foreign(bw: u32, channel: u32, s: &[u8]) -> usize
-    ensures { λ r. ⌜ r ≡ firstForeign bw channel (now (s .entry)) ⌝ }
+fn first_uncarried(bw: u32, channel: u32, s: &[u8]) -> usize
+    ensures { λ r. ⌜ r ≡ firstUncarried bw channel (now (s .entry)) ⌝ }
     ensures { λ r. ⌜ r ≤ 8 ⌝ }
 {
     let n = channel::subfields_of(bw, channel);
@@ -111,16 +111,16 @@ fn first_foreign(bw: u32, channel: u32, s: &[u8]) -> usize
 }
 
 // Answer 6.
-pub fn not_carried(bw: u32, channel: u32, s: &[u8]) -> Out
+pub fn not_carried(bw: u32, channel: u32, s: &[u8]) -> Outcome
     ensures { λ r. ⌜ r ≡ notCarried bw channel (now (s .entry)) ⌝ }
 {
     let n = channel::subfields_of(bw, channel);
-    let k = first_foreign(bw, channel, s);
+    let k = first_uncarried(bw, channel, s);
     answer::refuse_if(k < n, 6, channel, channel::value_bit(bw, k))
 }
 
 // Answer 9, of a channel that has n fields.
-pub fn cut_users(bw: u32, channel: u32, s: &[u8], n: usize) -> Out
+pub fn cut_users(bw: u32, channel: u32, s: &[u8], n: usize) -> Outcome
     requires { ⌜ (length (now s) ≤ 512) × (n ≤ 72) × (n ≡ count bw channel (now s)) ⌝ }
     ensures { λ r. ⌜ r ≡ cutUsers bw channel (now (s .entry)) ⌝ }
 {
@@ -132,7 +132,7 @@ fn is_wrong_block(bw: u32, s: &[u8], n: usize, b: usize) -> bool
     requires { ⌜ b ≤ 36 ⌝ }
     ensures { λ r. ⌜ r ≡ wrongBlock bw (now (s .entry)) n b ⌝ }
 {
-    !check4::block_right(s, channel::block_bit(bw, b), channel::covered_bits(n, b))
+    !block::block_right(s, channel::block_bit(bw, b), channel::covered_bits(n, b))
 }
 
 fn first_wrong(bw: u32, s: &[u8], n: usize) -> usize
@@ -152,12 +152,12 @@ fn first_wrong(bw: u32, s: &[u8], n: usize) -> usize
 }
 
 // Answer 10, of a channel that has n fields.
-pub fn wrong_users(bw: u32, channel: u32, s: &[u8], n: usize) -> Out
+pub fn wrong_users(bw: u32, channel: u32, s: &[u8], n: usize) -> Outcome
     requires { ⌜ (n ≤ 72) × (n ≡ count bw channel (now s)) ⌝ }
     ensures { λ r. ⌜ r ≡ wrongUsers bw channel (now (s .entry)) ⌝ }
 {
     if n == 0 {
-        return Out::Pass;
+        return Outcome::Pass;
     }
     let b = first_wrong(bw, s, n);
     answer::refuse_if(

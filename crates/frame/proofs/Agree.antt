@@ -1,4 +1,4 @@
--- Any two states of the lent words that a public function's contract allows for one input agree. Assumes nothing.
+-- Any two states of the lent words that a public function's contract allows for one input agree.
 use mathlib.Core.Path.{_≡_, sym, _∙_}
 use denote.Ref.{now}
 use Rattle.frame.proofs.put_frame.Reads as put-frame

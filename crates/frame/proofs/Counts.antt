@@ -1,5 +1,4 @@
--- The User fields of a channel, counted by its own values and by the row's, are the same, and so is the position that gives one. Assumes
--- nothing.
+-- The User fields of a channel, counted by its own values and by the row's, are the same, and so is the position that gives one.
 use mathlib.Core.Path.{_≡_, sym, _∙_, ap}
 use mathlib.Core.List.{List}
 use Prim.Native.Nat.{ℕ, zero, suc, _+_, _-_, _*_, _/_, _%_, _≤_, _<_}
@@ -8,9 +7,9 @@ use native.Mathlib.Omega.{arith}
 use lib.ListN.{length}
 use borrow.Author.Tests.{eq-eqb, ne-eqb}
 use Rattle.resource.specs.Values.{fieldsOf}
-use Rattle.plan.specs.Plan.{at}
+use Rattle.answer.specs.Lists.{at}
 use Rattle.channel.specs.Layout.{subfieldsIn, value, row, total, count}
-use Rattle.channel.specs.Laws.{halves, place-1, place-2, total-cong, row-length, row-even, row-odd}
+use Rattle.channel.proofs.Laws.{halves, place-1, place-2, total-cong, row-length, row-even, row-odd}
 use Rattle.records.specs.Owns.{fieldsBefore, ComesFrom}
 use Rattle.frame.specs.Words.{before, giver, positionOf}
 use Rattle.frame.proofs.Givers.{giver-is, before-next}

@@ -1,4 +1,4 @@
--- Which value of a channel gives a User field. Assumes nothing.
+-- Which value of a channel gives a User field.
 use mathlib.Core.Path.{_≡_, refl, sym, _∙_}
 use mathlib.Core.Bool.{false}
 use mathlib.Core.List.{List}
@@ -8,12 +8,13 @@ use native.Mathlib.Omega.{arith}
 use native.Mathlib.Nat.{eq-or-lt-of-le, zero-div}
 use lib.Dec.{ltb}
 use borrow.Author.Tests.{lt-ltb, le-ltb}
-use Rattle.answer.specs.Least.{least, least-is, least-below}
+use Rattle.answer.specs.Least.{least}
+use Rattle.answer.proofs.Least.{least-is, least-below}
 use Rattle.resource.specs.Values.{fieldsOf}
 use Rattle.channel.specs.Layout.{subfieldsIn, value, total, count}
-use Rattle.channel.specs.Laws.{total-next}
-use Rattle.frame.specs.Formats.{Holds, Formats}
-use Rattle.frame.specs.Words.{before, giver, sharedAt, positionOf, runWord, userWordAt}
+use Rattle.channel.proofs.Laws.{total-next}
+use Rattle.frame.specs.Engine.{Holds, Formats, runWord}
+use Rattle.frame.specs.Words.{before, giver, sharedAt, positionOf, userWordAt}
 
 total-rises : (f : ℕ → ℕ) (m n : ℕ) → m ≤ n → total f m ≤ total f n
 unfolding total

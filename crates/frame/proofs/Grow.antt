@@ -1,4 +1,4 @@
--- A lent buffer whose tail is filled by a call. Assumes nothing.
+-- A lent buffer whose tail is filled by a call.
 use mathlib.Core.Path.{_≡_, sym, _∙_, ap}
 use mathlib.Core.List.{List, _++_, append-assoc, append-nil}
 use Prim.Native.Nat.{ℕ, _+_, _-_, _≤_, _<_}
@@ -6,7 +6,8 @@ use native.Mathlib.Omega.{arith}
 use lib.ListN.{length, take, drop, length-drop, length-append}
 use lib.Seq.{take-all, drop-length, drop-drop, take-at, drop-at}
 use borrow.Rule.Slice.PartMut.{putMid, post-is, same-len-mid}
-use Rattle.answer.specs.Filled.{build, filled, build-cong, build-append, length-build, filled-length}
+use Rattle.answer.specs.Lists.{build, filled}
+use Rattle.answer.proofs.Lists.{build-cong, build-append, length-build, filled-length}
 
 module _ (xs : List ℕ) (j : ℕ) (l : j ≤ length xs) where
   -- the part from j on, and the list with another in its place

@@ -3,3 +3,5 @@ pub mod Grow
 pub mod Givers
 pub mod Counts
 pub mod Agree
+pub mod Determine
+pub mod Counted

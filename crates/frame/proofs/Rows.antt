@@ -1,12 +1,12 @@
--- A frame's row has the values of both its channels. Assumes nothing.
+-- A frame's row has the values of both its channels.
 use mathlib.Core.Path.{_≡_, _∙_, ap}
 use mathlib.Core.List.{List}
 use Prim.Native.Nat.{ℕ, _≤_}
 use native.Mathlib.Omega.{arith}
 use lib.ListN.{length, getD}
 use Rattle.channel.specs.Layout.{positions, row}
-use Rattle.channel.specs.Laws.{positions-le, place-1, place-2, row-length, row-even, row-odd}
-use Rattle.frame.specs.Formats.{Holds}
+use Rattle.channel.proofs.Laws.{positions-le, place-1, place-2, row-length, row-even, row-odd}
+use Rattle.frame.specs.Engine.{Holds}
 
 module _ (bw : ℕ) (a b : List ℕ) (l : bw ≤ 4) where
   long : length (row bw a b) ≡ positions bw

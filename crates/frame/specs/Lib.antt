@@ -1,4 +1,2 @@
 pub mod Words
-pub mod Formats
-pub mod Counted
-pub mod Determine
+pub mod Engine

@@ -3,11 +3,12 @@ ghost use mathlib.Core.Path.{_≡_};
 ghost use mathlib.Core.List.{_++_};
 ghost use Prim.Native.Nat.{_+_, _≤_};
 ghost use lib.ListN.{length, drop};
-ghost use Rattle.answer.specs.Filled.{filled};
+ghost use Rattle.answer.specs.Lists.{filled};
 ghost use Rattle.channel.specs.Layout.{count};
 ghost use Rattle.channel.specs.Layout as R;
-ghost use Rattle.frame.specs.Words.{runWord, userWordAt, headerOf, wordsIn, wordCount};
-ghost use Rattle.frame.specs.Formats.{Holds, Formats};
+ghost use Rattle.frame.specs.Engine.{runWord};
+ghost use Rattle.frame.specs.Words.{userWordAt, headerOf, wordsIn, wordCount};
+ghost use Rattle.frame.specs.Engine.{Holds, Formats};
 
 // The words of m User fields of one format, from field j on.
 fn put_run(out: &mut [u32], bw: u32, s: &[u8], j: usize, m: usize, shared: bool)

@@ -1,4 +1,4 @@
--- The program reads exactly the texts of `Form`, and in any other names the first wrong line. Assumes nothing.
+-- The program reads exactly the texts of `Form`, and in any other names the first wrong line.
 use mathlib.Core.Path.{_≡_, refl, sym, ap, subst, _∙_}
 use mathlib.Core.Bool.{Bool, true, false, not, cond, _&&_}
 use mathlib.Core.List.{List, [], _∷_, _++_, append-assoc, append-nil}
@@ -10,13 +10,13 @@ use borrow.Author.Tests.{lt-ltb, le-ltb, eq-eqb, ne-eqb, ltb-true, ltb-false, eq
 use lib.Dec.{T, ltb, eqb}
 use lib.ListN.{length, drop, getD, length-append}
 use lib.Seq.{drop-cons, drop-at, drop-append-seam, getD-append-add}
-use Rattle.answer.specs.Filled.{build-is, length-build}
+use Rattle.answer.proofs.Lists.{build-is, length-build}
 use Rattle.text.specs.Text.{codes}
 use Rattle.input.specs.declared.Scan.{Scan}
 use Rattle.input.specs.declared.Scan.the-variants.{Bad, Pairs}
 use Rattle.input.specs.declared.Parsed.the-variants.{Wrong, Lines}
 use Rattle.input.specs.Form.{Bytes, hexDigit, pairs, line1, line2, line3, textOf, Wrong-line}
-use Rattle.input.specs.Parse.{hexOf, pick, hexLine, starts, keyed, lineBw, afterOne, afterTwo, threeLines, parsed, byteOf, bytesAt, secondAt}
+use Rattle.input.specs.Engine.{hexOf, pick, hexLine, starts, keyed, lineBw, afterOne, afterTwo, threeLines, parsed, byteOf, bytesAt, secondAt}
 
 -- ---- hex digits: two rules computed at every digit, and at every byte that is one
 below : (ℕ → Bool) → ℕ → Bool

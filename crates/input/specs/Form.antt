@@ -1,5 +1,5 @@
 -- The program's text, as 01's "Listing" says it: "The program reads the lines bw= (one decimal digit), cc1=, cc2= (pairs
--- of hex digits, capital letters, perhaps none), each ended by a line feed and nothing after". Assumes nothing.
+-- of hex digits, capital letters, perhaps none), each ended by a line feed and nothing after".
 use mathlib.Core.Path.{_≡_}
 use mathlib.Core.List.{List, [], _∷_, _++_}
 use Prim.Native.Nat.{ℕ, zero, suc, _+_, _/_, _%_, _<_}

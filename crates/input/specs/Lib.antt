@@ -1,3 +1,2 @@
 pub mod Form
-pub mod Parse
-pub mod Turns
+pub mod Engine

@@ -3,8 +3,8 @@ ghost use mathlib.Core.Path.{_≡_};
 ghost use Prim.Native.Nat.{_+_, _-_, _*_, _≤_, _<_};
 ghost use lib.ListN.{length, drop, getD};
 ghost use Rattle.text.specs.Text.{codes};
-ghost use Rattle.answer.specs.Filled.{filled};
-ghost use Rattle.input.specs.Parse.{hexOf, hexLine, starts, keyed, Room, lineBw, afterTwo, afterOne, threeLines, parsed, pairOf, byteOf};
+ghost use Rattle.answer.specs.Lists.{filled};
+ghost use Rattle.input.specs.Engine.{hexOf, hexLine, starts, keyed, Room, lineBw, afterTwo, afterOne, threeLines, parsed, pairOf, byteOf};
 
 enum Scan {
     Bad,

@@ -1,8 +1,8 @@
--- The runs that the program holds have the text of the resource's. Assumes nothing.
+-- The runs that the program holds have the text of the resource's.
 use mathlib.Core.Path.{_≡_, ap}
 use Prim.Native.Nat.{ℕ}
 use lib.ListN.{length}
-use Rattle.text.specs.Laws.{upto-cong}
+use Rattle.text.proofs.Laws.{upto-cong}
 use Rattle.resource.specs.declared.Resource.{Resource}
 use Rattle.resource.specs.declared.Run.{Run}
 use Rattle.resource.specs.Runs.{spanOf, runsOf, held}

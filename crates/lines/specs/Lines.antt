@@ -1,4 +1,4 @@
--- The lines of a listing (01, "Listing"), as bytes. Assumes nothing.
+-- The lines of a listing (01, "Listing"), as bytes.
 use mathlib.Core.Bool.{cond}
 use mathlib.Core.List.{List, [], _++_}
 use Prim.Native.Nat.{ℕ, _+_}

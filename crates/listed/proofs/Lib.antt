@@ -1,3 +1,5 @@
 pub mod Owner
 pub mod Accepted
 pub mod Stations
+pub mod Longest
+pub mod Attained

@@ -1,9 +1,10 @@
--- The number of a field's owner is small. Assumes nothing.
+-- The number of a field's owner is small.
 use mathlib.Core.Bool.{Bool, true, false, cond}
 use Prim.Native.Nat.{ℕ, _+_, _*_, _≤_}
 use native.Mathlib.Omega.{arith}
 use Rattle.resource.specs.Values.{divides}
-use Rattle.records.specs.Owns.{number, lowest, ownerAt}
+use Rattle.records.specs.Owns.{number}
+use Rattle.records.specs.Engine.{lowest, ownerAt}
 use Rattle.records.proofs.Lead.{lowest-near}
 use Rattle.records.proofs.Listing.{records-most}
 

@@ -1,5 +1,5 @@
 -- "Stations counts User fields; sta= lines follow the User words" (01, "Listing"): how many `sta=` lines there are, what each says, and
--- whose field it is. Assumes nothing.
+-- whose field it is.
 use mathlib.Core.Path.{_≡_, refl, sym, ap, _∙_}
 use mathlib.Core.Bool.{Bool, true, false, cond}
 use mathlib.Core.List.{List}
@@ -8,20 +8,19 @@ use native.Mathlib.Omega.{arith}
 use borrow.Author.Tests.{lt-ltb, le-ltb, ltb-true, ltb-false}
 use lib.Dec.{ltb, eqb}
 use lib.ListN.{length}
-use Rattle.answer.specs.declared.Out.the-variants.{Pass}
+use Rattle.answer.specs.declared.Outcome.the-variants.{Pass}
 use Rattle.bits.specs.Bits.{field}
-use Rattle.bits.specs.Fields.{field-lt, field-split}
-use Rattle.words.specs.Words.{nth}
-use Rattle.words.specs.Back.{fieldIn, userField}
+use Rattle.bits.proofs.Fields.{field-lt, field-split}
+use Rattle.answer.specs.Lists.{at}
+use Rattle.words.specs.Engine.{fieldIn, userField}
 use Rattle.channel.specs.Layout.{row, count, userAt}
-use Rattle.plan.specs.Plan.{at}
-use Rattle.plan.specs.Guess.{onlyPlan}
+use Rattle.plan.specs.Engine.{onlyPlan}
 use Rattle.records.specs.Owns.{fieldsBefore, Owns}
 use Rattle.records.proofs.Owners.{owner-owns}
 use Rattle.records.proofs.Shares.{owner-listed}
-use Rattle.table.specs.Table.{readable}
+use Rattle.halves.specs.Table.{outcome11}
 use Rattle.frame.specs.Words.{wordCount, wordsOf}
-use Rattle.frame.specs.Determine.{words-length, user-back-1, user-back-2}
+use Rattle.frame.proofs.Determine.{words-length, user-back-1, user-back-2}
 use Rattle.frame.proofs.Counts.{row-count-1, row-count-2}
 use Rattle.lines.specs.Lines.{staLine}
 use Rattle.listed.specs.Listing.{resources, ownerIn, staLineAt}
@@ -69,13 +68,13 @@ placeIn m i = cond (ltb i m) i (i - m)
 -- the i-th `sta=` line is that of the i-th User word
 pub record Station (bw : ℕ) (a b r : List ℕ) (m i : ℕ) : Type 0 where
   -- it says the word's STA-ID, and a resource's number, from 1
-  pub line : staLineAt bw r a b m i ≡ staLine (nth (wordsOf bw a b) (10 + i) / 256 % 2048) (ownerIn r m i + 1)
+  pub line : staLineAt bw r a b m i ≡ staLine (at (wordsOf bw a b) (10 + i) / 256 % 2048) (ownerIn r m i + 1)
   -- which has a `ru=` line
   pub listed : ownerIn r m i < length (resources r)
   -- and owns the field
   pub owns : Owns (onlyPlan (at r)) (at r) (length r) (ownerIn r m i) (channelIn m i) (placeIn m i)
 
-module _ (bw : ℕ) (a b : List ℕ) (e : readable bw a b ≡ Pass) where
+module _ (bw : ℕ) (a b : List ℕ) (e : outcome11 bw a b ≡ Pass) where
   abbrev the-row : List ℕ
   the-row = row bw a b
 
@@ -89,8 +88,8 @@ module _ (bw : ℕ) (a b : List ℕ) (e : readable bw a b ≡ Pass) where
       let f : i < fieldsBefore 0 (at the-row) (length the-row) = omega (arith, fields-1 bw a b (known-code bw a b e)) in
       let s = accepted-signals bw a b e in
       let t : ltb i first ≡ true = lt-ltb i first l in
-      let w : nth (wordsOf bw a b) (10 + i) / 256 % 2048 ≡ field a (userAt bw i) 11 =
-      sym (station-bits (nth (wordsOf bw a b) (10 + i))) ∙ ap (λ (x : ℕ). x % 2048) (user-back-1 bw a b i l) ∙ first-11 a (userAt bw i) in
+      let w : at (wordsOf bw a b) (10 + i) / 256 % 2048 ≡ field a (userAt bw i) 11 =
+      sym (station-bits (at (wordsOf bw a b) (10 + i))) ∙ ap (λ (x : ℕ). x % 2048) (user-back-1 bw a b i l) ∙ first-11 a (userAt bw i) in
       record {
         line = rw (t, w);
         listed = rw t (owner-listed (onlyPlan (at the-row)) (at the-row) (length the-row) s 0 i f);
@@ -106,8 +105,8 @@ module _ (bw : ℕ) (a b : List ℕ) (e : readable bw a b ≡ Pass) where
       let s = accepted-signals bw a b e in
       let t : ltb i first ≡ false = le-ltb i first h in
       let n : 10 + i ≡ 10 + first + j = omega arith in
-      let w : nth (wordsOf bw a b) (10 + i) / 256 % 2048 ≡ field b (userAt bw j) 11 =
-      sym (station-bits (nth (wordsOf bw a b) (10 + i))) ∙ ap (λ (x : ℕ). x % 2048) (ap (λ (x : ℕ). userField (nth (wordsOf bw a b) x)) n ∙ user-back-2 bw a b j l) ∙ first-11 b (userAt bw j) in
+      let w : at (wordsOf bw a b) (10 + i) / 256 % 2048 ≡ field b (userAt bw j) 11 =
+      sym (station-bits (at (wordsOf bw a b) (10 + i))) ∙ ap (λ (x : ℕ). x % 2048) (ap (λ (x : ℕ). userField (at (wordsOf bw a b) x)) n ∙ user-back-2 bw a b j l) ∙ first-11 b (userAt bw j) in
       record {
         line = rw (t, w);
         listed = rw t (owner-listed (onlyPlan (at the-row)) (at the-row) (length the-row) s 1 j f);

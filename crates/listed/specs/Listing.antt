@@ -1,27 +1,27 @@
--- The listing of a frame (01, "Listing"), what `list` answers, and the program's whole text. Assumes nothing.
+-- The listing of a frame (01, "Listing"), what `list` answers, and the program's whole text.
 --
 -- a and b are the bytes of channel 1 and channel 2.
 use mathlib.Core.Bool.{cond}
-use mathlib.Core.List.{List, _++_}
+use mathlib.Core.List.{List, _++_, [], _∷_}
 use Prim.Native.Nat.{ℕ, _+_, _-_}
 use lib.Dec.{ltb}
 use lib.ListN.{length, drop, getD}
 use Rattle.answer.specs.Answer.{no, refuseIf, _or_, answerAt, after}
 use Rattle.answer.specs.declared.Answer.{Answer}
-use Rattle.answer.specs.declared.Out.{Out}
-use Rattle.answer.specs.declared.Out.the-variants.{Pass, Refuse}
-use Rattle.text.specs.Text.{upto}
-use Rattle.plan.specs.Plan.{at}
-use Rattle.plan.specs.Guess.{onlyPlan}
-use Rattle.channel.specs.Layout.{row, count}
+use Rattle.answer.specs.declared.Outcome.{Outcome}
+use Rattle.answer.specs.declared.Outcome.the-variants.{Pass, Refuse}
+use Rattle.answer.specs.Lists.{at}
+use Rattle.plan.specs.Engine.{onlyPlan}
 use Rattle.records.specs.declared.Record.{Record}
 use Rattle.records.specs.Records.{listAt, recordsOf, blank}
-use Rattle.records.specs.Owns.{ownerOf}
+use Rattle.records.specs.Engine.{ownerOf}
+use Rattle.channel.specs.Layout.{row, count}
 use Rattle.stations.specs.Stations.{stationOf}
-use Rattle.table.specs.Table.{readable}
+use Rattle.halves.specs.Table.{outcome11, checks11}
+use Rattle.text.specs.Text.{upto}
 use Rattle.input.specs.declared.Parsed.{Parsed}
 use Rattle.input.specs.declared.Parsed.the-variants.{Wrong, Lines}
-use Rattle.input.specs.Parse.{parsed, bytesAt, secondAt}
+use Rattle.input.specs.Engine.{parsed, bytesAt, secondAt}
 use Rattle.lines.specs.Lines.{ruLine, staLine, refusalText, headText}
 
 -- ---- the listing of a row r
@@ -62,21 +62,21 @@ unfoldable pub listing : ℕ → List ℕ → List ℕ → List ℕ
 listing bw a b = listingOf bw (row bw a b) a b (count bw 1 a) (count bw 2 b)
 
 -- "23 | listing's buffer is too short | 0, bytes needed"
-unfoldable pub check23 : ℕ → List ℕ → List ℕ → ℕ → Out
+unfoldable pub check23 : ℕ → List ℕ → List ℕ → ℕ → Outcome
 check23 bw a b room = refuseIf (ltb room (length (listing bw a b))) (no 23 0 (length (listing bw a b)))
 
 -- 1 to 11 as the reader, "and 23 last"
-unfoldable pub listable : ℕ → List ℕ → List ℕ → ℕ → Out
-listable bw a b room = readable bw a b or check23 bw a b room
+unfoldable pub listOutcome : ℕ → List ℕ → List ℕ → ℕ → Outcome
+listOutcome bw a b room = outcome11 bw a b or check23 bw a b room
 
 -- "0 | accepted | 0, count of words (listing: of bytes)", or the refusal
 unfoldable pub listAnswer : ℕ → List ℕ → List ℕ → ℕ → Answer
-listAnswer bw a b room = answerAt (listable bw a b room) (length (listing bw a b))
+listAnswer bw a b room = answerAt (listOutcome bw a b room) (length (listing bw a b))
 
 -- the lent buffer afterwards: accepted, the text at its front; "Every refusal writes nothing"
 unfoldable pub listAfter : ℕ → List ℕ → List ℕ → List ℕ → List ℕ
 listAfter bw a b d =
-    after (listable bw a b (length d)) (listing bw a b ++ drop (length (listing bw a b)) d) d
+    after (listOutcome bw a b (length d)) (listing bw a b ++ drop (length (listing bw a b)) d) d
 
 -- ---- the program's text
 
@@ -85,12 +85,12 @@ abbrev pub refusalOf : Answer → List ℕ
 refusalOf x = refusalText (x .number) (x .channel) (x .place)
 
 -- the listing, or the refusal
-abbrev pub outcomeText : Out → List ℕ → List ℕ
+abbrev pub outcomeText : Outcome → List ℕ → List ℕ
 outcomeText Pass t = t
 outcomeText (Refuse x) t = refusalOf x
 
 unfoldable pub frameText : ℕ → List ℕ → List ℕ → List ℕ
-frameText bw a b = outcomeText (readable bw a b) (listing bw a b)
+frameText bw a b = outcomeText (outcome11 bw a b) (listing bw a b)
 
 -- "22 is first of all"
 abbrev pub parsedText : List ℕ → Parsed → List ℕ
@@ -100,3 +100,9 @@ parsedText s (Lines bw n m) = frameText bw (bytesAt s 9 n) (bytesAt s (secondAt 
 -- what the program writes for the text s
 unfoldable pub programText : List ℕ → List ℕ
 programText s = parsedText s (parsed s)
+
+abbrev pub listNumbers : List ℕ
+listNumbers = 1 ∷ 2 ∷ 3 ∷ 4 ∷ 5 ∷ 6 ∷ 7 ∷ 8 ∷ 9 ∷ 10 ∷ 11 ∷ 23 ∷ []
+
+abbrev pub listChecks : ℕ → List ℕ → List ℕ → ℕ → List Outcome
+listChecks bw a b room = checks11 bw a b ++ (check23 bw a b room ∷ [])

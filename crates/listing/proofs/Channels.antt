@@ -1,17 +1,17 @@
--- The `sta=` lines of both channels, one after the other, from the numbers of their owners. Assumes nothing.
+-- The `sta=` lines of both channels, one after the other, from the numbers of their owners.
 use mathlib.Core.Path.{_≡_, sym, ap, _∙_}
 use mathlib.Core.List.{List, _++_}
 use Prim.Native.Nat.{ℕ, _+_, _-_, _≤_, _<_}
 use native.Mathlib.Omega.{arith}
 use borrow.Author.Tests.{lt-ltb, le-ltb}
 use lib.ListN.{length}
-use Rattle.answer.specs.Filled.{getD-build}
+use Rattle.answer.proofs.Lists.{getD-build}
 use Rattle.text.specs.Text.{upto}
-use Rattle.text.specs.Laws.{upto-append, upto-cong}
-use Rattle.plan.specs.Plan.{at}
-use Rattle.plan.specs.Guess.{onlyPlan}
-use Rattle.records.specs.Owns.{ownerOf}
-use Rattle.listing.specs.Owned.{ownedLine, ownersIn}
+use Rattle.text.proofs.Laws.{upto-append, upto-cong}
+use Rattle.answer.specs.Lists.{at}
+use Rattle.plan.specs.Engine.{onlyPlan}
+use Rattle.records.specs.Engine.{ownerOf}
+use Rattle.listing.specs.Engine.{ownedLine, ownersIn}
 use Rattle.listed.specs.Listing.{ownerIn, staLineAt, staLines}
 
 module _ (bw : ℕ) (r a b : List ℕ) (m : ℕ) where

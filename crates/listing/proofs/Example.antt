@@ -1,4 +1,4 @@
--- 01's worked listing, byte for byte: "40 MHz, row (50, 26), STA-IDs 11 and 12, whole". Assumes nothing.
+-- 01's worked listing, byte for byte: "40 MHz, row (50, 26), STA-IDs 11 and 12, whole".
 use mathlib.Core.Path.{_≡_, refl}
 use mathlib.Core.List.{List, [], _∷_, _++_}
 use Prim.Native.Nat.{ℕ, _+_}
@@ -6,12 +6,12 @@ use lib.ListN.{length}
 use Rattle.text.specs.Text.{codes, dec, signed, upto}
 use Rattle.answer.specs.Least.{least}
 use Rattle.plan.specs.Kinds.{kinds, kindAt, family, span, mask, takes, takesBlock, blankAt, mustName}
-use Rattle.plan.specs.Guess.{kindOf, nameOf, orElse, tells, choose, onlyPlan}
+use Rattle.plan.specs.Engine.{kindOf, nameOf, orElse, tells, choose, onlyPlan}
 use Rattle.resource.specs.Values.{carried, pieces, fieldsOf, divides, pieceFields, ownPieces}
 use Rattle.resource.specs.Index.{indexOf, resourceAt, positionOf, placeOf}
 use Rattle.resource.specs.Runs.{offset106, wide, wideWith26, runsOf}
 use Rattle.records.specs.Records.{lead, listAt}
-use Rattle.records.specs.Owns.{lowest, ownerAt, ownerOf}
+use Rattle.records.specs.Engine.{lowest, ownerAt, ownerOf}
 use Rattle.lines.specs.Lines.{nameText, comma, tonesText, ruHead, ruLine, staLine, headText}
 use Rattle.listed.specs.Listing.{resources, ruLines, ownerIn}
 

@@ -1,4 +1,4 @@
--- What the contracts of the listing say. Assumes nothing.
+-- What the contracts of the listing say.
 use mathlib.Core.Path.{_≡_, refl, sym, ap, _∙_}
 use mathlib.Core.Bool.{Bool, true, false}
 use mathlib.Core.List.{List, _++_}
@@ -11,21 +11,21 @@ use lib.Dec.{ltb}
 use lib.ListN.{length, take, getD}
 use lib.Seq.{take-all, length-take-le}
 use Rattle.answer.specs.Answer.{_or_}
-use Rattle.answer.specs.Order.{after-kept}
+use Rattle.answer.proofs.Order.{after-kept}
 use Rattle.answer.specs.declared.Answer.{Answer}
-use Rattle.answer.specs.declared.Out.the-variants.{Pass, Refuse}
+use Rattle.answer.specs.declared.Outcome.the-variants.{Pass, Refuse}
 use Rattle.text.specs.Text.{upto}
 use Rattle.channel.specs.Layout.{row, count}
 use Rattle.records.specs.Records.{blank}
-use Rattle.table.specs.Table.{readable}
+use Rattle.halves.specs.Table.{outcome11}
 use Rattle.frame.specs.Words.{wordCount}
 use Rattle.reader.specs.Table.{check12, noRoom}
-use Rattle.frame.specs.Counted.{word-count-le}
-use Rattle.reader.specs.Stages.{reading-stages}
+use Rattle.frame.proofs.Counted.{word-count-le}
+use Rattle.reader.proofs.Stages.{reading-stages}
 use Rattle.reader.specs.Result.{answerOf}
-use Rattle.input.specs.Parse.{parsed}
+use Rattle.input.specs.Engine.{parsed}
 use Rattle.lines.specs.Lines.{headText}
-use Rattle.listed.specs.Listing.{recordLine, resources, ruLines, staLineAt, staLines, listingOf, listing, check23, listable, listAnswer, listAfter, programText}
+use Rattle.listed.specs.Listing.{recordLine, resources, ruLines, staLineAt, staLines, listingOf, listing, check23, listOutcome, listAnswer, listAfter, programText}
 use Rattle.listing.proofs.list.Reads as list
 use Rattle.listing.proofs.respond.Reads as respond
 
@@ -41,24 +41,24 @@ respond-agrees κs a r r' s s' p q = (p .next ∙ sym (q .next), p .bytes ∙ sy
 -- ---- "Every refusal writes nothing"
 pub list-kept : (bw : ℕ) (a b d : List ℕ) → (listAnswer bw a b (length d) .number ≡ 0 → ⊥) → listAfter bw a b d ≡ d
 unfolding listAnswer listAfter
-list-kept bw a b d h = after-kept (listable bw a b (length d)) (length (listing bw a b)) _ d h
+list-kept bw a b d h = after-kept (listOutcome bw a b (length d)) (length (listing bw a b)) _ d h
 
 -- ---- 1 to 11 as the reader: `list` refuses with one of them exactly when `read` with room for 154 words does
-pub read-refuses : (bw : ℕ) (a b : List ℕ) (x : Answer) → readable bw a b ≡ Refuse x → answerOf bw a b 154 ≡ x
+pub read-refuses : (bw : ℕ) (a b : List ℕ) (x : Answer) → outcome11 bw a b ≡ Refuse x → answerOf bw a b 154 ≡ x
 unfolding answerOf _or_
 read-refuses bw a b x e = rw (reading-stages bw a b 154, e)
 
-pub read-accepts : (bw : ℕ) (a b : List ℕ) → readable bw a b ≡ Pass → answerOf bw a b 154 .number ≡ 0
+pub read-accepts : (bw : ℕ) (a b : List ℕ) → outcome11 bw a b ≡ Pass → answerOf bw a b 154 .number ≡ 0
 unfolding answerOf _or_ check12 noRoom
 read-accepts bw a b e = rw (reading-stages bw a b 154, e, le-ltb 154 (wordCount bw a b) (word-count-le bw a b))
 
-pub list-refuses : (bw : ℕ) (a b : List ℕ) (room : ℕ) (x : Answer) → readable bw a b ≡ Refuse x → listAnswer bw a b room ≡ x
-unfolding listAnswer listable _or_
+pub list-refuses : (bw : ℕ) (a b : List ℕ) (room : ℕ) (x : Answer) → outcome11 bw a b ≡ Refuse x → listAnswer bw a b room ≡ x
+unfolding listAnswer listOutcome _or_
 list-refuses bw a b room x e = rw e
 
-pub list-accepts : (bw : ℕ) (a b : List ℕ) (room : ℕ) → readable bw a b ≡ Pass
+pub list-accepts : (bw : ℕ) (a b : List ℕ) (room : ℕ) → outcome11 bw a b ≡ Pass
     → (listAnswer bw a b room .number ≡ 0) ⊎ (listAnswer bw a b room .number ≡ 23)
-unfolding listAnswer listable check23 _or_
+unfolding listAnswer listOutcome check23 _or_
 list-accepts bw a b room e = go (ltb room (length (listing bw a b))) refl
   where
     go : (t : Bool) → ltb room (length (listing bw a b)) ≡ t

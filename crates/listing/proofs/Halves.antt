@@ -1,54 +1,54 @@
--- The listing from the two halves of a reading. Assumes nothing.
+-- The listing from the two halves of a reading.
 use mathlib.Core.Path.{_≡_, sym, _∙_, ap}
 use mathlib.Core.List.{List}
 use Prim.Native.Nat.{ℕ, _≤_}
 use native.Mathlib.Omega.{arith}
 use lib.ListN.{length, take}
 use Rattle.answer.specs.Answer.{_or_}
-use Rattle.answer.specs.Order.{pass-left, or-next}
+use Rattle.answer.proofs.Order.{pass-left, or-next}
 use Rattle.answer.specs.declared.Answer.{Answer}
-use Rattle.answer.specs.declared.Out.{Out}
-use Rattle.answer.specs.declared.Out.the-variants.{Pass, Refuse}
-use Rattle.plan.specs.Value.{kindsOf}
+use Rattle.answer.specs.declared.Outcome.{Outcome}
+use Rattle.answer.specs.declared.Outcome.the-variants.{Pass, Refuse}
+use Rattle.plan.specs.Engine.{kindsOf}
 use Rattle.channel.specs.Layout.{positions}
-use Rattle.channel.specs.Laws.{positions-le, row-length}
-use Rattle.table.specs.declared.Planned.{Planned}
-use Rattle.table.specs.Table.{readable}
-use Rattle.table.specs.Half.{plannedOf}
-use Rattle.table.specs.Stages.{userChecks, readable-stages}
-use Rattle.table.proofs.Half.{Made, out-is, planned-out, planned-pass, planned-refuse, planned-rest}
-use Rattle.table.proofs.Rows.{front, sixteen}
+use Rattle.channel.proofs.Laws.{positions-le, row-length}
+use Rattle.halves.specs.declared.Planned.{Planned}
+use Rattle.halves.specs.Table.{outcome11}
+use Rattle.halves.specs.Engine.{plannedOf, outcome9to11}
+use Rattle.halves.proofs.Stages.{outcome11-stages}
+use Rattle.halves.proofs.Half.{Made, out-is, planned-out, planned-pass, planned-refuse, planned-rest}
+use Rattle.halves.proofs.Rows.{front, sixteen}
 use Rattle.listed.proofs.Accepted.{known-code}
-use Rattle.listing.specs.Given.{withOut, readablePlan, Given}
+use Rattle.listing.specs.Engine.{withOutcome, readablePlan, Given}
 
 module _ (bw : ℕ) (a b : List ℕ) (p : Planned) where
   -- refused by the first
-  pub stopped : (x : Answer) → p ≡ plannedOf bw a b → p .out ≡ Refuse x → p ≡ readablePlan bw a b
+  pub stopped : (x : Answer) → p ≡ plannedOf bw a b → p .outcome ≡ Refuse x → p ≡ readablePlan bw a b
   unfolding readablePlan
   stopped x e f =
-      let g : p .out ≡ readable bw a b = f ∙ sym (planned-refuse bw a b x (out-is e f)) in
-      ap (withOut (p .out)) e ∙ ap (λ (o : Out). withOut o (plannedOf bw a b)) g
+      let g : p .outcome ≡ outcome11 bw a b = f ∙ sym (planned-refuse bw a b x (out-is e f)) in
+      ap (withOutcome (p .outcome)) e ∙ ap (λ (o : Outcome). withOutcome o (plannedOf bw a b)) g
 
   -- the second's outcome o, where the first passes
-  pub both : (o : Out) → p ≡ plannedOf bw a b → p .out ≡ Pass → o ≡ (p .out or userChecks bw a b) → withOut o p ≡ readablePlan bw a b
+  pub both : (o : Outcome) → p ≡ plannedOf bw a b → p .outcome ≡ Pass → o ≡ (p .outcome or outcome9to11 bw a b) → withOutcome o p ≡ readablePlan bw a b
   unfolding readablePlan
   both o e f h =
-      let g : o ≡ readable bw a b = h ∙ or-next _ _ f ∙ sym (planned-rest bw a b (out-is e f)) in
-      ap (withOut o) e ∙ ap (λ (o : Out). withOut o (plannedOf bw a b)) g
+      let g : o ≡ outcome11 bw a b = h ∙ or-next _ _ f ∙ sym (planned-rest bw a b (out-is e f)) in
+      ap (withOutcome o) e ∙ ap (λ (o : Outcome). withOutcome o (plannedOf bw a b)) g
 
 -- ---- the plan that both have told
 module _ (bw : ℕ) (a b : List ℕ) {p : Planned} (e : p ≡ readablePlan bw a b) where
-  pub outcome : {o : Out} → p .out ≡ o → readable bw a b ≡ o
+  pub outcome : {o : Outcome} → p .outcome ≡ o → outcome11 bw a b ≡ o
   unfolding readablePlan
-  outcome f = sym (ap (λ (p : Planned). p .out) e) ∙ f
+  outcome f = sym (ap (λ (p : Planned). p .outcome) e) ∙ f
 
   -- of a frame that passes 1 to 11
-  module _ (f : p .out ≡ Pass) where
+  module _ (f : p .outcome ≡ Pass) where
     pub code : bw ≤ 4
     code = known-code bw a b (outcome f)
 
     made : Made bw a b (plannedOf bw a b)
-    made = planned-pass bw a b (planned-out bw a b ∙ pass-left _ (userChecks bw a b) (sym (readable-stages bw a b) ∙ outcome f))
+    made = planned-pass bw a b (planned-out bw a b ∙ pass-left _ (outcome9to11 bw a b) (sym (outcome11-stages bw a b) ∙ outcome f))
 
     pub row-16 : length (p .row) ≡ 16
     unfolding readablePlan

@@ -1,4 +1,4 @@
--- The lines of a row's resources, position by position. Assumes nothing.
+-- The lines of a row's resources, position by position.
 use mathlib.Core.Path.{_≡_, refl, ap, _∙_}
 use mathlib.Core.Logic.{_≢_}
 use mathlib.Core.Bool.{Bool, true, false, cond}
@@ -11,12 +11,13 @@ use lib.Dec.{eqb}
 use lib.ListN.{length, getD, length-append, List·getD-append}
 use lib.Seq.{getD-append-add}
 use Rattle.text.specs.Text.{upto, Wrote}
-use Rattle.text.specs.Laws.{no-item, upto-cong, upto-append}
+use Rattle.text.proofs.Laws.{no-item, upto-cong, upto-append}
 use Rattle.plan.specs.Kinds.{span}
-use Rattle.plan.specs.Plan.{at}
-use Rattle.plan.specs.Guess.{onlyPlan}
+use Rattle.answer.specs.Lists.{at}
+use Rattle.plan.specs.Engine.{onlyPlan}
 use Rattle.records.specs.declared.Record.{Record}
-use Rattle.records.specs.Records.{lead, largerRecord, listAt, recordsFrom, blank, listed}
+use Rattle.records.specs.Records.{lead, largerRecord, listAt, recordsFrom, blank}
+use Rattle.records.specs.Engine.{listed}
 use Rattle.records.proofs.Listing.{records-most}
 use Rattle.listed.specs.Listing.{recordLine, resources, ruLines}
 

@@ -1,43 +1,37 @@
--- "22 is first of all and 23 last": a listing's answer is one by the rows 1 to 11 and 23. Assumes nothing.
+-- "22 is first of all and 23 last": a listing's answer is one by the listChecks 1 to 11 and 23.
 use mathlib.Core.Path.{_≡_, refl, _∙_, ap}
 use mathlib.Core.Bool.{true}
-use mathlib.Core.List.{List, [], _∷_, _++_}
+use mathlib.Core.List.{List, [], _∷_}
 use Prim.Native.Nat.{ℕ}
 use lib.Dec.{ltb}
 use lib.ListN.{length}
 use denote.Ref.{now}
 use Rattle.answer.specs.Answer.{_or_}
-use Rattle.answer.specs.Order.{Only, only-if, firstOf, first-append, or-end, distinct, absent}
+use Rattle.answer.specs.Order.{firstOf, Judged}
 use Rattle.answer.specs.declared.Answer.{Answer}
-use Rattle.answer.specs.declared.Out.{Out}
-use Rattle.table.specs.Table.{eleven, readable}
-use Rattle.table.specs.Judged.{Judged, judged}
-use Rattle.table.proofs.Exactly.{eleven-then}
-use Rattle.listed.specs.Listing.{listing, check23, listable, listAnswer}
+use Rattle.answer.specs.declared.Outcome.{Outcome}
+use Rattle.answer.proofs.Order.{Only, only-if, first-append, or-end, distinct, absent, judged}
+use Rattle.halves.specs.Table.{checks11, outcome11}
+use Rattle.halves.proofs.Exactly.{eleven-then}
+use Rattle.listed.specs.Listing.{listing, check23, listOutcome, listAnswer, listNumbers, listChecks}
 use Rattle.listing.proofs.Facts.{list-kept}
 use Rattle.listing.proofs.list.Reads as list
-
-abbrev pub numbers : List ℕ
-numbers = 1 ∷ 2 ∷ 3 ∷ 4 ∷ 5 ∷ 6 ∷ 7 ∷ 8 ∷ 9 ∷ 10 ∷ 11 ∷ 23 ∷ []
-
-abbrev pub rows : ℕ → List ℕ → List ℕ → ℕ → List Out
-rows bw a b room = eleven bw a b ++ (check23 bw a b room ∷ [])
 
 only-23 : (bw : ℕ) (a b : List ℕ) (room : ℕ) → Only 23 (check23 bw a b room)
 unfolding check23
 only-23 bw a b room = only-if (ltb room (length (listing bw a b))) 23 0 (length (listing bw a b))
 
-numbers-distinct : distinct (0 ∷ numbers) ≡ true
+numbers-distinct : distinct (0 ∷ listNumbers) ≡ true
 unfolding distinct absent
 numbers-distinct = refl
 
-listable-rows : (bw : ℕ) (a b : List ℕ) (room : ℕ) → firstOf (rows bw a b room) ≡ listable bw a b room
-unfolding listable readable
+listable-rows : (bw : ℕ) (a b : List ℕ) (room : ℕ) → firstOf (listChecks bw a b room) ≡ listOutcome bw a b room
+unfolding listOutcome outcome11
 listable-rows bw a b room =
-    first-append (eleven bw a b) (check23 bw a b room ∷ [])
-    ∙ ap (λ (o : Out). firstOf (eleven bw a b) or o) (unfold firstOf in or-end (check23 bw a b room))
+    first-append (checks11 bw a b) (check23 bw a b room ∷ [])
+    ∙ ap (λ (o : Outcome). firstOf (checks11 bw a b) or o) (unfold firstOf in or-end (check23 bw a b room))
 
-pub list-judged : (bw : ℕ) (a b : List ℕ) (room : ℕ) → Judged numbers (rows bw a b room) (length (listing bw a b)) (listAnswer bw a b room)
+pub list-judged : (bw : ℕ) (a b : List ℕ) (room : ℕ) → Judged listNumbers (listChecks bw a b room) (length (listing bw a b)) (listAnswer bw a b room)
 unfolding listAnswer
 list-judged bw a b room =
     rw (listable-rows bw a b room) at (judged (eleven-then bw a b (only-23 bw a b room)) numbers-distinct (length (listing bw a b)))

@@ -1,2 +1,1 @@
-pub mod Owned
-pub mod Given
+pub mod Engine

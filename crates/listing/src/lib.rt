@@ -1,6 +1,7 @@
 // A listing (01, "Listing"): an accepted frame's resources and stations as lines of text; and the program's whole text.
 use answer::Answer;
-use answer::Out;
+use answer::Outcome;
+use halves::Planned;
 use input::Parsed;
 use lines::put_head;
 use lines::put_refusal;
@@ -8,22 +9,21 @@ use lines::put_ru;
 use lines::put_sta;
 use records::Record;
 use resource::Tones;
-use table::Planned;
 ghost use mathlib.Core.Path.{_≡_};
 ghost use Prim.Native.Nat.{_+_, _*_, _≤_, _<_};
 ghost use lib.ListN.{length, getD};
 ghost use Rattle.text.specs.Text.{Wrote, upto};
-ghost use Rattle.input.specs.Parse.{bytesAt, secondAt};
+ghost use Rattle.input.specs.Engine.{bytesAt, secondAt};
 ghost use Rattle.resource.specs.Values.{ownPieces};
-ghost use Rattle.resource.specs.Starts.{pieceAt};
+ghost use Rattle.resource.specs.Engine.{pieceAt};
 ghost use Rattle.resource.specs.Runs.{runsOf, held};
-ghost use Rattle.plan.specs.Value.{kindsOf};
+ghost use Rattle.plan.specs.Engine.{kindsOf};
 ghost use Rattle.records.specs.Records.{pieceRecord, listAt};
-ghost use Rattle.records.specs.Tables.{numbersOf};
-ghost use Rattle.table.specs.Table.{readable};
-ghost use Rattle.listing.specs.Owned.{ownedLine, ownersIn};
-ghost use Rattle.listing.specs.Given.{Given, readablePlan};
-ghost use Rattle.longest.specs.Longest.{longestAt};
+ghost use Rattle.records.specs.Engine.{numbersOf};
+ghost use Rattle.halves.specs.Table.{outcome11};
+ghost use Rattle.listing.specs.Engine.{ownedLine, ownersIn};
+ghost use Rattle.listing.specs.Engine.{Given, readablePlan};
+ghost use Rattle.listed.specs.Longest.{longestAt};
 ghost use Rattle.listed.specs.Listing.{recordLine, listedAt, resources, ruLines, staLines, listingOf, listing, listAnswer, listAfter, frameText, programText};
 
 // ---- the listing of an accepted frame
@@ -237,7 +237,7 @@ fn list_given(
     m: usize,
     k: usize,
 ) -> Answer
-    requires { ⌜ (readable bw (now a) (now b) ≡ Out.Pass) × Given bw (now a) (now b) (now row) (now kinds) m k ⌝ }
+    requires { ⌜ (outcome11 bw (now a) (now b) ≡ Outcome.Pass) × Given bw (now a) (now b) (now row) (now kinds) m k ⌝ }
     ensures { λ r. ⌜ r ≡ listAnswer bw (now (a .entry)) (now (b .entry)) (length (now (out .entry))) ⌝ }
     ensures { λ _. ⌜ now (out .exit) ≡ listAfter bw (now (a .entry)) (now (b .entry)) (now (out .entry)) ⌝ }
 {
@@ -271,18 +271,18 @@ fn list_given(
 fn plan_readable(bw: u32, a: &[u8], b: &[u8]) -> Planned
     ensures { λ r. ⌜ r ≡ readablePlan bw (now (a .entry)) (now (b .entry)) ⌝ }
 {
-    let plan = table::plan_frame(bw, a, b, false);
-    let planned = plan.out;
-    if let Out::Refuse(_) = planned {
+    let plan = halves::plan_frame(bw, a, b, false);
+    let planned = plan.outcome;
+    if let Outcome::Refuse(_) = planned {
         return plan;
     }
     let m = plan.fields1;
     let k = plan.fields2;
-    let out = table::then_users(planned, bw, a, b, m, k, false);
+    let outcome = halves::then_users(planned, bw, a, b, m, k, false);
     let row = plan.row;
     let kinds = plan.kinds;
     Planned {
-        out,
+        outcome,
         row,
         kinds,
         shared: plan.shared,
@@ -297,8 +297,8 @@ pub fn list(bandwidth: u32, cc1: &[u8], cc2: &[u8], out: &mut [u8]) -> Answer
     ensures { λ _. ⌜ now (out .exit) ≡ listAfter bandwidth (now (cc1 .entry)) (now (cc2 .entry)) (now (out .entry)) ⌝ }
 {
     let plan = plan_readable(bandwidth, cc1, cc2);
-    let checked = plan.out;
-    if let Out::Refuse(x) = checked {
+    let checked = plan.outcome;
+    if let Outcome::Refuse(x) = checked {
         return x;
     }
     let row = plan.row;
@@ -323,8 +323,8 @@ fn put_outcome(out: &mut [u8], bw: u32, a: &[u8], b: &[u8]) -> usize
     ensures { λ r. ⌜ Wrote (now (out .entry)) 0 (frameText bw (now (a .entry)) (now (b .entry))) (now (out .exit)) r ⌝ }
 {
     let plan = plan_readable(bw, a, b);
-    let checked = plan.out;
-    if let Out::Refuse(x) = checked {
+    let checked = plan.outcome;
+    if let Outcome::Refuse(x) = checked {
         return put_refusal(out, x.number, x.channel, x.place);
     }
     let row = plan.row;

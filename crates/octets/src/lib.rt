@@ -2,7 +2,7 @@
 ghost use mathlib.Core.Path.{_≡_};
 ghost use Prim.Native.Nat.{_+_, _*_, _/_, _≤_, _<_, min};
 ghost use lib.ListN.{length};
-ghost use Rattle.answer.specs.Filled.{filled};
+ghost use Rattle.answer.specs.Lists.{filled};
 ghost use Rattle.octets.specs.Octets.{byteAt, wordAt};
 
 // The first n words as bytes, the lowest byte of each first.

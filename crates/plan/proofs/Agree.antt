@@ -1,4 +1,4 @@
--- Any two results that a public function's contract allows for one input agree: each contract is an equation. Assumes nothing.
+-- Any two results that a public function's contract allows for one input agree: each contract is an equation.
 use mathlib.Core.Path.{_≡_, sym, _∙_}
 use Rattle.plan.proofs.mask_of.Reads as mask-of
 use Rattle.plan.proofs.start_of.Reads as start-of

@@ -1,4 +1,4 @@
--- The third demand, as far as it speaks of plans and of the answer. Assumes nothing.
+-- The third demand, as far as it speaks of plans and of the answer.
 use mathlib.Core.Path.{_≡_, refl, sym, _∙_}
 use mathlib.Core.Logic.{_⊎_, inl, inr}
 use mathlib.Core.List.{List}
@@ -6,20 +6,21 @@ use Prim.Native.Nat.{ℕ, _<_}
 use native.Mathlib.Omega.{arith}
 use lib.ListN.{length}
 use Rattle.answer.specs.Answer.{no}
-use Rattle.answer.specs.declared.Out.{Out}
-use Rattle.answer.specs.declared.Out.the-variants.{Pass, Refuse}
-use Rattle.plan.specs.Plan.{at, Signals}
-use Rattle.plan.specs.Layout.{segments, Plan, PlanOfEight, SegmentPlan, Laid, accepted, no-plan, over-eight}
-use Rattle.plan.specs.Guess.{onlyPlan, layoutOf}
+use Rattle.answer.specs.declared.Outcome.{Outcome}
+use Rattle.answer.specs.declared.Outcome.the-variants.{Pass, Refuse}
+use Rattle.answer.specs.Lists.{at}
+use Rattle.plan.specs.Signals.{Signals}
+use Rattle.plan.specs.Answers.{segments, SomePlan, SomePlanOfEight, SegmentPlan, Laid, accepted, no-plan, over-eight}
+use Rattle.plan.specs.Engine.{onlyPlan, planOutcome}
 use Rattle.plan.proofs.Only.{signalled}
 use Rattle.plan.proofs.Laid.{row-ends, part-plan, whole-signals, laid-is}
 
 module _ (row : List ℕ) where
   -- a row is accepted exactly when a plan signals it with at most eight User fields on each resource
-  pub accepted-plan : Laid row Pass → PlanOfEight row 0 (length row)
+  pub accepted-plan : Laid row Pass → SomePlanOfEight row 0 (length row)
   accepted-plan (accepted w) = w
 
-  pub plan-accepted : PlanOfEight row 0 (length row) → layoutOf row ≡ Pass
+  pub plan-accepted : SomePlanOfEight row 0 (length row) → planOutcome row ≡ Pass
   plan-accepted w = sym (laid-is row Pass (accepted w))
 
   -- any plan that signals the row is the only plan, at every position of the row ..
@@ -32,14 +33,14 @@ module _ (row : List ℕ) where
   one-plan o o′ w w′ p u = only-plan o w p u ∙ sym (only-plan o′ w′ p u)
 
   -- a row has a plan exactly when each of its segments has
-  pub plan-parts : Plan row 0 (length row) → (s : ℕ) → s < segments row → SegmentPlan row s
+  pub plan-parts : SomePlan row 0 (length row) → (s : ℕ) → s < segments row → SegmentPlan row s
   plan-parts w s l = part-plan row w s
 
-  pub parts-plan : ((s : ℕ) → s < segments row → SegmentPlan row s) → Plan row 0 (length row)
+  pub parts-plan : ((s : ℕ) → s < segments row → SegmentPlan row s) → SomePlan row 0 (length row)
   parts-plan f = (onlyPlan (at row), whole-signals row f)
 
   -- a row that is not accepted is refused for its layout
-  pub refused-layout : (x : Out) → Laid row x → (x ≡ Pass) ⊎ ((s : ℕ) × ((x ≡ Refuse (no 7 0 s)) ⊎ (x ≡ Refuse (no 8 0 s))))
+  pub refused-layout : (x : Outcome) → Laid row x → (x ≡ Pass) ⊎ ((s : ℕ) × ((x ≡ Refuse (no 7 0 s)) ⊎ (x ≡ Refuse (no 8 0 s))))
   refused-layout x (accepted w) = inl refl
   refused-layout x (no-plan s l n f) = inr (s, inl refl)
   refused-layout x (over-eight s l p n f) = inr (s, inr refl)

@@ -1,4 +1,4 @@
--- The only plan signals a row where its tests say so, whatever the row's length. Assumes nothing.
+-- The only plan signals a row where its tests say so, whatever the row's length.
 use mathlib.Core.Path.{_≡_, refl, subst}
 use mathlib.Core.Logic.{_⊎_, inl, inr, ⊎-elim}
 use mathlib.Core.Bool.{Bool, true, false, _&&_, _||_}
@@ -9,8 +9,8 @@ use borrow.Author.Tests.{eqb-true, eq-eqb, lt-ltb, le-ltb}
 use Rattle.resource.specs.Values.{smallerAt}
 use Rattle.resource.proofs.Test.{below-or}
 use Rattle.plan.specs.Kinds.{family, span, takes, blankAt, mustName}
-use Rattle.plan.specs.Plan.{Place, Fits, own, blank, smaller, Signals}
-use Rattle.plan.specs.Guess.{firstNamed, tells, choose, onlyPlan, fitting}
+use Rattle.plan.specs.Signals.{Place, Fits, own, blank, smaller, Signals}
+use Rattle.plan.specs.Engine.{firstNamed, tells, choose, onlyPlan, fitting}
 use Rattle.plan.proofs.Tests.{decided, refuted}
 use Rattle.plan.proofs.Table.{by-test, not-both, span-0, span-1, span-2, named-high, family-high, span-four, place-segment, leaf}
 use Rattle.plan.proofs.Only.{First, first-view, Told, tells-told, Chosen, left, joined, whole, half, alone, chosen, only-known, Ends}

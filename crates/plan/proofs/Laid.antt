@@ -1,4 +1,4 @@
--- The layout's answer is 01's, and 01 has one answer for a row. Assumes nothing.
+-- The layout's answer is 01's, and 01 has one answer for a row.
 use mathlib.Core.Path.{_≡_, refl, sym, ap, subst}
 use mathlib.Core.Logic.{_⊎_, inl, inr}
 use mathlib.Core.Bool.{Bool, true, false, _&&_}
@@ -9,14 +9,15 @@ use lib.Dec.{ltb}
 use lib.ListN.{length, List·getD-eq-default}
 use borrow.Author.Tests.{ltb-true, ltb-false, not-true, not-false}
 use Rattle.answer.specs.Answer.{no, refuseIf, _or_}
-use Rattle.answer.specs.Order.{pass-right, pass-if}
-use Rattle.answer.specs.Least.{least-holds, least-before, least-le}
-use Rattle.answer.specs.declared.Out.{Out}
-use Rattle.answer.specs.declared.Out.the-variants.{Pass, Refuse}
-use Rattle.plan.specs.Plan.{at, Place, Fits, Signals}
+use Rattle.answer.proofs.Order.{pass-right, pass-if}
+use Rattle.answer.proofs.Least.{least-holds, least-before, least-le}
+use Rattle.answer.specs.declared.Outcome.{Outcome}
+use Rattle.answer.specs.declared.Outcome.the-variants.{Pass, Refuse}
+use Rattle.answer.specs.Lists.{at}
+use Rattle.plan.specs.Signals.{Place, Fits, Signals}
 use Rattle.plan.specs.Fields.{total}
-use Rattle.plan.specs.Layout.{segments, segmentEnd, Plan, PlanOfEight, SegmentPlan, SegmentOfEight, Laid, accepted, no-plan, over-eight}
-use Rattle.plan.specs.Guess.{onlyPlan, fitting, rightAt, wrongAt, overAt, firstWrong, firstOver, answer7, answer8, layoutOf}
+use Rattle.plan.specs.Answers.{segments, segmentEnd, SomePlan, SomePlanOfEight, SegmentPlan, SegmentPlanOfEight, Laid, accepted, no-plan, over-eight}
+use Rattle.plan.specs.Engine.{onlyPlan, fitting, rightAt, wrongAt, overAt, firstWrong, firstOver, outcome7, outcome8, planOutcome}
 use Rattle.plan.proofs.Tests.{Tested, ltb-decides}
 use Rattle.plan.proofs.Table.{not-both, place-segment, within-yes, yes-within}
 use Rattle.plan.proofs.Only.{Ends, signalled, only-known}
@@ -75,7 +76,7 @@ module _ (row : List ℕ) (s : ℕ) (h : s < segments row) where
       let e = place-segment (onlyPlan (at row) p) p q (only-known (at row) p) w in
       omega arith)
 
-  segment-total : (w : SegmentOfEight row s) (p : ℕ) → 4 * s ≤ p → p < segmentEnd row s → total (onlyPlan (at row) p) (at row) p ≤ 8
+  segment-total : (w : SegmentPlanOfEight row s) (p : ℕ) → 4 * s ≤ p → p < segmentEnd row s → total (onlyPlan (at row) p) (at row) p ≤ 8
   segment-total w p l u =
       rw (← signalled (w .0) (at row) (4 * s) (segmentEnd row s) (segment-ends row s h) (w .1) p l u) (w .2 p l u)
 
@@ -92,10 +93,10 @@ pub part-signals : (row : List ℕ) (s : ℕ) (o : ℕ → ℕ) → Signals o (a
 part-signals row s o w =
     restrict o (at row) 0 (length row) (4 * s) (segmentEnd row s) (omega arith) (omega arith) (omega arith) (ends-well row s) w
 
-pub part-plan : (row : List ℕ) → Plan row 0 (length row) → (s : ℕ) → SegmentPlan row s
+pub part-plan : (row : List ℕ) → SomePlan row 0 (length row) → (s : ℕ) → SegmentPlan row s
 part-plan row w s = (w .0, part-signals row s (w .0) (w .1))
 
-part-eight : (row : List ℕ) → PlanOfEight row 0 (length row) → (s : ℕ) → SegmentOfEight row s
+part-eight : (row : List ℕ) → SomePlanOfEight row 0 (length row) → (s : ℕ) → SegmentPlanOfEight row s
 part-eight row w s = (w .0, part-signals row s (w .0) (w .1), λ p l u. w .2 p (omega arith) (omega arith))
 
 -- and the only plan signals the row where every position is right
@@ -128,9 +129,9 @@ module _ (row : List ℕ) where
   unfolding firstOver
   over-most = least-le (overAt row) (length row)
 
-  pub layout-laid : Laid row (layoutOf row)
-  unfolding layoutOf answer7 answer8 _or_
-  layout-laid = go (ltb (firstWrong row) (length row)) (ltb (firstOver row) (length row)) refl refl
+  pub outcome-laid : Laid row (planOutcome row)
+  unfolding planOutcome outcome7 outcome8 _or_
+  outcome-laid = go (ltb (firstWrong row) (length row)) (ltb (firstOver row) (length row)) refl refl
     where
       go : (a b : Bool) → ltb (firstWrong row) (length row) ≡ a → ltb (firstOver row) (length row) ≡ b
           → Laid row (refuseIf a (no 7 0 (firstWrong row / 4)) or refuseIf b (no 8 0 (firstOver row / 4)))
@@ -161,7 +162,7 @@ lowest P s t a b f g = go (ltb s t) (ltb t s) (ltb-decides s t) (ltb-decides t s
     go false true l m = absurd (b (f t m))
     go false false l m = omega arith
 
-pub laid-same : (row : List ℕ) (x y : Out) → Laid row x → Laid row y → x ≡ y
+pub laid-same : (row : List ℕ) (x y : Outcome) → Laid row x → Laid row y → x ≡ y
 laid-same row x y (accepted a) (accepted b) = refl
 laid-same row x y (accepted a) (no-plan s l n f) = absurd (n (part-plan row (a .0, a .1) s))
 laid-same row x y (accepted a) (over-eight s l p n f) = absurd (n (part-eight row a s))
@@ -170,15 +171,15 @@ laid-same row x y (no-plan s l n f) (no-plan t m o g) = ap (λ (k : ℕ). Refuse
 laid-same row x y (no-plan s l n f) (over-eight t m p o g) = absurd (n (p s l))
 laid-same row x y (over-eight s l p n f) (accepted a) = absurd (n (part-eight row a s))
 laid-same row x y (over-eight s l p n f) (no-plan t m o g) = absurd (o (p t m))
-laid-same row x y (over-eight s l p n f) (over-eight t m q o g) = ap (λ (k : ℕ). Refuse (no 8 0 k)) (lowest (SegmentOfEight row) s t n o f g)
+laid-same row x y (over-eight s l p n f) (over-eight t m q o g) = ap (λ (k : ℕ). Refuse (no 8 0 k)) (lowest (SegmentPlanOfEight row) s t n o f g)
 
 -- so a layout's outcome is the one that is worked out
-pub laid-is : (row : List ℕ) (x : Out) → Laid row x → x ≡ layoutOf row
-laid-is row x w = laid-same row x (layoutOf row) w (layout-laid row)
+pub laid-is : (row : List ℕ) (x : Outcome) → Laid row x → x ≡ planOutcome row
+laid-is row x w = laid-same row x (planOutcome row) w (outcome-laid row)
 
 -- a row that is accepted has no resource over eight
-pub none-over : (row : List ℕ) → layoutOf row ≡ Pass → firstOver row ≡ length row
-unfolding layoutOf answer8
+pub none-over : (row : List ℕ) → planOutcome row ≡ Pass → firstOver row ≡ length row
+unfolding planOutcome outcome8
 none-over row e =
-    let l : length row ≤ firstOver row = ltb-false (firstOver row) (length row) (pass-if _ _ (pass-right (answer7 row) _ e)) in
+    let l : length row ≤ firstOver row = ltb-false (firstOver row) (length row) (pass-if _ _ (pass-right (outcome7 row) _ e)) in
     omega (arith, over-most row)

@@ -9,3 +9,4 @@ pub mod Laid
 pub mod Value
 pub mod Demand
 pub mod Agree
+pub mod Decides

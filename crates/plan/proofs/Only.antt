@@ -1,4 +1,4 @@
--- A plan that signals a row is the only plan, whatever the row's length. Assumes nothing.
+-- A plan that signals a row is the only plan, whatever the row's length.
 use mathlib.Core.Path.{_≡_, refl, sym, _∙_, ap, subst}
 use mathlib.Core.Logic.{_≢_, _⊎_, inl, inr, ⊎-elim}
 use mathlib.Core.Bool.{Bool, true, false, cond}
@@ -6,11 +6,11 @@ use Prim.Native.Nat.{ℕ, zero, suc, _+_, _-_, _*_, _/_, _%_, _≤_, _<_}
 use native.Mathlib.Omega.{arith}
 use lib.Dec.{ltb, eqb}
 use borrow.Author.Tests.{eqb-true}
-use Rattle.answer.specs.Least.{least-holds, least-le}
+use Rattle.answer.proofs.Least.{least-holds, least-le}
 use Rattle.resource.proofs.Test.{below-or}
 use Rattle.plan.specs.Kinds.{family, span, takes, blankAt, mustName}
-use Rattle.plan.specs.Plan.{Place, Fits, Signals}
-use Rattle.plan.specs.Guess.{kindOf, nameOf, orElse, firstNamed, tells, choose, onlyPlan}
+use Rattle.plan.specs.Signals.{Place, Fits, Signals}
+use Rattle.plan.specs.Engine.{kindOf, nameOf, orElse, firstNamed, tells, choose, onlyPlan}
 use Rattle.plan.proofs.Tests.{Tested, move, eqb-decides, ltb-decides, or-tested}
 use Rattle.plan.proofs.Table.{not-both, equal-or, takes-known, known, span-some, span-1, span-2, named-high, high-named, family-back, family-high, span-four, beside, meets, plain-family, full, plain-blank, place-mod, fits-takes, names-fits, Leaf, leaf}
 use Rattle.plan.proofs.Steps.{orElse-low, orElse-high}

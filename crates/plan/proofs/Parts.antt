@@ -1,9 +1,9 @@
--- A plan of a row is one of each of its segments. Assumes nothing.
+-- A plan of a row is one of each of its segments.
 use mathlib.Core.Path.{_≡_}
 use mathlib.Core.Logic.{_⊎_, ⊎-elim}
 use Prim.Native.Nat.{ℕ, _%_, _≤_}
 use native.Mathlib.Omega.{arith}
-use Rattle.plan.specs.Plan.{Signals}
+use Rattle.plan.specs.Signals.{Signals}
 use Rattle.plan.proofs.Table.{known, place-segment}
 
 -- a plan of the whole is one of each part that ends with a segment

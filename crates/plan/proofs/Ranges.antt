@@ -1,5 +1,5 @@
 -- 01's sentences on what may stand where, in its own ranges of values, as laws of the table of kinds: so the definitions by
--- the table say what 01 says kind by kind ("What a plan is"). Assumes nothing.
+-- the table say what 01 says kind by kind ("What a plan is").
 use mathlib.Core.Path.{_≡_, refl, sym, _∙_}
 use mathlib.Core.Logic.{_≢_, _⊎_, inl, inr, ⊎-elim}
 use mathlib.Core.Bool.{Bool, true, false, cond, not, _&&_, _||_}
@@ -11,7 +11,7 @@ use Rattle.resource.specs.Values.{smallerAt, carried, fieldsOf}
 use Rattle.resource.proofs.Test.{both-right, below, every-below, every-between}
 use mir.Facts.{or-yes}
 use Rattle.plan.specs.Kinds.{kinds, kindAt, family, span, mask, takes, takesBlock, blankAt, mustName}
-use Rattle.plan.specs.Plan.{Place, Fits, own, blank, smaller}
+use Rattle.plan.specs.Signals.{Place, Fits, own, blank, smaller}
 use Rattle.plan.proofs.Table.{equal-or, not-both, family-low, family-most, span-0, span-1, span-2, span-four, named-high, high-named, place-mod, plain-family, plain-blank, full, leaf, smaller-view}
 
 -- each follows from the other

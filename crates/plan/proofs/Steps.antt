@@ -1,4 +1,4 @@
--- The steps of the engine, as the code takes them. Assumes nothing.
+-- The steps of the engine, as the code takes them.
 use mathlib.Core.Path.{_≡_, refl, sym, _∙_, ap}
 use mathlib.Core.Logic.{_⊎_, ⊎-elim, inl, inr}
 use mathlib.Core.Bool.{Bool, true, false, cond, _&&_, _||_}
@@ -10,12 +10,13 @@ use mathlib.Core.List.{List, [], _∷_}
 use lib.Pow.{pow-mono}
 use lib.Dec.{T, eqb, eqb→eq}
 use borrow.Author.Tests.{lt-ltb, le-ltb, eq-eqb, ne-eqb, eqb-true}
-use Rattle.answer.specs.Least.{least, least-holds, least-le}
+use Rattle.answer.specs.Least.{least}
+use Rattle.answer.proofs.Least.{least-holds, least-le}
 use Rattle.resource.specs.Values.{fieldsOf, smallerAt}
 use Rattle.resource.proofs.Test.{below-or, below, every-below, Missed, key-or, no-key}
 use Rattle.plan.specs.Kinds.{kinds, kindAt, family, span, mask, takes, takesBlock, blankAt, mustName}
-use Rattle.plan.specs.Plan.{Place}
-use Rattle.plan.specs.Guess.{kindOf, nameOf, orElse, tells, choose, fitting, within}
+use Rattle.plan.specs.Signals.{Place}
+use Rattle.plan.specs.Engine.{kindOf, nameOf, orElse, tells, choose, fitting, within}
 use Rattle.plan.proofs.Table.{family-back, family-most, high-named, spans, span-0, plain-family, plain-blank, full, place-mod, yes-within}
 use Rattle.plan.specs.Fields.{gives, share, channelShare, shares, fieldsIn, total}
 

@@ -1,4 +1,4 @@
--- What the table of kinds says, each rule a test that the checker computes over its lines. Assumes nothing.
+-- What the table of kinds says, each rule a test that the checker computes over its lines.
 use mathlib.Core.Path.{_≡_, refl, sym, _∙_, ap}
 use mathlib.Core.Logic.{_≢_, _⊎_, inl, inr, ⊎-elim}
 use mathlib.Core.Bool.{Bool, true, false, cond, not, _&&_, _||_}
@@ -10,12 +10,13 @@ use lib.Dec.{T, ltb, leb, eqb, eqb→eq}
 use lib.ListN.{List·getD-eq-default}
 use lib.Pow.{pow-mono}
 use borrow.Author.Tests.{ltb-true, leb-true, eqb-true, eqb-false, le-leb, lt-ltb, le-ltb}
-use Rattle.answer.specs.Least.{least, least-holds}
+use Rattle.answer.specs.Least.{least}
+use Rattle.answer.proofs.Least.{least-holds}
 use Rattle.resource.specs.Values.{smallerAt}
 use Rattle.resource.proofs.Test.{below-or, both-left, both-right, wherever, met, below, every-below, Missed, key-or, no-key}
 use Rattle.plan.specs.Kinds.{kind, kinds, kindAt, familyIn, maskIn, family, span, mask, takes, takesBlock, blankAt, mustName}
-use Rattle.plan.specs.Plan.{Place, Fits, own, blank, smaller}
-use Rattle.plan.specs.Guess.{kindOf, within}
+use Rattle.plan.specs.Signals.{Place, Fits, own, blank, smaller}
+use Rattle.plan.specs.Engine.{kindOf, within}
 
 -- ---- tests as facts
 pub holds : (t : Bool) → t ≡ true → T t

@@ -1,4 +1,4 @@
--- Tests and what they decide. Assumes nothing.
+-- Tests and what they decide.
 use mathlib.Core.Path.{_≡_, refl}
 use mathlib.Core.Logic.{_⊎_, inl, inr, ⊎-elim}
 use mathlib.Core.Bool.{Bool, true, false, not, _&&_, _||_}
@@ -6,7 +6,7 @@ use Prim.Native.Nat.{ℕ, _≤_, _<_}
 use native.Mathlib.Omega.{arith}
 use lib.Dec.{ltb, leb, eqb}
 use borrow.Author.Tests.{ltb-true, ltb-false, eqb-true, eqb-false, leb-true, leb-false}
-use Rattle.plan.specs.Decides.{Decides}
+use Rattle.plan.proofs.Decides.{Decides}
 
 -- what a test's outcome says
 abbrev pub Tested : Bool → Type 0 → Type 0

@@ -1,4 +1,4 @@
--- The plan of a row as a value: what its parts say. Assumes nothing.
+-- The plan of a row as a value: what its parts say.
 use mathlib.Core.Path.{_≡_, _∙_, ap}
 use mathlib.Core.Logic.{_≢_, ⊎-elim}
 use mathlib.Core.Bool.{Bool, true, false, cond, not, _&&_}
@@ -11,17 +11,16 @@ use native.Mathlib.Numerals.{add-one}
 use lib.Dec.{eqb, leb, ltb}
 use lib.ListN.{length, getD, replicate}
 use borrow.Author.Tests.{eq-eqb, ne-eqb}
-use Rattle.answer.specs.Filled.{getD-filled}
+use Rattle.answer.proofs.Lists.{getD-filled}
 use Rattle.answer.specs.Answer.{no, refuseIf, _or_}
-use Rattle.answer.specs.declared.Out.{Out}
-use Rattle.answer.specs.declared.Out.the-variants.{Pass}
+use Rattle.answer.specs.declared.Outcome.{Outcome}
+use Rattle.answer.specs.declared.Outcome.the-variants.{Pass}
 use Rattle.plan.specs.declared.Plan.{Plan}
 use Rattle.resource.specs.Values.{fieldsOf}
 use Rattle.resource.proofs.Fields.{fields-most as most-fields}
-use Rattle.plan.specs.Plan.{at}
-use Rattle.plan.specs.Fields.{total, shared}
-use Rattle.plan.specs.Guess.{firstNamed, choose, onlyPlan, fitting, within, rightAt, wrongAt, overAt, firstWrong, firstOver, answer7, answer8, layoutOf}
-use Rattle.plan.specs.Value.{fieldsTo, sharedTo, kindsOf, planOf}
+use Rattle.answer.specs.Lists.{at}
+use Rattle.plan.specs.Fields.{total, shared, fieldsTo}
+use Rattle.plan.specs.Engine.{firstNamed, choose, onlyPlan, fitting, within, rightAt, wrongAt, overAt, firstWrong, firstOver, outcome7, outcome8, planOutcome, sharedTo, kindsOf, planOf}
 use Rattle.plan.proofs.Table.{equal-or}
 use Rattle.plan.proofs.Only.{only-known}
 use Rattle.plan.proofs.Laid.{none-over}
@@ -116,7 +115,7 @@ shared-at row (suc n) p h =
     under false l = rw (add-zero (sharedTo row n))
 
 -- of a row that is accepted, each position's bit says whether its fields share their resource
-pub shared-bit : (row : List ℕ) → layoutOf row ≡ Pass → (p : ℕ) → p < length row
+pub shared-bit : (row : List ℕ) → planOutcome row ≡ Pass → (p : ℕ) → p < length row
     → eqb (planOf row .shared / 2 ^ p % 2) 1 ≡ shared (onlyPlan (at row)) (at row) p
 unfolding planOf
 shared-bit row e p h = let l = none-over row e in shared-at row (firstOver row) p (omega arith)
@@ -148,13 +147,13 @@ module _ (c : ℕ) (row : ℕ → ℕ) where
           rw (g, ne-eqb (n % 2) c (λ h. omega arith)) (omega arith)
 
 -- ---- the value
-pub out-is : (row : List ℕ) (w v : ℕ) (a b r : Out) → w ≡ firstWrong row → v ≡ firstOver row → a ≡ refuseIf (ltb w (length row)) (no 7 0 (w / 4))
-    → b ≡ refuseIf (ltb v (length row)) (no 8 0 (v / 4)) → r ≡ (a or b) → r ≡ layoutOf row
-unfolding layoutOf answer7 answer8
+pub out-is : (row : List ℕ) (w v : ℕ) (a b r : Outcome) → w ≡ firstWrong row → v ≡ firstOver row → a ≡ refuseIf (ltb w (length row)) (no 7 0 (w / 4))
+    → b ≡ refuseIf (ltb v (length row)) (no 8 0 (v / 4)) → r ≡ (a or b) → r ≡ planOutcome row
+unfolding planOutcome outcome7 outcome8
 out-is row w v a b r ew ev ea eb er = er ∙ rw (ea, eb, ew, ev)
 
-pub plan-is : (row kinds : List ℕ) (o : Out) (s f g : ℕ) → o ≡ layoutOf row → kinds ≡ kindsOf row → s ≡ sharedTo row (firstOver row)
+pub plan-is : (row kinds : List ℕ) (o : Outcome) (s f g : ℕ) → o ≡ planOutcome row → kinds ≡ kindsOf row → s ≡ sharedTo row (firstOver row)
     → f ≡ fieldsTo 0 (at row) (length row) → g ≡ fieldsTo 1 (at row) (length row)
-    → _≡_ {A = Plan} (record { out = o; kinds = kinds; shared = s; fields1 = f; fields2 = g }) (planOf row)
+    → _≡_ {A = Plan} (record { outcome = o; kinds = kinds; shared = s; fields1 = f; fields2 = g }) (planOf row)
 unfolding planOf
-plan-is row kinds o s f g eo ek es ef eg = (λ i. record { out = eo i; kinds = ek i; shared = es i; fields1 = ef i; fields2 = eg i })
+plan-is row kinds o s f g eo ek es ef eg = (λ i. record { outcome = eo i; kinds = ek i; shared = es i; fields1 = ef i; fields2 = eg i })

@@ -1,4 +1,4 @@
--- The User fields of a resource, and "at most eight User fields on each resource". Assumes nothing.
+-- The User fields of a resource, and "at most eight User fields on each resource".
 use mathlib.Core.Bool.{Bool, cond, _&&_}
 use Prim.Native.Nat.{ℕ, zero, suc, _+_, _*_, _/_, _%_, _≤_, _<_}
 use lib.Dec.{eqb, leb}
@@ -36,3 +36,8 @@ Eight o row a b = (p : ℕ) → a ≤ p → p < b → total (o p) row p ≤ 8
 -- "Where the resource has two or more fields over both channels together": position p's fields share their resource
 abbrev pub shared : (ℕ → ℕ) → (ℕ → ℕ) → ℕ → Bool
 shared o row p = leb 2 (total (o p) row p)
+
+-- "A channel's User fields follow its values in rising position": how many channel c, from 0, has of the first n positions
+abbrev pub fieldsTo : ℕ → (ℕ → ℕ) → ℕ → ℕ
+fieldsTo c row zero = 0
+fieldsTo c row (suc n) = fieldsTo c row n + cond (eqb (n % 2) c) (fieldsOf (row n)) 0

@@ -1,4 +1,4 @@
--- The kinds of resource that a position can be given to (01, "What a plan is"), as data. Assumes nothing.
+-- The kinds of resource that a position can be given to (01, "What a plan is"), as data.
 use mathlib.Core.List.{List, [], _∷_}
 use mathlib.Core.Bool.{Bool, cond, not}
 use Prim.Native.Nat.{ℕ, _-_, _*_, _/_, _%_, _^_}

@@ -1,7 +1,5 @@
-pub mod Decides
 pub mod Kinds
-pub mod Plan
+pub mod Signals
 pub mod Fields
-pub mod Layout
-pub mod Guess
-pub mod Value
+pub mod Answers
+pub mod Engine

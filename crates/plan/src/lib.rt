@@ -1,23 +1,24 @@
 // The plan of a row of RU Allocation values (01, "What a plan is"), made once: to what each position is given, whose User
 // fields share a resource, how many each channel has, and the answers 7 and 8. A kind of resource is its line in the table
 // of specs/Kinds.antt: line 0 is the position itself, and 7 is none.
-use answer::Out;
+use answer::Outcome;
 ghost use mathlib.Core.Path.{_≡_};
 ghost use mathlib.Core.Bool.{cond, _&&_, _||_};
 ghost use lib.Dec.{eqb, leb};
 ghost use Prim.Native.Nat.{_+_, _-_, _*_, _/_, _%_, _^_, _≤_, _<_};
 ghost use lib.ListN.{length, replicate};
-ghost use Rattle.answer.specs.Filled.{filled};
+ghost use Rattle.answer.specs.Lists.{filled};
 ghost use Rattle.plan.specs.Kinds.{family, span, mask, takes, blankAt};
-ghost use Rattle.plan.specs.Plan.{at};
+ghost use Rattle.answer.specs.Lists.{at};
 ghost use Rattle.plan.specs.Fields.{gives, share, fieldsIn, channelShare, total};
-ghost use Rattle.plan.specs.Layout.{Laid};
-ghost use Rattle.plan.specs.Guess.{nameOf, orElse, firstNamed, tells, choose, onlyPlan, fitting, within, firstWrong, firstOver};
-ghost use Rattle.plan.specs.Value.{fieldsTo, sharedTo, kindsOf, planOf};
+ghost use Rattle.plan.specs.Answers.{Laid};
+ghost use Rattle.plan.specs.Engine.{nameOf, orElse, firstNamed, tells, choose, onlyPlan, fitting, within, firstWrong, firstOver};
+ghost use Rattle.plan.specs.Fields.{fieldsTo};
+ghost use Rattle.plan.specs.Engine.{sharedTo, kindsOf, planOf};
 
 // The plan of a row.
 pub struct Plan {
-    pub out: Out,
+    pub outcome: Outcome,
     // to what each position is given: its kind
     pub kinds: [u16; 16],
     // bit p: the User fields of position p share their resource
@@ -430,18 +431,18 @@ fn channel_fields(row: &[u16], channel: usize) -> usize
 pub fn plan_of(row: &[u16]) -> Plan
     requires { ⌜ length (now row) ≤ 16 ⌝ }
     ensures { λ r. ⌜ r ≡ planOf (now (row .entry)) ⌝ }
-    ensures { λ r. ⌜ Laid (now (row .entry)) (r .out) ⌝ }
+    ensures { λ r. ⌜ Laid (now (row .entry)) (r .outcome) ⌝ }
 {
     let n = row.len();
     let kinds = kinds_of(row);
     let wrong = first_wrong(&kinds, row);
     let s = sharing(&kinds, row);
-    let out = answer::or_else(
+    let outcome = answer::or_else(
         answer::refuse_if(wrong < n, 7, 0, wrong / 4),
         answer::refuse_if(s.over < n, 8, 0, s.over / 4),
     );
     Plan {
-        out,
+        outcome,
         kinds,
         shared: s.shared,
         fields1: channel_fields(row, 0),

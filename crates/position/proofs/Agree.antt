@@ -1,4 +1,4 @@
--- Any two results that a public function's contract allows for one input agree: each contract says its whole result. Assumes nothing.
+-- Any two results that a public function's contract allows for one input agree: each contract says its whole result.
 use mathlib.Core.Path.{_≡_, sym, ap, _∙_}
 use Prim.Native.Nat.{ℕ}
 use mathlib.Core.List.{List}

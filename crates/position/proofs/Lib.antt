@@ -1,4 +1,5 @@
 pub mod Whole
 pub mod Agree
 pub mod Example
-pub mod Short
+pub mod Lacking
+pub mod Steps

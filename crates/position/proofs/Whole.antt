@@ -1,16 +1,17 @@
--- The walk's two parts, one after the other from a channel's first bit, are all that the channel holds. Assumes nothing.
+-- The walk's two parts, one after the other from a channel's first bit, are all that the channel holds.
 use Prim.Native.Nat.{ℕ, _+_, _≤_}
 use mathlib.Core.Path.{_≡_, refl, sym, _∙_, ap}
 use mathlib.Core.Bool.{true}
 use mathlib.Core.List.{List}
 use native.Mathlib.Omega.{arith}
 use lib.ListN.{length, replicate, length-replicate}
-use Rattle.answer.specs.Filled.{filled, filled-cong, filled-length}
+use Rattle.answer.specs.Lists.{filled}
+use Rattle.answer.proofs.Lists.{filled-cong, filled-length}
 use Rattle.bits.specs.Bits.{field}
 use Rattle.resource.specs.Values.{fieldsOf}
 use Rattle.resource.proofs.Fields.{fields-most}
 use Rattle.channel.specs.Layout.{present, common, subfields, subfieldsIn, valueAt, value, total, count, userAt, endOf}
-use Rattle.channel.specs.Laws.{present-1, common-le, count-le, subfields-le, total-cong, total-le}
+use Rattle.channel.proofs.Laws.{present-1, common-le, count-le, subfields-le, total-cong, total-le}
 use Rattle.position.specs.Walk.{user, whole, valueFrom, commonAt, userFrom, endFrom, blocksAt}
 
 -- of a channel that the bandwidth has, the number makes no difference

@@ -1,4 +1,4 @@
--- What reading at a bit, and walking a whole channel, comes to. Assumes nothing.
+-- What reading at a bit, and walking a whole channel, comes to.
 --
 -- 01, "Bandwidth and channels": "A reading position that carries its channel's bytes with it is wanted, after the same walk stands over
 -- plain bytes and a bit number." Everything here is said of a channel's bytes and a bit number, by the definitions of `bits` and `channel`.
@@ -7,7 +7,7 @@ use mathlib.Core.Bool.{cond}
 use mathlib.Core.List.{List}
 use lib.ListN.{length, replicate}
 use lib.Dec.{eqb, ltb}
-use Rattle.answer.specs.Filled.{filled}
+use Rattle.answer.specs.Lists.{filled}
 use Rattle.bits.specs.Bits.{field, lacks}
 use Rattle.resource.specs.Values.{fieldsOf}
 use Rattle.channel.specs.Layout.{overflow, common, subfields, valueAt, value, total, count, userAt, endOf}
@@ -32,9 +32,9 @@ unfoldable pub user : ℕ → List ℕ → ℕ → ℕ
 user bw s i = field s (userAt bw i) 22
 
 -- "common field cut short", or else "User blocks cut short": by how many bits. By none exactly where answers 3 and 9 pass
--- (`proofs/Short.antt`: `short-uncut`, `uncut-short`).
-unfoldable pub firstShort : ℕ → ℕ → ℕ
-firstShort c u = cond (ltb 0 c) c u
+-- (`proofs/Lacking.antt`: `lacking-uncut`, `uncut-lacking`).
+unfoldable pub firstLacking : ℕ → ℕ → ℕ
+firstLacking c u = cond (ltb 0 c) c u
 
 -- all that it holds, by `channel`'s definitions; bits past the end are 0, as in `bits`. The number of a channel that the bandwidth has makes no
 -- difference to its count (`proofs/Whole.antt`: `count-any`).
@@ -45,7 +45,7 @@ whole bw s = record {
   count = count bw 1 s;
   users = filled (user bw s) (count bw 1 s) (replicate 72 0);
   end = endOf bw (count bw 1 s);
-  short = firstShort (lacks s 0 (common bw)) (lacks s 0 (endOf bw (count bw 1 s)));
+  lacking = firstLacking (lacks s 0 (common bw)) (lacks s 0 (endOf bw (count bw 1 s)));
 }
 
 -- ---- its two parts, from any bit of the channel on; from the first one they are `whole` (`proofs/Whole.antt`: `walk-whole`)
@@ -80,5 +80,5 @@ blocksAt s at c = record {
   count = c .count;
   users = filled (userFrom s at) (c .count) (replicate 72 0);
   end = endFrom at (c .count);
-  short = firstShort (lacks s 0 at) (lacks s 0 (endFrom at (c .count)));
+  lacking = firstLacking (lacks s 0 at) (lacks s 0 (endFrom at (c .count)));
 }

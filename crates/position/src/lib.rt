@@ -4,8 +4,8 @@ ghost use mathlib.Core.Path.{_≡_};
 ghost use Prim.Native.Nat.{_+_, _*_, _≤_, _<_, _^_};
 ghost use lib.ListN.{length};
 ghost use Rattle.bits.specs.Bits.{field};
-ghost use Rattle.position.specs.Walk.{readAt, leftAt, commonAt, usersAt, firstShort, blocksAt, whole};
-ghost use Rattle.position.specs.Steps.{pastCheck, pastUser};
+ghost use Rattle.position.specs.Walk.{readAt, leftAt, commonAt, usersAt, firstLacking, blocksAt, whole};
+ghost use Rattle.position.specs.Engine.{pastCheck, pastUser};
 
 // What reading n bits comes to: their value and the bit after them, or how many of them lie past the end.
 pub enum Field {
@@ -21,14 +21,14 @@ pub struct CommonField {
     pub next: usize,
 }
 
-// All that a channel holds. `end` is the first bit of its padding; `short` is how many bits it lacks, 0 where it is whole.
+// All that a channel holds. `end` is the first bit of its padding; `lacking` is how many bits it lacks, 0 where it is whole.
 pub struct Channel {
     pub overflow: u32,
     pub values: [u16; 8],
     pub count: usize,
     pub users: [u32; 72],
     pub end: usize,
-    pub short: usize,
+    pub lacking: usize,
 }
 
 // User fields, 0 past them, and the bit after the last block.
@@ -135,8 +135,8 @@ fn users_at(s: &[u8], at: usize, n: usize) -> Users
 }
 
 // The bits lacking: of the common field, or else of the User blocks.
-fn first_short(common: usize, users: usize) -> usize
-    ensures { λ r. ⌜ r ≡ firstShort common users ⌝ }
+fn first_lacking(common: usize, users: usize) -> usize
+    ensures { λ r. ⌜ r ≡ firstLacking common users ⌝ }
 {
     if 0 < common { common } else { users }
 }
@@ -147,7 +147,7 @@ pub fn blocks_at(s: &[u8], at: usize, c: CommonField) -> Channel
     ensures { λ r. ⌜ r ≡ blocksAt (now (s .entry)) at c ⌝ }
 {
     let u = users_at(s, at, c.count);
-    let short = first_short(bits::lacks_at(s, 0, at), bits::lacks_at(s, 0, u.next));
+    let lacking = first_lacking(bits::lacks_at(s, 0, at), bits::lacks_at(s, 0, u.next));
     let values = c.values;
     let users = u.users;
     Channel {
@@ -156,7 +156,7 @@ pub fn blocks_at(s: &[u8], at: usize, c: CommonField) -> Channel
         count: c.count,
         users,
         end: u.next,
-        short,
+        lacking,
     }
 }
 

@@ -1,12 +1,12 @@
--- What the contracts of the reader's public functions leave open: nothing. Assumes nothing.
+-- What the contracts of the reader's public functions leave open: nothing.
 use mathlib.Core.Path.{_≡_, sym, _∙_, ap}
 use lib.ListN.{length, drop}
 use mathlib.Core.List.{_++_}
 use denote.Ref.{now}
 use Rattle.answer.specs.declared.Answer.{Answer}
-use Rattle.answer.specs.Order.{after-kept}
+use Rattle.answer.proofs.Order.{after-kept}
 use Rattle.frame.specs.Words.{wordCount, wordsOf}
-use Rattle.reader.specs.Table.{reading}
+use Rattle.reader.specs.Table.{readOutcome}
 use Rattle.reader.specs.Result.{answerOf, wordsAfter}
 use Rattle.reader.proofs.read.Reads as read
 use Rattle.reader.proofs.read_sealed.Reads as read-sealed
@@ -29,5 +29,5 @@ read-keeps κs a r s p n =
     let y = now (a .1 .1 .0) in
     let w = now (a .1 .1 .1 .0) in
     p .1
-    ∙ after-kept (reading bw x y (length w)) (wordCount bw x y) (wordsOf bw x y ++ drop (wordCount bw x y) w) w
+    ∙ after-kept (readOutcome bw x y (length w)) (wordCount bw x y) (wordsOf bw x y ++ drop (wordCount bw x y) w) w
     (λ e. n (ap (λ (z : Answer). z .number) (p .0) ∙ e))

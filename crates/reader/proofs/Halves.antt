@@ -1,28 +1,27 @@
--- The reading from its two halves. Assumes nothing.
+-- The reading from its two halves.
 use mathlib.Core.Path.{_≡_, sym, _∙_}
 use mathlib.Core.List.{List}
 use Prim.Native.Nat.{ℕ}
 use Rattle.answer.specs.Answer.{_or_}
 use Rattle.answer.specs.declared.Answer.{Answer}
-use Rattle.answer.specs.declared.Out.{Out}
-use Rattle.answer.specs.declared.Out.the-variants.{Pass, Refuse}
+use Rattle.answer.specs.declared.Outcome.{Outcome}
+use Rattle.answer.specs.declared.Outcome.the-variants.{Pass, Refuse}
 use Rattle.channel.specs.Layout.{row}
-use Rattle.channel.specs.Laws.{row-length}
-use Rattle.table.specs.declared.Planned.{Planned}
-use Rattle.table.specs.Half.{plannedOf}
-use Rattle.table.specs.Stages.{userChecks}
-use Rattle.table.proofs.Half.{Made, out-is, planned-refuse, planned-rest}
-use Rattle.frame.specs.Formats.{Formats}
-use Rattle.reader.specs.Table.{check12, reading}
-use Rattle.reader.specs.Stages.{reading-stopped, reading-rest}
+use Rattle.channel.proofs.Laws.{row-length}
+use Rattle.halves.specs.declared.Planned.{Planned}
+use Rattle.halves.specs.Engine.{plannedOf, outcome9to11}
+use Rattle.halves.proofs.Half.{Made, out-is, planned-refuse, planned-rest}
+use Rattle.frame.specs.Engine.{Formats}
+use Rattle.reader.specs.Table.{check12, readOutcome}
+use Rattle.reader.proofs.Stages.{reading-stopped, reading-rest}
 
 module _ (bw : ℕ) (a b : List ℕ) (room : ℕ) {p : Planned} (e : p ≡ plannedOf bw a b) where
   -- refused by the first
-  pub first-refuses : (x : Answer) → p .out ≡ Refuse x → reading bw a b room ≡ Refuse x
+  pub first-refuses : (x : Answer) → p .outcome ≡ Refuse x → readOutcome bw a b room ≡ Refuse x
   first-refuses x f = reading-stopped bw a b room x (planned-refuse bw a b x (out-is e f))
 
   -- the second's outcome o, where the first passes
-  pub second-says : (o q : Out) → p .out ≡ Pass → o ≡ (userChecks bw a b or check12 bw a b room) → o ≡ q → reading bw a b room ≡ q
+  pub second-says : (o q : Outcome) → p .outcome ≡ Pass → o ≡ (outcome9to11 bw a b or check12 bw a b room) → o ≡ q → readOutcome bw a b room ≡ q
   second-says o q f g h = reading-rest bw a b room (planned-rest bw a b (out-is e f)) ∙ sym g ∙ h
 
 -- the plan's shared positions are the formats of the frame's words

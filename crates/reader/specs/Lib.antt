@@ -1,4 +1,3 @@
 pub mod Table
 pub mod Result
-pub mod Stages
 pub mod Padding

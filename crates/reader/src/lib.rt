@@ -1,28 +1,36 @@
 // The reader: any bandwidth code, any bytes and any room to one answer, and the radiotap words of an accepted frame.
 use answer::Answer;
-use answer::Out;
+use answer::Outcome;
 ghost use mathlib.Core.Path.{_≡_};
 ghost use mathlib.Core.Bool.{true};
 ghost use Prim.Native.Nat.{_≤_};
 ghost use lib.ListN.{length};
 ghost use Rattle.answer.specs.Answer.{_or_};
 ghost use Rattle.channel.specs.Layout.{count};
-ghost use Rattle.table.specs.Stages.{Short, Sealed, userChecks};
+ghost use Rattle.halves.specs.Engine.{AtMost512, Sealed, outcome9to11};
 ghost use Rattle.reader.specs.Table.{noRoom, check12};
 ghost use Rattle.reader.specs.Result.{answerOf, wordsAfter};
 
-fn then_room(prev: Out, need: usize, room: usize) -> Out
+fn then_room(prev: Outcome, need: usize, room: usize) -> Outcome
     ensures { λ r. ⌜ r ≡ (prev or noRoom need room) ⌝ }
 {
     answer::or_else(prev, answer::refuse_if(room < need, 12, 0, need))
 }
 
 // 9 to 12, the second half, of a frame that passes 1 to 8 and has n and m User fields.
-fn check_users(bw: u32, a: &[u8], b: &[u8], n: usize, m: usize, room: usize, sealed: bool) -> Out
-    requires { ⌜ (sealed ≡ true → Sealed bw (now a) (now b)) × Short (now a) (now b) × (n ≤ 72) × (m ≤ 72) × (n ≡ count bw 1 (now a)) × (m ≡ count bw 2 (now b)) ⌝ }
-    ensures { λ r. ⌜ r ≡ (userChecks bw (now (a .entry)) (now (b .entry)) or check12 bw (now (a .entry)) (now (b .entry)) room) ⌝ }
+fn check_users(
+    bw: u32,
+    a: &[u8],
+    b: &[u8],
+    n: usize,
+    m: usize,
+    room: usize,
+    sealed: bool,
+) -> Outcome
+    requires { ⌜ (sealed ≡ true → Sealed bw (now a) (now b)) × AtMost512 (now a) (now b) × (n ≤ 72) × (m ≤ 72) × (n ≡ count bw 1 (now a)) × (m ≡ count bw 2 (now b)) ⌝ }
+    ensures { λ r. ⌜ r ≡ (outcome9to11 bw (now (a .entry)) (now (b .entry)) or check12 bw (now (a .entry)) (now (b .entry)) room) ⌝ }
 {
-    let seen = table::then_users(Out::Pass, bw, a, b, n, m, sealed);
+    let seen = halves::then_users(Outcome::Pass, bw, a, b, n, m, sealed);
     let need = 10 + (n + m);
     then_room(seen, need, room)
 }
@@ -33,15 +41,15 @@ fn read_as(bandwidth: u32, cc1: &[u8], cc2: &[u8], words: &mut [u32], sealed: bo
     ensures { λ r. ⌜ r ≡ answerOf bandwidth (now (cc1 .entry)) (now (cc2 .entry)) (length (now (words .entry))) ⌝ }
     ensures { λ _. ⌜ now (words .exit) ≡ wordsAfter bandwidth (now (cc1 .entry)) (now (cc2 .entry)) (now (words .entry)) ⌝ }
 {
-    let plan = table::plan_frame(bandwidth, cc1, cc2, sealed);
-    let planned = plan.out;
-    if let Out::Refuse(x) = planned {
+    let plan = halves::plan_frame(bandwidth, cc1, cc2, sealed);
+    let planned = plan.outcome;
+    if let Outcome::Refuse(x) = planned {
         return x;
     }
     let n = plan.fields1;
     let m = plan.fields2;
-    let out = check_users(bandwidth, cc1, cc2, n, m, words.len(), sealed);
-    if let Out::Refuse(x) = out {
+    let outcome = check_users(bandwidth, cc1, cc2, n, m, words.len(), sealed);
+    if let Outcome::Refuse(x) = outcome {
         return x;
     }
     let row = plan.row;

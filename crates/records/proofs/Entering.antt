@@ -1,4 +1,4 @@
--- The owners of all fields of a channel, entered position by position: `owners_of` and what it calls. Assumes nothing.
+-- The owners of all fields of a channel, entered position by position: `owners_of` and what it calls.
 use mathlib.Core.Path.{_≡_, refl, sym, _∙_, ap}
 use mathlib.Core.Logic.{_⊎_, inl, inr}
 use mathlib.Core.Bool.{Bool, true, false, cond}
@@ -8,14 +8,16 @@ use native.Mathlib.Omega.{arith}
 use borrow.Author.Tests.{eqb-true}
 use lib.Dec.{eqb}
 use lib.ListN.{length, getD, set, replicate, length-replicate, getD-replicate}
-use Rattle.answer.specs.Filled.{build, filled, build-is, filled-step, filled-length, getD-filled, getD-kept}
-use Rattle.plan.specs.Guess.{onlyPlan}
+use Rattle.answer.specs.Lists.{build, filled}
+use Rattle.answer.proofs.Lists.{build-is, filled-step, filled-length, getD-filled, getD-kept}
+use Rattle.plan.specs.Engine.{onlyPlan}
 use Rattle.plan.proofs.Only.{only-takes}
 use Rattle.resource.specs.Values.{fieldsOf, divides}
 use Rattle.resource.proofs.Fields.{fields-most}
 use Rattle.resource.proofs.Test.{below-or}
 use Rattle.records.specs.Records.{inChannel}
-use Rattle.records.specs.Owns.{fieldsBefore, number, lowest, ownerAt, ownerOf}
+use Rattle.records.specs.Owns.{fieldsBefore, number}
+use Rattle.records.specs.Engine.{lowest, ownerAt, ownerOf}
 use Rattle.records.proofs.Lead.{lowest-below}
 use Rattle.records.proofs.Listing.{records-most}
 use Rattle.records.proofs.Owners.{before-next, before-rise, found-left, nothing}

@@ -1,27 +1,27 @@
 -- The resource of a larger kind, and its subcarriers: they are those of its places, they lie in them, and they are those that 01 lists. The
--- only file of proofs that goes by the table's lines. Assumes nothing.
+-- only file of proofs that goes by the table's lines.
 use mathlib.Core.Path.{_≡_, refl, sym, _∙_, ap}
 use mathlib.Core.Logic.{_≢_, _⊎_, inl, inr}
 use mathlib.Core.Bool.{Bool, _&&_}
 use Prim.Native.Nat.{ℕ, zero, suc, _+_, _-_, _*_, _/_, _%_, _^_, _≤_, _<_}
 use native.Mathlib.Omega.{arith}
 use lib.Dec.{T, eqb, eqb→eq, leb, ltb, le→leb, lt→ltb}
-use Rattle.plan.specs.Kinds.{kinds, kindAt, span, mask, takes}
-use Rattle.plan.specs.Plan.{Place}
-use Rattle.plan.proofs.Table.{both, is-true, spans}
 use Rattle.resource.specs.declared.Pairing.the-variants.{P484And242}
 use Rattle.resource.specs.declared.Piece.{Piece}
-use Rattle.resource.specs.declared.Resource.{Resource}
 use Rattle.resource.specs.declared.Resource.the-variants.{Joined}
 use Rattle.resource.specs.Values.{set-at}
 use Rattle.resource.specs.Index.{indexOf, isPiece, fromPositions, exists, resourceAt, leavingOut, positionOf, placeOf}
 use Rattle.resource.specs.Runs.{In, placesRuns, runsOf, wide, narrow}
-use Rattle.resource.specs.Tones.{tonesAt, tonesOfThree, tonesOf}
+use Rattle.resource.specs.Tones.{tonesAt, tonesLeavingOut, tonesOf}
 use Rattle.resource.proofs.Test.{both-left, both-right, wherever, met, below, every-below}
 use Rattle.resource.proofs.Everywhere.{everywhere, at-position}
 use Rattle.resource.proofs.Places.{places-inside}
-use Rattle.resource.proofs.Agree.{Right, right-test, tested-right, piece-right, tones-found}
-use Rattle.records.specs.Records.{resourceColumn, larger, placesOf}
+use Rattle.resource.proofs.Agree.{right-test, tested-right, piece-right, tones-found}
+use Rattle.plan.specs.Kinds.{kinds, kindAt, span, mask, takes}
+use Rattle.plan.specs.Signals.{Place}
+use Rattle.plan.proofs.Table.{both, is-true, spans}
+use Rattle.records.specs.Records.{resourceColumn, larger, RightAt}
+use Rattle.records.specs.Engine.{placesOf}
 
 -- ---- the resource
 larger-joined : (k q : ℕ) → k < 4 → larger (suc (suc (suc k))) q ≡ leavingOut k
@@ -108,9 +108,6 @@ is-there n g p x h i j t =
     (both (ltb p 4 && ltb (4 * g + p) n) (leb (fromPositions x) n)
     (both (ltb p 4) (ltb (4 * g + p) n) (lt→ltb p 4 h) (lt→ltb (4 * g + p) n i)) (le→leb (fromPositions x) n j)) t
 
-abbrev pub RightAt : ℕ → ℕ → Resource → Type 0
-RightAt n g r = Right n g r (tonesOf n g r)
-
 -- the resources of every line, in a channel that has room for their span
 abbrev right-line : ℕ → ℕ → ℕ → ℕ → Bool
 right-line n g q c = wherever (leb (span c) n) (right-test n g (larger c q))
@@ -119,7 +116,7 @@ abbrev right-lines : ℕ → ℕ → ℕ → Bool
 right-lines n g q = below (right-line n g q) 7
 
 rights-tested : T (everywhere right-lines)
-unfolding larger resourceColumn resourceAt indexOf runsOf placesRuns wide narrow tonesOf tonesAt tonesOfThree positionOf placeOf span kindAt kinds
+unfolding larger resourceColumn resourceAt indexOf runsOf placesRuns wide narrow tonesOf tonesAt tonesLeavingOut positionOf placeOf span kindAt kinds
 rights-tested = tt
 
 module _ (b : ℕ) (h : b < 5) where

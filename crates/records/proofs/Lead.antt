@@ -1,5 +1,5 @@
 -- The lowest place of a kind, its upper places and its width: what the table of kinds says of them, each rule a test that the checker
--- computes over its lines. Assumes nothing.
+-- computes over its lines.
 use mathlib.Core.Path.{_≡_, refl, sym, _∙_, ap}
 use mathlib.Core.Logic.{_⊎_, inl, inr, ⊎-elim}
 use mathlib.Core.Bool.{Bool, true, _&&_}
@@ -9,13 +9,14 @@ use native.Mathlib.Nat.{div-add-mod}
 use lib.Dec.{T, ltb, leb, eqb, eqb→eq}
 use lib.ListN.{List·getD-eq-default}
 use borrow.Author.Tests.{ltb-true, leb-true, eqb-true, eqb-false, eq-eqb, ne-eqb}
-use Rattle.answer.specs.Least.{least, least-holds, least-le, least-below}
+use Rattle.answer.specs.Least.{least}
+use Rattle.answer.proofs.Least.{least-holds, least-le, least-below}
 use Rattle.resource.proofs.Test.{below-or, both-left, both-right, below, every-below}
 use Rattle.plan.specs.Kinds.{kind, kinds, kindAt, spanIn, span, mask, takes}
-use Rattle.plan.specs.Plan.{Place}
+use Rattle.plan.specs.Signals.{Place}
 use Rattle.plan.proofs.Table.{holds, is-true, by-test, at-span, at-place, span-some, spans, span-0, place-mod, takes-known}
 use Rattle.records.specs.Records.{lead}
-use Rattle.records.specs.Owns.{lowest}
+use Rattle.records.specs.Engine.{lowest}
 
 -- the first place, or else the second; it is one of its own
 abbrev lead-test : ℕ → Bool

@@ -1,4 +1,4 @@
--- The list of a plan's resources by number: laws of `listAt` and `recordsFrom`. Assumes nothing.
+-- The list of a plan's resources by number: laws of `listAt` and `recordsFrom`.
 use mathlib.Core.Path.{_≡_, refl, sym, _∙_, ap}
 use mathlib.Core.Logic.{⊎-elim, _≢_}
 use mathlib.Core.Bool.{Bool, true, false, cond, false≢true}
@@ -12,14 +12,15 @@ use lib.Dec.{eqb}
 use lib.ListN.{length, getD, length-append, length-map, List·getD-append}
 use lib.Seq.{getD-append-add}
 use Rattle.plan.specs.Kinds.{span}
-use Rattle.plan.specs.Guess.{onlyPlan}
+use Rattle.plan.specs.Engine.{onlyPlan}
 use Rattle.plan.proofs.Table.{by-test, span-0}
 use Rattle.resource.specs.Values.{ownPieces}
-use Rattle.resource.specs.Starts.{noPiece, pieceAt}
+use Rattle.resource.specs.Engine.{noPiece, pieceAt}
 use Rattle.resource.proofs.Test.{below-or}
 use Rattle.resource.proofs.Starts.{own-most}
 use Rattle.records.specs.declared.Record.{Record}
-use Rattle.records.specs.Records.{pieceRecord, lead, largerRecord, once, listAt, recordsFrom, blank, listed}
+use Rattle.records.specs.Records.{pieceRecord, lead, largerRecord, once, listAt, recordsFrom, blank}
+use Rattle.records.specs.Engine.{listed}
 use Rattle.records.proofs.Lead.{lead-0}
 
 -- the k-th of those that are listed at p, where there are so many

@@ -1,4 +1,4 @@
--- Each User field below a channel's count has exactly one owner, the one that the program finds. Assumes nothing.
+-- Each User field below a channel's count has exactly one owner, the one that the program finds.
 use mathlib.Core.Path.{_≡_, refl, sym, _∙_, ap}
 use mathlib.Core.Logic.{⊎-elim}
 use mathlib.Core.Bool.{Bool, true, false, cond, not}
@@ -10,13 +10,14 @@ use borrow.Author.Tests.{lt-ltb, le-ltb, eq-eqb, eqb-true}
 use lib.Dec.{eqb, eqb→eq}
 use lib.ListN.{length}
 use Rattle.plan.specs.Kinds.{span}
-use Rattle.plan.specs.Plan.{Fits, own, blank, smaller, Signals}
+use Rattle.plan.specs.Signals.{Fits, own, blank, smaller, Signals}
 use Rattle.plan.proofs.Table.{known, takes-known, family-low, blank-least, blank-most}
 use Rattle.resource.specs.Values.{pieces, fieldsOf, divides}
 use Rattle.resource.proofs.Test.{below-or, every-between}
 use Rattle.resource.proofs.Pieces.{divided-low, divided-fields, divided-not, some-pieces, no-pieces-left, none-left}
 use Rattle.records.specs.Records.{inChannel}
-use Rattle.records.specs.Owns.{fieldsBefore, ComesFrom, number, Owns, of-piece, of-place, lowest, ownerAt, ownerOf}
+use Rattle.records.specs.Owns.{fieldsBefore, ComesFrom, number, Owns, of-piece, of-place}
+use Rattle.records.specs.Engine.{lowest, ownerAt, ownerOf}
 use Rattle.records.proofs.Lead.{lowest-place, lowest-only}
 
 -- ---- the count of a channel's fields

@@ -1,5 +1,5 @@
 -- A resource owns as many fields of each channel as its share says, and the shares are all the fields: for every plan that signals the
--- row. Assumes nothing.
+-- row.
 use mathlib.Core.Path.{_≡_, refl, sym, _∙_, ap, subst}
 use mathlib.Core.Logic.{_⊎_, inl, inr, ⊎-elim, _≢_}
 use mathlib.Core.Bool.{Bool, true, false, cond, _&&_, _||_}
@@ -12,25 +12,22 @@ use borrow.Author.Tests.{lt-ltb, eq-eqb, ne-eqb, eqb-true, eqb-false}
 use lib.Dec.{eqb}
 use lib.ListN.{length, getD}
 use Rattle.plan.specs.Kinds.{family, span, takes}
-use Rattle.plan.specs.Plan.{Takes, Place, Fits, Signals}
+use Rattle.plan.specs.Signals.{Takes, Place, Fits, Signals}
 use Rattle.plan.specs.Fields.{gives, share, channelShare, shares, fieldsIn}
 use Rattle.plan.proofs.Tests.{Tested}
-use Rattle.plan.proofs.Table.{by-test, not-both, equal-or, at-span, takes-known, known, family-low, plain-family, high-own, fits-takes}
-use Rattle.plan.proofs.Table.{span-some, span-most, span-0, place-mod}
+use Rattle.plan.proofs.Table.{by-test, not-both, equal-or, at-span, takes-known, known, family-low, plain-family, high-own, fits-takes, span-some, span-most, span-0, place-mod}
 use Rattle.resource.specs.declared.Size.the-variants.{S242}
 use Rattle.resource.specs.declared.Piece.the-variants.{Part}
 use Rattle.resource.specs.Values.{within, pieces, fieldsOf, divides, pieceFields, ownPieces}
 use Rattle.resource.proofs.Test.{below-or}
 use Rattle.resource.proofs.Starts.{own-fields, own-whole}
 use Rattle.records.specs.declared.Record.{Record}
-use Rattle.records.specs.Records.{inChannel, listAt, recordsFrom}
-use Rattle.records.specs.Records.{blank as noRecord}
-use Rattle.records.specs.Owns.{fieldsBefore, ComesFrom, number, Owns, lowest, ownerAt, ownerOf, Counts, none, one-more, no-more, shareOf, allShares}
-use Rattle.records.proofs.Sums.{sumTo, sumFrom, sum-cong, sum-one, sum-past, sum-window, from-cong}
-use Rattle.records.proofs.Sums.{tally, tally-cong, tally-split, tally-none, tally-all, tally-once, all-placed}
+use Rattle.records.specs.Records.{inChannel, listAt, recordsFrom, blank as noRecord}
+use Rattle.records.specs.Owns.{fieldsBefore, ComesFrom, number, Owns, Counts, none, one-more, no-more, shareOf, allShares}
+use Rattle.records.specs.Engine.{lowest, ownerAt, ownerOf}
+use Rattle.records.proofs.Sums.{sumTo, sumFrom, sum-cong, sum-one, sum-past, sum-window, from-cong, tally, tally-cong, tally-split, tally-none, tally-all, tally-once, all-placed}
 use Rattle.records.proofs.Lead.{lowest-place, lowest-only, itself-place, itself-lowest}
-use Rattle.records.proofs.Listing.{Located, located, located-record, located-once, records-rise}
-use Rattle.records.proofs.Listing.{recordAt, own-length, own-record, larger-record, larger-one, once-lead}
+use Rattle.records.proofs.Listing.{Located, located, located-record, located-once, records-rise, recordAt, own-length, own-record, larger-record, larger-one, once-lead}
 use Rattle.resource.proofs.Pieces.{none-left, divided-not, divided-low}
 use Rattle.records.proofs.Owners.{found-left, divided-itself, owner-only, owner-owns, search-comes, comes}
 

@@ -1,23 +1,18 @@
 -- Each resource of a plan has 01's subcarriers, as many as its name says, in rising maximal runs: for every bandwidth and every plan that
--- signals the row. Assumes nothing.
+-- signals the row.
 use mathlib.Core.Path.{_≡_}
 use mathlib.Core.Logic.{⊎-elim}
 use Prim.Native.Nat.{ℕ, _^_, _<_}
 use native.Mathlib.Omega.{arith}
 use lib.ListN.{length, getD}
-use Rattle.plan.specs.Plan.{Signals}
-use Rattle.plan.proofs.Table.{equal-or, known}
-use Rattle.resource.specs.Starts.{pieceAt}
+use Rattle.resource.specs.Engine.{pieceAt}
 use Rattle.resource.proofs.Pieces.{own-piece}
-use Rattle.records.specs.declared.Record.{Record}
-use Rattle.records.specs.Records.{listAt, recordsFrom, blank}
-use Rattle.records.proofs.Larger.{RightAt, piece-there, larger-right}
+use Rattle.plan.specs.Signals.{Signals}
+use Rattle.plan.proofs.Table.{equal-or, known}
+use Rattle.records.specs.Records.{listAt, recordsFrom, blank, RightRecord}
+use Rattle.records.proofs.Larger.{piece-there, larger-right}
 use Rattle.records.proofs.Listing.{recordAt, Somewhere, located, located-record, own-length, own-record, larger-record}
 use Rattle.records.proofs.Subcarriers.{whole-span}
-
--- the runs of a record's resource are those that 01 lists
-abbrev pub RightRecord : ℕ → Record → Type 0
-RightRecord n r = RightAt n (r .segment) (r .resource)
 
 module _ (o row : ℕ → ℕ) (b : ℕ) (h : b < 5) (s : Signals o row 0 (2 ^ b)) where
   own-right : (p m : ℕ) → p < 2 ^ b → o p ≡ 0 → m < length (listAt (o p) row p) → RightRecord (2 ^ b) (recordAt (o p) row p m)

@@ -1,5 +1,5 @@
 -- No two resources of a plan share a subcarrier, none has one in a punctured position, and each lies inside the channel: for every
--- bandwidth and every plan that signals the row. Assumes nothing.
+-- bandwidth and every plan that signals the row.
 use mathlib.Core.Path.{_≡_, refl, sym, _∙_, ap, subst}
 use mathlib.Core.Logic.{⊎-elim, _≢_}
 use Prim.Native.Nat.{ℕ, _+_, _*_, _/_, _%_, _^_, _≤_, _<_}
@@ -7,13 +7,12 @@ use native.Mathlib.Omega.{arith}
 use native.Mathlib.Nat.{div-add-mod}
 use lib.ListN.{length, getD}
 use Rattle.plan.specs.Kinds.{span}
-use Rattle.plan.specs.Plan.{Place, Fits, own, blank, smaller, Signals}
+use Rattle.plan.specs.Signals.{Place, Fits, own, blank, smaller, Signals}
 use Rattle.plan.proofs.Table.{equal-or, known, takes-known, family-low, blank-least, full, place-mod}
 use Rattle.resource.specs.Values.{pieces, ownPieces}
-use Rattle.resource.specs.Starts.{noPiece}
+use Rattle.resource.specs.Engine.{noPiece}
 use Rattle.resource.proofs.Apart.{piece-inside, pieces-apart}
-use Rattle.records.specs.Records.{lead, listAt, recordsFrom, HasTone, Punctured}
-use Rattle.records.specs.Records.{blank as noRecord}
+use Rattle.records.specs.Records.{lead, listAt, recordsFrom, HasTone, Punctured, blank as noRecord}
 use Rattle.records.proofs.Lead.{itself-place, span-within}
 use Rattle.records.proofs.Larger.{larger-inside}
 use Rattle.records.proofs.Listing.{recordAt, Located, Somewhere, located, located-record, own-length, own-record, larger-record, larger-most, once-lead}

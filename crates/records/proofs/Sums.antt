@@ -1,4 +1,4 @@
--- Sums over the numbers below a bound, and how many of them pass a test. Assumes nothing.
+-- Sums over the numbers below a bound, and how many of them pass a test.
 use mathlib.Core.Path.{_≡_, refl, sym, _∙_}
 use mathlib.Core.Logic.{⊎-elim, _≢_}
 use mathlib.Core.Bool.{Bool, true, false, cond}

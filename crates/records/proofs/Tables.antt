@@ -1,15 +1,14 @@
--- What stands in the tables of a row. Assumes nothing.
+-- What stands in the tables of a row.
 use mathlib.Core.Path.{_≡_}
 use mathlib.Core.List.{List}
 use Prim.Native.Nat.{ℕ, _+_, _<_}
 use lib.ListN.{length, getD, replicate}
-use Rattle.answer.specs.Filled.{getD-filled}
-use Rattle.plan.specs.Plan.{at}
-use Rattle.plan.specs.Guess.{onlyPlan}
-use Rattle.plan.specs.Value.{kindsOf}
+use Rattle.answer.proofs.Lists.{getD-filled}
+use Rattle.answer.specs.Lists.{at}
+use Rattle.plan.specs.Engine.{onlyPlan, kindsOf}
 use Rattle.plan.proofs.Only.{only-known}
 use Rattle.records.specs.Records.{recordsFrom}
-use Rattle.records.specs.Tables.{numbersOf}
+use Rattle.records.specs.Engine.{numbersOf}
 
 pub kind-at : (r : List ℕ) (p : ℕ) → p < length r → getD (kindsOf r) p 0 ≡ onlyPlan (at r) p
 unfolding kindsOf

@@ -1,3 +1,4 @@
 pub mod Records
-pub mod Tables
 pub mod Owns
+pub mod Engine
+pub mod Demand

@@ -1,14 +1,12 @@
--- Whose User field is whose (01, "Values of the RU Allocation subfield" and "What a plan is"), for any plan o. Assumes nothing.
+-- Whose User field is whose (01, "Values of the RU Allocation subfield" and "What a plan is"), for any plan o.
 use mathlib.Core.Path.{_≡_}
 use mathlib.Core.List.{List, [], _∷_}
-use Prim.Native.Nat.{ℕ, zero, suc, _+_, _-_, _*_, _/_, _%_, _<_}
-use mathlib.Core.Bool.{cond}
-use lib.Dec.{ltb}
+use Prim.Native.Nat.{ℕ, zero, suc, _+_, _%_, _<_}
 use lib.ListN.{length}
+use Rattle.resource.specs.Values.{pieces, fieldsOf}
 use Rattle.plan.specs.Kinds.{itself, span}
-use Rattle.plan.specs.Plan.{Place}
-use Rattle.plan.specs.Value.{fieldsTo}
-use Rattle.resource.specs.Values.{pieces, fieldsOf, divides}
+use Rattle.plan.specs.Signals.{Place}
+use Rattle.plan.specs.Fields.{fieldsTo}
 use Rattle.records.specs.declared.Record.{Record}
 use Rattle.records.specs.Records.{lead, recordsFrom}
 
@@ -34,22 +32,6 @@ pub data Owns (o : ℕ → ℕ) (row : ℕ → ℕ) (n i c j : ℕ) : Type 0 whe
   of-piece : (p k : ℕ) → ComesFrom row n c j p k → o p ≡ itself → k < length (pieces (row p)) → i ≡ number o row p k → Owns o row n i c j
   of-place : (p k q : ℕ) → ComesFrom row n c j p k → length (pieces (row p)) ≡ 0 → Place (o p) p q → q % span (o p) ≡ lead (o p) → i ≡ number o row q 0
       → Owns o row n i c j
-
--- ---- how the program finds the owner: `proofs/Owners.antt` shows that it is the one that owns the field
--- the lowest place of the resource of kind c that lies at p
-unfoldable pub lowest : ℕ → ℕ → ℕ
-lowest c p = span c * (p / span c) + lead c
-
--- the owner of the k-th field of position p
-unfoldable pub ownerAt : (ℕ → ℕ) → (ℕ → ℕ) → ℕ → ℕ → ℕ
-ownerAt o row p k = cond (divides (row p)) (number o row p k) (number o row (lowest (o p) p) 0)
-
--- the owner of field j of channel c, among the first n positions; 144 for none
-unfoldable pub ownerOf : (ℕ → ℕ) → (ℕ → ℕ) → ℕ → ℕ → ℕ → ℕ
-ownerOf o row c zero j = 144
-ownerOf o row c (suc n) j =
-    cond (ltb j (fieldsBefore c row n)) (ownerOf o row c n j)
-    (cond (ltb j (fieldsBefore c row (suc n))) (ownerAt o row n (j - fieldsBefore c row n)) 144)
 
 -- ---- how many
 -- exactly m of the numbers below n are such

@@ -1,13 +1,11 @@
--- The list of a plan's resources (01, "What a plan is"), for any plan o. Assumes nothing.
+-- The list of a plan's resources (01, "What a plan is"), for any plan o.
 use mathlib.Core.Bool.{cond}
 use mathlib.Core.List.{List, [], _∷_, _++_, map}
-use Prim.Native.Nat.{ℕ, zero, suc, _*_, _/_, _%_, _^_}
+use Prim.Native.Nat.{ℕ, zero, suc, _/_, _%_}
 use lib.Dec.{eqb}
 use lib.ListN.{length, getD}
 use Rattle.answer.specs.Least.{least}
-use Rattle.plan.specs.Kinds.{itself, span, mask, takes}
-use Rattle.plan.specs.Plan.{at}
-use Rattle.plan.specs.Fields.{fieldsIn}
+use Rattle.answer.specs.Lists.{at}
 use Rattle.resource.specs.declared.Size.the-variants.{S26, S242, S484, S996}
 use Rattle.resource.specs.declared.Piece.{Piece}
 use Rattle.resource.specs.declared.Piece.the-variants.{Part}
@@ -15,7 +13,10 @@ use Rattle.resource.specs.declared.Resource.{Resource}
 use Rattle.resource.specs.declared.Resource.the-variants.{Single}
 use Rattle.resource.specs.Values.{pieceFields, ownPieces}
 use Rattle.resource.specs.Index.{resourceAt, leavingOut}
-use Rattle.resource.specs.Runs.{In, runsOf}
+use Rattle.resource.specs.Runs.{In, runsOf, Right}
+use Rattle.resource.specs.Tones.{tonesOf}
+use Rattle.plan.specs.Kinds.{itself, span, takes}
+use Rattle.plan.specs.Fields.{fieldsIn}
 use Rattle.records.specs.declared.Record.{Record}
 
 -- "Content channel 1 holds the even positions, channel 2 the odd ones": f where position p is channel c's, counted from 0
@@ -52,10 +53,6 @@ resourceColumn q =
 -- that of kind c
 unfoldable pub larger : ℕ → ℕ → Resource
 larger c q = getD (resourceColumn q) c (Single S26 0)
-
--- its places among the four positions of its segment, bit j for place j, where it lies at position p: those of its span, from where that begins
-unfoldable pub placesOf : ℕ → ℕ → ℕ
-placesOf c p = mask c * 2 ^ (span c * (p / span c) % 4)
 
 -- "A resource's fields are those of all its places"
 abbrev pub largerRecord : ℕ → (ℕ → ℕ) → ℕ → Record
@@ -96,7 +93,9 @@ Punctured n q u = In u (runsOf n (q / 4) (resourceAt (q % 4) (Part S242 1)))
 abbrev pub blank : Record
 blank = record { resource = Single S26 0; segment = 0; position = 0; fields1 = 0; fields2 = 0 }
 
--- ---- how the program counts: `proofs/` shows that it is the list's
--- how many are listed at p
-unfoldable pub listed : ℕ → ℕ → ℕ → ℕ
-listed c p v = cond (eqb c itself) (length (ownPieces v)) (cond (eqb (p % span c) (lead c)) 1 0)
+abbrev pub RightAt : ℕ → ℕ → Resource → Type 0
+RightAt n g r = Right n g r (tonesOf n g r)
+
+-- the runs of a record's resource are those that 01 lists
+abbrev pub RightRecord : ℕ → Record → Type 0
+RightRecord n r = RightAt n (r .segment) (r .resource)

@@ -9,15 +9,17 @@ ghost use mathlib.Core.Path.{_≡_};
 ghost use mathlib.Core.Bool.{cond};
 ghost use Prim.Native.Nat.{_+_, _*_, _/_, _≤_, _<_};
 ghost use lib.ListN.{length, replicate};
-ghost use Rattle.answer.specs.Filled.{build, filled};
-ghost use Rattle.plan.specs.Plan.{at};
-ghost use Rattle.plan.specs.Guess.{onlyPlan};
-ghost use Rattle.plan.specs.Value.{kindsOf};
-ghost use Rattle.resource.specs.Starts.{numberedOf};
+ghost use Rattle.answer.specs.Lists.{build, filled};
+ghost use Rattle.answer.specs.Lists.{at};
+ghost use Rattle.plan.specs.Engine.{onlyPlan};
+ghost use Rattle.plan.specs.Engine.{kindsOf};
+ghost use Rattle.resource.specs.Engine.{numberedOf};
 ghost use Rattle.resource.specs.Runs.{placesRuns, held};
-ghost use Rattle.records.specs.Records.{inChannel, pieceRecord, lead, larger, placesOf, largerRecord, listed, recordsOf};
-ghost use Rattle.records.specs.Owns.{fieldsBefore, lowest, ownerAt, ownerOf};
-ghost use Rattle.records.specs.Tables.{numbersOf};
+ghost use Rattle.records.specs.Records.{inChannel, pieceRecord, lead, larger, largerRecord, recordsOf};
+ghost use Rattle.records.specs.Engine.{placesOf, listed};
+ghost use Rattle.records.specs.Owns.{fieldsBefore};
+ghost use Rattle.records.specs.Engine.{lowest, ownerAt, ownerOf};
+ghost use Rattle.records.specs.Engine.{numbersOf};
 
 // A resource of the plan: its segment, its lowest position, and how many User fields of each channel are its own.
 pub struct Record {

@@ -1,5 +1,5 @@
 -- The natural runs of a resource are 01's signed ones, at every position of every bandwidth; and each resource has as many subcarriers as
--- its name says, in rising maximal runs. Assumes nothing.
+-- its name says, in rising maximal runs.
 use mathlib.Core.Path.{_≡_, refl, ap}
 use mathlib.Core.Bool.{Bool, true, false, _&&_}
 use mathlib.Core.List.{List, [], _∷_, map}
@@ -12,8 +12,8 @@ use Rattle.resource.specs.declared.Piece.{Piece}
 use Rattle.resource.specs.declared.Resource.{Resource}
 use Rattle.resource.specs.Names.{nameOf}
 use Rattle.resource.specs.Index.{indexOf, resourceAt, leavingOut, isPiece, fromPositions, exists, positionOf, placeOf}
-use Rattle.resource.specs.Tones.{Span, sameℤ, tonesAt, tonesOfThree, tonesOf}
-use Rattle.resource.specs.Runs.{spanOf, count, rising, runsOf, placesRuns, wide, wideWith26, narrow, narrowWith26, offset26, offset52, offset106, narrow26, narrow52, narrow106}
+use Rattle.resource.specs.Tones.{Span, sameℤ, tonesAt, tonesLeavingOut, tonesOf}
+use Rattle.resource.specs.Runs.{spanOf, count, rising, runsOf, placesRuns, wide, wideWith26, narrow, narrowWith26, offset26, offset52, offset106, narrow26, narrow52, narrow106, Right}
 use Rattle.resource.proofs.Test.{both-left, both-right, wherever, met}
 use Rattle.resource.proofs.Everywhere.{every-piece, at-piece, everywhere, at-position}
 
@@ -56,20 +56,14 @@ abbrev agrees : ℕ → ℕ → ℕ → Piece → Bool
 agrees n g p x = sameSpans (tonesAt n g p x) (map (spanOf n) (runsOf n g (resourceAt p x))) && sized n g (resourceAt p x)
 
 abbrev agrees-three : ℕ → ℕ → ℕ → Bool
-agrees-three n g k = sameSpans (tonesOfThree n g k) (map (spanOf n) (runsOf n g (leavingOut k))) && sized n g (leavingOut k)
+agrees-three n g k = sameSpans (tonesLeavingOut n g k) (map (spanOf n) (runsOf n g (leavingOut k))) && sized n g (leavingOut k)
 
 abbrev agrees-at : ℕ → ℕ → ℕ → Bool
 agrees-at n g p = every-piece (λ x. wherever (leb (fromPositions x) n) (agrees n g p x)) && wherever (leb 4 n) (agrees-three n g p)
 
 agree : T (everywhere agrees-at)
-unfolding indexOf resourceAt isPiece fromPositions positionOf placeOf tonesAt tonesOfThree runsOf placesRuns wide wideWith26 narrow narrowWith26 offset26 offset52 offset106 narrow26 narrow52 narrow106
+unfolding indexOf resourceAt isPiece fromPositions positionOf placeOf tonesAt tonesLeavingOut runsOf placesRuns wide wideWith26 narrow narrowWith26 offset26 offset52 offset106 narrow26 narrow52 narrow106
 agree = tt
-
--- what is shown of a resource: 01's subcarriers, as many as its name says, in rising maximal runs
-pub record Right (n g : ℕ) (r : Resource) (ss : List Span) : Type 0 where
-  pub tones : ss ≡ map (spanOf n) (runsOf n g r)
-  pub named : count (runsOf n g r) ≡ nameOf r
-  pub rises : T (rising 0 (runsOf n g r))
 
 right : (n g : ℕ) (r : Resource) (ss : List Span) → T (sameSpans ss (map (spanOf n) (runsOf n g r)) && sized n g r) → Right n g r ss
 right n g r ss t =
@@ -108,12 +102,12 @@ module _ (b g p : ℕ) (x : Piece) (h : b < 5) where
       (both-right d (leb (fromPositions x) n) u))
 
   -- a 484+242, from 80 MHz
-  pub three-right : p < 4 → 4 * g + p < 2 ^ b → 2 ≤ b → Right (2 ^ b) g (leavingOut p) (tonesOfThree (2 ^ b) g p)
+  pub three-right : p < 4 → 4 * g + p < 2 ^ b → 2 ≤ b → Right (2 ^ b) g (leavingOut p) (tonesLeavingOut (2 ^ b) g p)
   three-right l k m =
       let n = 2 ^ b in
       let f : Piece → Bool = λ y. wherever (leb (fromPositions y) n) (agrees n g p y) in
       let q : 2 ^ 2 ≤ n = pow-le-pow-right (omega arith) m in
-      right n g (leavingOut p) (tonesOfThree n g p)
+      right n g (leavingOut p) (tonesLeavingOut n g p)
       (met (leb 4 n) (agrees-three n g p)
       (both-right (every-piece f) (wherever (leb 4 n) (agrees-three n g p)) (at-position agrees-at b g p agree h l k))
       (le→leb 4 n q))
@@ -134,6 +128,6 @@ tones-found b g p x h i j k t =
     spans-eq (tonesOf n g (resourceAt p x)) (tonesAt n g p x)
     (met (leb (fromPositions x) n) (sameSpans (tonesOf n g (resourceAt p x)) (tonesAt n g p x)) (at-piece f x (at-position founds b g p all-found h i j) t) (le→leb (fromPositions x) n k))
 
-pub three-found : (n g k : ℕ) → tonesOf n g (leavingOut k) ≡ tonesOfThree n g k
+pub three-found : (n g k : ℕ) → tonesOf n g (leavingOut k) ≡ tonesLeavingOut n g k
 unfolding tonesOf
 three-found n g k = let e : k + 1 - 1 ≡ k = omega arith in rw e

@@ -1,5 +1,5 @@
 -- Where subcarriers lie: a piece's inside its own position, a larger resource's inside its places; and no two pieces of a value share one.
--- Assumes nothing.
+--
 use mathlib.Core.Path.{_≡_, sym}
 use mathlib.Core.Logic.{_≢_, _⊎_, inl, inr, ⊎-elim}
 use mathlib.Core.Bool.{Bool, not, _&&_}

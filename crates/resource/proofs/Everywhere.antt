@@ -1,4 +1,4 @@
--- A rule of every piece that exists, at every position of every bandwidth: computed once over all of them. Assumes nothing.
+-- A rule of every piece that exists, at every position of every bandwidth: computed once over all of them.
 use mathlib.Core.Bool.{Bool, _&&_}
 use Prim.Native.Nat.{ℕ, zero, suc, _+_, _*_, _^_, _≤_, _<_}
 use native.Mathlib.Omega.{arith}

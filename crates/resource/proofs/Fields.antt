@@ -1,4 +1,4 @@
--- How many fields a value gives: laws of `carried` and `fieldsOf`. Assumes nothing.
+-- How many fields a value gives: laws of `carried` and `fieldsOf`.
 use mathlib.Core.Path.{_≡_}
 use mathlib.Core.Bool.{Bool, false}
 use mathlib.Core.Logic.{⊎-elim}

@@ -1,4 +1,4 @@
--- What the program holds of a resource's runs are the runs: laws of `held`. Assumes nothing.
+-- What the program holds of a resource's runs are the runs: laws of `held`.
 use mathlib.Core.Path.{_≡_, refl}
 use mathlib.Core.Bool.{Bool, true, false, cond}
 use mathlib.Core.List.{List, [], _∷_}

@@ -1,4 +1,4 @@
--- Size and index determine the position in the segment and the place there; no 26 has the index 19. Assumes nothing.
+-- Size and index determine the position in the segment and the place there; no 26 has the index 19.
 use mathlib.Core.Path.{_≡_}
 use mathlib.Core.Bool.{Bool, true, _&&_, not}
 use Prim.Native.Nat.{ℕ, _+_, _-_, _*_, _/_, _%_, _<_}

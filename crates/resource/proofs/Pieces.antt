@@ -1,5 +1,4 @@
--- The pieces of a value: they exist at every position, and a piece's place and position find the subcarriers that its index does. Assumes
--- nothing.
+-- The pieces of a value: they exist at every position, and a piece's place and position find the subcarriers that its index does.
 use mathlib.Core.Path.{_≡_, refl, sym, ap, _∙_}
 use mathlib.Core.Logic.{⊎-elim, _≢_}
 use mathlib.Core.Bool.{Bool, true, false, cond, not, _&&_, false≢true}
@@ -15,7 +14,7 @@ use Rattle.resource.specs.declared.Piece.the-variants.{Part, With26}
 use Rattle.resource.specs.declared.Run.{Run}
 use Rattle.resource.specs.Values.{pieces, fieldsOf, divides, ownPieces}
 use Rattle.resource.specs.Index.{resourceAt, isPiece, fromPositions}
-use Rattle.resource.specs.Starts.{noPiece, pieceAt, numberedOf}
+use Rattle.resource.specs.Engine.{noPiece, pieceAt, numberedOf}
 use Rattle.resource.specs.Runs.{narrow, narrowWith26, wide, wideWith26, runsOf}
 use Rattle.resource.proofs.Test.{below-or, both-left, both-right, below, every-below}
 use Rattle.resource.proofs.Apart.{not-divided, no-pieces}

@@ -1,4 +1,4 @@
--- The resources of whole positions: 01's kinds one by one, in its words, and where the subcarriers of any places lie. Assumes nothing.
+-- The resources of whole positions: 01's kinds one by one, in its words, and where the subcarriers of any places lie.
 use mathlib.Core.Path.{_≡_, refl, ap, _∙_}
 use mathlib.Core.Logic.{_≢_, _⊎_, inl, inr, ⊎-elim}
 use mathlib.Core.Bool.{Bool, true, false, cond, _&&_}

@@ -1,4 +1,4 @@
--- The program's way to the k-th piece finds 01's. Assumes nothing.
+-- The program's way to the k-th piece finds 01's.
 use mathlib.Core.Path.{_≡_, refl, sym, _∙_, ap}
 use mathlib.Core.Logic.{⊎-elim}
 use mathlib.Core.Bool.{Bool, true, false, cond, _&&_, _||_}
@@ -13,7 +13,7 @@ use Rattle.resource.specs.declared.Size.the-variants.{S26, S52, S106, S2
 use Rattle.resource.specs.declared.Piece.{Piece}
 use Rattle.resource.specs.declared.Piece.the-variants.{Part, With26}
 use Rattle.resource.specs.Values.{carried, pieces, fieldsOf, ownPieces}
-use Rattle.resource.specs.Starts.{noPiece, pieceAt, numberedOf, starts, nthFrom, pieceFrom}
+use Rattle.resource.specs.Engine.{noPiece, pieceAt, numberedOf, starts, nthFrom, pieceFrom}
 use Rattle.resource.proofs.Test.{both-left, both-right, below, every-below, every-between, below-or}
 use Rattle.resource.proofs.Apart.{no-pieces}
 

@@ -1,4 +1,4 @@
--- Rules that the checker computes at every number below a bound, or at every key of a `match`. Assumes nothing.
+-- Rules that the checker computes at every number below a bound, or at every key of a `match`.
 use mathlib.Core.Path.{_≡_, refl, sym}
 use mathlib.Core.Logic.{_⊎_, inl, inr, ⊎-elim}
 use mathlib.Core.Bool.{Bool, true, false, not, _&&_, _||_}

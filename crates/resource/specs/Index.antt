@@ -1,4 +1,4 @@
--- The index of a resource in its segment (01, "Index and subcarriers"). Assumes nothing.
+-- The index of a resource in its segment (01, "Index and subcarriers").
 use mathlib.Core.Bool.{Bool, cond, _&&_}
 use Prim.Native.Nat.{ℕ, _+_, _-_, _*_, _/_, _%_}
 use lib.Dec.{ltb, leb, eqb}

@@ -3,4 +3,4 @@ pub mod Values
 pub mod Index
 pub mod Tones
 pub mod Runs
-pub mod Starts
+pub mod Engine

@@ -1,4 +1,4 @@
--- What 01 calls each resource: its number of subcarriers. Assumes nothing.
+-- What 01 calls each resource: its number of subcarriers.
 use Prim.Native.Nat.{ℕ}
 use Rattle.resource.specs.declared.Size.{Size}
 use Rattle.resource.specs.declared.Size.the-variants.{S26, S52, S106, S242, S484, S996}

@@ -1,10 +1,11 @@
 -- The subcarriers of a resource as natural numbers, counted from the channel's lower edge: in a channel of n positions u stands for the
--- subcarrier u - 128 n. From 40 MHz every position is then 256 wide. `proofs/Agree.antt` shows that these are 01's. Assumes nothing.
+-- subcarrier u - 128 n. From 40 MHz every position is then 256 wide. `proofs/Agree.antt` shows that these are 01's.
+use mathlib.Core.Path.{_≡_}
 use mathlib.Core.Logic.{_⊎_}
 use mathlib.Core.Bool.{Bool, true, cond, _&&_}
-use mathlib.Core.List.{List, [], _∷_, _++_}
+use mathlib.Core.List.{List, [], _∷_, _++_, map}
 use Prim.Native.Nat.{ℕ, suc, _+_, _-_, _*_, _/_, _%_, _^_, _≤_}
-use lib.Dec.{leb, eqb}
+use lib.Dec.{leb, eqb, T}
 use lib.IntN.{ℤ, pos, _-ℤ_}
 use lib.ListN.{length, take, getD}
 use Rattle.resource.specs.declared.Size.{Size}
@@ -17,6 +18,7 @@ use Rattle.resource.specs.declared.Tones.{Tones}
 use Rattle.resource.specs.Values.{set-at}
 use Rattle.resource.specs.Index.{positionOf, placeOf}
 use Rattle.resource.specs.Tones.{Span, _to_}
+use Rattle.resource.specs.Names.{nameOf}
 
 abbrev pub run : ℕ → ℕ → Run
 run a b = record { lo = a; hi = b }
@@ -136,3 +138,9 @@ noRun = run 0 0
 
 unfoldable pub held : List Run → Tones
 held rs = record { count = length rs; runs = take 3 (rs ++ (noRun ∷ noRun ∷ noRun ∷ [])) }
+
+-- what is shown of a resource: 01's subcarriers, as many as its name says, in rising maximal runs
+pub record Right (n g : ℕ) (r : Resource) (ss : List Span) : Type 0 where
+  pub tones : ss ≡ map (spanOf n) (runsOf n g r)
+  pub named : count (runsOf n g r) ≡ nameOf r
+  pub rises : T (rising 0 (runsOf n g r))

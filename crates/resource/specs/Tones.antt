@@ -1,4 +1,4 @@
--- The subcarriers of a resource, as 01 lists them ("Index and subcarriers"): signed numbers, 0 at the channel's centre. Assumes nothing.
+-- The subcarriers of a resource, as 01 lists them ("Index and subcarriers"): signed numbers, 0 at the channel's centre.
 use mathlib.Core.Bool.{Bool, false, cond}
 use mathlib.Core.List.{List, [], _∷_, _++_}
 use Prim.Native.Nat.{ℕ, _+_, _-_, _*_, _/_, _%_}
@@ -33,8 +33,8 @@ abbrev pub shifted : ℤ → Span → Span
 shifted k s = (k +ℤ s .lo) to (k +ℤ s .hi)
 
 -- the i-th of a list, from 1
-abbrev pub nth : List Span → ℕ → Span
-nth l i = getD l (i - 1) none
+abbrev pub spanAt : List Span → ℕ → Span
+spanAt l i = getD l (i - 1) none
 
 -- ---- "Tones are maximal runs, rising": a run that the next one touches goes on in it
 abbrev pub sameℤ : ℤ → ℤ → Bool
@@ -99,9 +99,9 @@ abbrev pub the242 : ℕ → ℕ → ℕ → Span
 the242 n g p = shifted (lowest n g p) (pos 0 to pos 241)
 
 abbrev pub wideTones : ℕ → ℕ → ℕ → Piece → List Span
-wideTones n g p (Part S26 i) = shifted (lowest n g p) (nth (offsets S26) i) ∷ []
-wideTones n g p (Part S52 i) = shifted (lowest n g p) (nth (offsets S52) i) ∷ []
-wideTones n g p (Part S106 i) = shifted (lowest n g p) (nth (offsets S106) i) ∷ []
+wideTones n g p (Part S26 i) = shifted (lowest n g p) (spanAt (offsets S26) i) ∷ []
+wideTones n g p (Part S52 i) = shifted (lowest n g p) (spanAt (offsets S52) i) ∷ []
+wideTones n g p (Part S106 i) = shifted (lowest n g p) (spanAt (offsets S106) i) ∷ []
 wideTones n g p (Part S242 i) = the242 n g p ∷ []
 -- "484 is its two 242s"
 wideTones n g p (Part S484 i) = the242 n g (2 * (p / 2)) ∷ the242 n g (2 * (p / 2) + 1) ∷ []
@@ -111,12 +111,12 @@ wideTones n g p (Part S996 i) =
 -- "A 106+26 takes the middle 26"
 wideTones n g p (With26 i) =
     cond (eqb i 1)
-    (shifted (lowest n g p) (nth (offsets S106) 1) ∷ shifted (lowest n g p) (nth (offsets S26) 5) ∷ [])
-    (shifted (lowest n g p) (nth (offsets S26) 5) ∷ shifted (lowest n g p) (nth (offsets S106) 2) ∷ [])
+    (shifted (lowest n g p) (spanAt (offsets S106) 1) ∷ shifted (lowest n g p) (spanAt (offsets S26) 5) ∷ [])
+    (shifted (lowest n g p) (spanAt (offsets S26) 5) ∷ shifted (lowest n g p) (spanAt (offsets S106) 2) ∷ [])
 
 -- "484+242 its three": all but the position k that is left out
-abbrev pub threeTones : ℕ → ℕ → ℕ → List Span
-threeTones n g k =
+abbrev pub leavingOutTones : ℕ → ℕ → ℕ → List Span
+leavingOutTones n g k =
     cond (eqb k 0) [] (the242 n g 0 ∷ [])
     ++ cond (eqb k 1) [] (the242 n g 1 ∷ [])
     ++ cond (eqb k 2) [] (the242 n g 2 ∷ [])
@@ -142,28 +142,28 @@ abbrev pub the106s : List Span
 the106s = minus 122 to minus 17 ∷ pos 17 to pos 122 ∷ []
 
 abbrev pub narrow26 : ℕ → List Span
-narrow26 i = cond (eqb i 5) middle20 (nth (lower26s ++ (none ∷ upper26s)) i ∷ [])
+narrow26 i = cond (eqb i 5) middle20 (spanAt (lower26s ++ (none ∷ upper26s)) i ∷ [])
 
 abbrev pub narrowTones : Piece → List Span
 narrowTones (Part S26 i) = narrow26 i
-narrowTones (Part S52 i) = nth the52s i ∷ []
-narrowTones (Part S106 i) = nth the106s i ∷ []
+narrowTones (Part S52 i) = spanAt the52s i ∷ []
+narrowTones (Part S106 i) = spanAt the106s i ∷ []
 -- "242 -122:-2 with 2:122"
 narrowTones (Part S242 i) = minus 122 to minus 2 ∷ pos 2 to pos 122 ∷ []
 narrowTones (Part S484 i) = []
 narrowTones (Part S996 i) = []
-narrowTones (With26 i) = cond (eqb i 1) (nth the106s 1 ∷ middle20) (middle20 ++ (nth the106s 2 ∷ []))
+narrowTones (With26 i) = cond (eqb i 1) (spanAt the106s 1 ∷ middle20) (middle20 ++ (spanAt the106s 2 ∷ []))
 
 -- the subcarriers of the piece x at position p of segment g, in a channel of n positions
 unfoldable pub tonesAt : ℕ → ℕ → ℕ → Piece → List Span
 tonesAt n g p x = maximal (cond (eqb n 1) (narrowTones x) (wideTones n g p x))
 
 -- the subcarriers of the 484+242 of segment g that leaves out position k
-unfoldable pub tonesOfThree : ℕ → ℕ → ℕ → List Span
-tonesOfThree n g k = maximal (threeTones n g k)
+unfoldable pub tonesLeavingOut : ℕ → ℕ → ℕ → List Span
+tonesLeavingOut n g k = maximal (leavingOutTones n g k)
 
 -- ---- of the resource of segment g that has this size and index
 unfoldable pub tonesOf : ℕ → ℕ → Resource → List Span
 tonesOf n g (Single s i) = tonesAt n g (positionOf s i) (Part s (placeOf s i + 1))
 tonesOf n g (Joined P106And26 i) = tonesAt n g ((i - 1) / 2) (With26 ((i - 1) % 2 + 1))
-tonesOf n g (Joined P484And242 i) = tonesOfThree n g (i - 1)
+tonesOf n g (Joined P484And242 i) = tonesLeavingOut n g (i - 1)

@@ -1,4 +1,4 @@
--- What each value of the RU Allocation subfield says (01, "Values of the RU Allocation subfield"). Assumes nothing.
+-- What each value of the RU Allocation subfield says (01, "Values of the RU Allocation subfield").
 use mathlib.Core.Bool.{Bool, true, false, cond, not, _&&_, _||_}
 use mathlib.Core.List.{List, [], _∷_, _++_}
 use Prim.Native.Nat.{ℕ, _+_, _/_, _%_, _^_}

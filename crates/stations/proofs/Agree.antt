@@ -1,4 +1,4 @@
--- Any two results that the contract allows for one input agree: it is an equation. Assumes nothing.
+-- Any two results that the contract allows for one input agree: it is an equation.
 use mathlib.Core.Path.{_≡_, sym, _∙_}
 use Rattle.stations.proofs.station_twice.Reads as station-twice
 

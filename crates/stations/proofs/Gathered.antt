@@ -1,4 +1,4 @@
--- The repeat check by marks in words of 64 bits, gathered to one answer. Assumes nothing.
+-- The repeat check by marks in words of 64 bits, gathered to one answer.
 use Prim.Native.Nat.{ℕ, zero, suc, _+_, _-_, _*_, _/_, _%_, _^_, _<_}
 use mathlib.Core.Path.{_≡_, refl, sym, _∙_, ap, ap₂}
 use mathlib.Core.Bool.{Bool, true, false, cond, _&&_, _||_}
@@ -12,12 +12,13 @@ use lib.Dec.{eqb, ltb, leb}
 use lib.ListN.{length, getD, set, replicate, length-set}
 use lib.Seq.{getD-set-same, getD-set-other}
 use borrow.Author.Tests.{eq-eqb, ne-eqb, ltb-false, lt-ltb, le-ltb}
-use Rattle.answer.specs.Least.{least, least-cong, least-le}
-use Rattle.bits.specs.Fields.{field-lt}
+use Rattle.answer.specs.Least.{least}
+use Rattle.answer.proofs.Least.{least-cong, least-le}
+use Rattle.bits.proofs.Fields.{field-lt}
 use Rattle.channel.specs.Layout.{userAt}
 use Rattle.stations.specs.Stations.{seenBefore, repeated, stationAt, stationOf}
-use Rattle.stations.specs.Kept.{Holds, Entered, among, among-next}
-use Rattle.stations.specs.Gathered.{stationIn, anyRepeated}
+use Rattle.stations.specs.Engine.{Holds, Entered, stationIn, anyRepeated}
+use Rattle.stations.proofs.Kept.{among, among-next}
 
 pub station-lt : (ids : List ℕ) (i : ℕ) → stationIn ids i < 2048
 unfolding stationIn

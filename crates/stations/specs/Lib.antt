@@ -1,3 +1,2 @@
 pub mod Stations
-pub mod Kept
-pub mod Gathered
+pub mod Engine

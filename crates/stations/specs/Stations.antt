@@ -1,4 +1,4 @@
--- The STA-IDs of a frame, and 11. Assumes nothing.
+-- The STA-IDs of a frame, and 11.
 --
 -- 01, "What comes back": "11 | a STA-ID from 1 to 2006 seen before (channel 1 then 2) | channel, first bit of the later
 -- field". a and b are the bytes of channel 1 and channel 2.
@@ -9,7 +9,7 @@ use lib.Dec.{ltb, leb, eqb}
 use Rattle.answer.specs.Answer.{no, refuseIf}
 use Rattle.answer.specs.Least.{least}
 use Rattle.answer.specs.declared.Answer.{Answer}
-use Rattle.answer.specs.declared.Out.{Out}
+use Rattle.answer.specs.declared.Outcome.{Outcome}
 use Rattle.bits.specs.Bits.{field}
 use Rattle.channel.specs.Layout.{userAt}
 
@@ -36,6 +36,6 @@ stationPlace bw n j = cond (ltb j n) (no 11 1 (userAt bw j)) (no 11 2 (userAt bw
 unfoldable pub firstRepeated : ℕ → List ℕ → List ℕ → ℕ → ℕ → ℕ
 firstRepeated bw a b n m = least (repeated (stationOf bw a b n)) (n + m)
 
-unfoldable pub stationTwice : ℕ → List ℕ → List ℕ → ℕ → ℕ → Out
+unfoldable pub stationTwice : ℕ → List ℕ → List ℕ → ℕ → ℕ → Outcome
 stationTwice bw a b n m =
     refuseIf (ltb (firstRepeated bw a b n m) (n + m)) (stationPlace bw n (firstRepeated bw a b n m))

@@ -1,6 +1,6 @@
 // The repeat check: no STA-ID from 1 to 2006 stands twice in a frame (01, "What comes back", 11).
 use answer::Answer;
-use answer::Out;
+use answer::Outcome;
 ghost use mathlib.Core.Path.{_≡_};
 ghost use Prim.Native.Nat.{_+_, _/_, _%_, _^_, _≤_, _<_};
 ghost use mathlib.Core.Bool.{_&&_};
@@ -8,8 +8,8 @@ ghost use lib.Dec.{eqb, ltb, leb};
 ghost use lib.ListN.{length};
 ghost use Rattle.answer.specs.Least.{least};
 ghost use Rattle.stations.specs.Stations.{stationAt, stationOf, repeated, stationPlace, firstRepeated, stationTwice};
-ghost use Rattle.stations.specs.Kept.{Holds, Entered};
-ghost use Rattle.stations.specs.Gathered.{stationIn, anyRepeated};
+ghost use Rattle.stations.specs.Engine.{Holds, Entered};
+ghost use Rattle.stations.specs.Engine.{stationIn, anyRepeated};
 ghost use lib.Bits.{bitOr};
 
 // Enters the STA-IDs of a channel's n User fields, from place `at` on.
@@ -126,7 +126,7 @@ fn station_place(bw: u32, n: usize, j: usize) -> Answer
 }
 
 // Answer 11.
-pub fn station_twice(bw: u32, a: &[u8], b: &[u8], n: usize, m: usize) -> Out
+pub fn station_twice(bw: u32, a: &[u8], b: &[u8], n: usize, m: usize) -> Outcome
     requires { ⌜ (n ≤ 72) × (m ≤ 72) ⌝ }
     ensures { λ r. ⌜ r ≡ stationTwice bw (now (a .entry)) (now (b .entry)) n m ⌝ }
 {

@@ -1,4 +1,4 @@
--- Any two results that a public writer's contract allows for one input agree, the place and the buffer: `Wrote` gives both. Assumes nothing.
+-- Any two results that a public writer's contract allows for one input agree, the place and the buffer: `Wrote` gives both.
 use mathlib.Core.Path.{_≡_, sym, _∙_}
 use mathlib.Core.List.{List}
 use Prim.Native.Nat.{ℕ}

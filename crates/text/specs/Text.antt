@@ -1,5 +1,5 @@
 -- Text as a list of bytes: fixed keys, decimals, signed decimals, items one after the other; and what a writer into a
--- lent buffer does. Assumes nothing.
+-- lent buffer does.
 --
 -- 01, "Listing": "Each line starts with its fixed key, compared and written byte for byte."
 use Prim.Native.Nat.{ℕ, zero, suc, _+_, _/_, _%_}

@@ -1,4 +1,4 @@
--- The laws behind the timed loops, over whatever is added up. Assumes nothing.
+-- The laws behind the timed loops, over whatever is added up.
 use Prim.Native.Nat.{ℕ, _+_, _*_, _^_, _≤_, _<_}
 use mathlib.Core.Path.{_≡_, sym, ap}
 use native.Mathlib.Nat.{mul-le-mul-right}

@@ -1,10 +1,10 @@
--- What the timed entries give. Assumes nothing.
+-- What the timed entries give.
 --
 -- Blocks of n bits stand one after the other from bit 0, each with its check of four bits and its tail of six.
 use Prim.Native.Nat.{ℕ, zero, suc, _+_, _*_}
 use mathlib.Core.Bool.{cond}
 use mathlib.Core.List.{List}
-use Rattle.check4.specs.Check.{check, right}
+use Rattle.block.specs.Check.{check, right}
 
 -- f 0 + f 1 + .. + f (k - 1)
 unfoldable pub sum : (ℕ → ℕ) → ℕ → ℕ

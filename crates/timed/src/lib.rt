@@ -14,14 +14,14 @@ fn place(n: u8, k: u32) -> usize
 fn check_in(s: &[u8], n: u8, k: u32) -> u64
     ensures { λ r. ⌜ (r ≡ checkIn (now (s .entry)) n k) × (r ≤ 15) ⌝ }
 {
-    check4::check_at(s, place(n, k), n as usize) as u64
+    block::check_at(s, place(n, k), n as usize) as u64
 }
 
 // 1 where block k is right, else 0.
 fn right_in(s: &[u8], n: u8, k: u32) -> u64
     ensures { λ r. ⌜ (r ≡ rightIn (now (s .entry)) n k) × (r ≤ 15) ⌝ }
 {
-    if check4::block_right(s, place(n, k), n as usize) {
+    if block::block_right(s, place(n, k), n as usize) {
         1
     } else {
         0

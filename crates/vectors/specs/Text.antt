@@ -1,4 +1,4 @@
--- What the words of a case are: decimal numbers and hex digits. Assumes nothing.
+-- What the words of a case are: decimal numbers and hex digits.
 use mathlib.Core.Bool.{cond}
 use mathlib.Core.List.{List, [], _∷_}
 use Prim.Native.Nat.{ℕ, _+_, _*_, _-_}

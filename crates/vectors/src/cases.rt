@@ -87,7 +87,7 @@ fn check(line: &[u8]) {
     let n = string(line, 1, &mut space);
     let at = number(line, 2);
     let width = number(line, 3);
-    print_number(check4::check_at(&space[..n], at, width) as u64);
+    print_number(block::check_at(&space[..n], at, width) as u64);
 }
 
 // k S at n: whether the check of the n bits from `at` is right and the tail after it zero.
@@ -96,7 +96,7 @@ fn block(line: &[u8]) {
     let n = string(line, 1, &mut space);
     let at = number(line, 2);
     let width = number(line, 3);
-    print_bool(check4::block_right(&space[..n], at, width));
+    print_bool(block::block_right(&space[..n], at, width));
 }
 
 // What a line that starts with a letter is answered.

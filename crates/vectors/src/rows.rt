@@ -8,7 +8,7 @@ use crate::words::lesser;
 use crate::words::number;
 use crate::words::words;
 use answer::Answer;
-use answer::Out;
+use answer::Outcome;
 use records::Record;
 use resource::Pairing;
 use resource::Resource;
@@ -18,7 +18,7 @@ use resource::Tones;
 ghost use mathlib.Core.Path.{_≡_};
 ghost use Prim.Native.Nat.{_≤_, _<_};
 ghost use lib.ListN.{length};
-ghost use Rattle.plan.specs.Value.{kindsOf};
+ghost use Rattle.plan.specs.Engine.{kindsOf};
 ghost use Rattle.resource.specs.Values.{ownPieces};
 
 // Whether a line's words are a row of 1, 2, 4, 8 or 16 values.
@@ -212,9 +212,9 @@ fn print_row(row: &[u16])
     requires { ⌜ length (now row) ≤ 16 ⌝ }
 {
     let plan = plan::plan_of(row);
-    let out = plan.out;
+    let out = plan.outcome;
     let kinds = plan.kinds;
-    if let Out::Refuse(x) = out {
+    if let Outcome::Refuse(x) = out {
         print_answer(x);
         return;
     }

@@ -38,7 +38,7 @@ fn print_channel(c: Channel)
     print_number(c.overflow as u64);
     next(c.count as u64);
     next(c.end as u64);
-    next(c.short as u64);
+    next(c.lacking as u64);
     print_values(values);
     text(b" ;");
     print_users(users, c.count);

@@ -1,4 +1,3 @@
 pub mod Pack
 pub mod Words
-pub mod Back
-pub mod Laws
+pub mod Engine

@@ -1,15 +1,13 @@
 -- The radiotap EHT words (002) of the parts of a frame; 01, "What comes back": "Words, lent as 32-bit numbers: known,
 -- nine data words, one per User field, channel 1 first." Fields of a channel and of a word go lowest bit first.
--- Assumes nothing.
+--
 use mathlib.Core.Bool.{Bool, true, false, cond}
 use mathlib.Core.List.{List, [], _∷_}
 use Prim.Native.Nat.{ℕ, _+_, _%_, _^_}
 use lib.Dec.{ltb}
 use lib.ListN.{getD}
+use Rattle.answer.specs.Lists.{at}
 use Rattle.words.specs.Pack.{pack, unpack}
-
-abbrev pub nth : List ℕ → ℕ → ℕ
-nth vs i = getD vs i 0
 
 -- "Known is 0x61F6, or 0x1E1F6 at 160 and 320."
 unfoldable pub known : ℕ → ℕ
@@ -37,14 +35,14 @@ giOf g = getD (0 ∷ 1 ∷ 0 ∷ 2 ∷ []) g 0
 abbrev pub data0Of : List ℕ → ℕ → List ℕ
 data0Of vs t =
     0
-    ∷ nth vs 0
-    ∷ giOf (nth vs 1)
-    ∷ sizeOf (nth vs 1)
-    ∷ nth vs 2
-    ∷ nth vs 3
-    ∷ nth vs 4
-    ∷ nth vs 5
-    ∷ nth vs 6
+    ∷ at vs 0
+    ∷ giOf (at vs 1)
+    ∷ sizeOf (at vs 1)
+    ∷ at vs 2
+    ∷ at vs 3
+    ∷ at vs 4
+    ∷ at vs 5
+    ∷ at vs 6
     ∷ t
     ∷ []
 
@@ -93,7 +91,7 @@ aloneWordWidths = 8 ∷ 11 ∷ 1 ∷ 4 ∷ 4 ∷ 1 ∷ 1 ∷ []
 
 -- the word's values, of the field's in their order: STA-ID, coding, MCS, NSS, reserved, beamformed
 abbrev pub aloneOf : List ℕ → List ℕ
-aloneOf vs = 0x3F ∷ nth vs 0 ∷ nth vs 5 ∷ nth vs 1 ∷ nth vs 3 ∷ nth vs 2 ∷ nth vs 4 ∷ []
+aloneOf vs = 0x3F ∷ at vs 0 ∷ at vs 5 ∷ at vs 1 ∷ at vs 3 ∷ at vs 2 ∷ at vs 4 ∷ []
 
 -- "Where the resource has two or more fields over both channels together: STA-ID 11, MCS 4, coding 1, spatial
 -- configuration 6."
@@ -106,7 +104,7 @@ sharedWordWidths = 8 ∷ 11 ∷ 1 ∷ 4 ∷ 6 ∷ []
 
 -- STA-ID, coding, MCS, spatial configuration
 abbrev pub sharedOf : List ℕ → List ℕ
-sharedOf vs = 0x47 ∷ nth vs 0 ∷ nth vs 2 ∷ nth vs 1 ∷ nth vs 3 ∷ []
+sharedOf vs = 0x47 ∷ at vs 0 ∷ at vs 2 ∷ at vs 1 ∷ at vs 3 ∷ []
 
 -- "User words: known bits 0x3F, or 0x47 on a shared resource": the word of a User field of 22 bits
 unfoldable pub userWord : Bool → ℕ → ℕ

@@ -4,8 +4,9 @@ ghost use mathlib.Core.Bool.{true, false};
 ghost use mathlib.Core.List.{_++_};
 ghost use Prim.Native.Nat.{_+_, _*_, _≤_, _<_};
 ghost use lib.ListN.{length, drop};
-ghost use Rattle.words.specs.Words.{nth, known, sizeOf, giOf, overflowWord, slot, firstWord, tripleWord, secondWord, header, userWord};
-ghost use Rattle.words.specs.Back.{giLtf, overflowOf, valueOf, fieldIn, userField};
+ghost use Rattle.answer.specs.Lists.{at};
+ghost use Rattle.words.specs.Words.{known, sizeOf, giOf, overflowWord, slot, firstWord, tripleWord, secondWord, header, userWord};
+ghost use Rattle.words.specs.Engine.{giLtf, overflowOf, valueOf, fieldIn, userField};
 
 // ---- from the parts of a frame to words
 
@@ -46,7 +47,7 @@ fn overflow_word(v: u32, t: u32) -> u32
 
 // An RU Allocation and its known bit.
 fn slot_of(row: &[u16], p: usize) -> u32
-    ensures { λ r. ⌜ (r < 1024) × (r ≡ slot (nth (now (row .entry))) (length (now (row .entry))) p) ⌝ }
+    ensures { λ r. ⌜ (r < 1024) × (r ≡ slot (at (now (row .entry))) (length (now (row .entry))) p) ⌝ }
 {
     if p < row.len() {
         row[p] as u32 % 512 + 512
@@ -57,7 +58,7 @@ fn slot_of(row: &[u16], p: usize) -> u32
 
 // data[1].
 fn first_word(row: &[u16]) -> u32
-    ensures { λ r. ⌜ r ≡ firstWord (nth (now (row .entry))) (length (now (row .entry))) ⌝ }
+    ensures { λ r. ⌜ r ≡ firstWord (at (now (row .entry))) (length (now (row .entry))) ⌝ }
 {
     8192 * slot_of(row, 0)
 }
@@ -65,7 +66,7 @@ fn first_word(row: &[u16]) -> u32
 // Of data[2] to data[6] the one that begins with position p.
 fn triple_word(row: &[u16], p: usize) -> u32
     requires { ⌜ p < 16 ⌝ }
-    ensures { λ r. ⌜ r ≡ tripleWord (nth (now (row .entry))) (length (now (row .entry))) p ⌝ }
+    ensures { λ r. ⌜ r ≡ tripleWord (at (now (row .entry))) (length (now (row .entry))) p ⌝ }
 {
     slot_of(row, p) + 1024 * (slot_of(row, p + 1) + 1024 * slot_of(row, p + 2))
 }
@@ -80,7 +81,7 @@ fn second_word(bw: u32, t: u32) -> u32
 // Known and data[0] to data[8] at the front of the lent words.
 pub fn put_header(words: &mut [u32], bw: u32, v: u32, t: u32, t2: u32, row: &[u16])
     requires { ⌜ (10 ≤ length (now words)) × (t < 1024) ⌝ }
-    ensures { λ _. ⌜ now (words .exit) ≡ header bw v t t2 (nth (now (row .entry))) (length (now (row .entry))) ++ drop 10 (now (words .entry)) ⌝ }
+    ensures { λ _. ⌜ now (words .exit) ≡ header bw v t t2 (at (now (row .entry))) (length (now (row .entry))) ++ drop 10 (now (words .entry)) ⌝ }
 {
     words[0] = known_word(bw);
     words[1] = overflow_word(v, t);
@@ -162,7 +163,7 @@ pub fn overflow_of(w: u32) -> u32
 }
 
 fn word_at(words: &[u32], i: usize) -> u32
-    ensures { λ r. ⌜ r ≡ nth (now (words .entry)) i ⌝ }
+    ensures { λ r. ⌜ r ≡ at (now (words .entry)) i ⌝ }
 {
     if i < words.len() { words[i] } else { 0 }
 }

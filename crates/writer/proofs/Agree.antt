@@ -1,12 +1,12 @@
--- What the contract of `write` leaves open: nothing. Assumes nothing.
+-- What the contract of `write` leaves open: nothing.
 use mathlib.Core.Path.{_≡_, sym, _∙_, ap}
 use lib.ListN.{length}
 use denote.Ref.{now}
 use Rattle.answer.specs.Answer.{answerAt}
 use Rattle.answer.specs.declared.Answer.{Answer}
-use Rattle.answer.specs.Order.{after-kept}
-use Rattle.candidate.specs.Candidate.{needed, candidate}
-use Rattle.writer.specs.Result.{writing, front, answerOf, channelAfter}
+use Rattle.answer.proofs.Order.{after-kept}
+use Rattle.candidate.specs.Engine.{needed, candidate}
+use Rattle.writer.specs.Result.{writeOutcome, front, answerOf, channelAfter}
 use Rattle.writer.proofs.write.Reads as write
 
 -- any two answers, and any two states of both lent channels afterwards, that `write` allows for one input
@@ -23,7 +23,7 @@ write-keeps κs a r s p n =
     let w = now (a .1 .0) in
     let x = now (a .1 .1 .0) in
     let y = now (a .1 .1 .1 .0) in
-    let o = writing bw w (length x) (length y) in
+    let o = writeOutcome bw w (length x) (length y) in
     let z : answerAt o (needed bw w) .number ≡ 0 → ⊥ = λ e. n (ap (λ (z : Answer). z .number) (p .0) ∙ e) in (
       p .1 .0 ∙ after-kept o (needed bw w) (front (candidate bw w 1) x) x z,
       p .1 .1 ∙ after-kept o (needed bw w) (front (candidate bw w 2) y) y z,

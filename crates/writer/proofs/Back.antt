@@ -1,4 +1,4 @@
--- What a reading with room for every frame's words tells. Assumes nothing.
+-- What a reading with room for every frame's words tells.
 use mathlib.Core.Path.{_≡_, refl, sym, _∙_}
 use mathlib.Core.Bool.{false}
 use mathlib.Core.List.{List, _++_}
@@ -8,25 +8,25 @@ use native.Mathlib.Omega.{arith}
 use lib.Dec.{ltb}
 use lib.ListN.{length, drop, length-append}
 use borrow.Author.Tests.{le-ltb}
-use Rattle.answer.specs.Order.{pass-left, or-pass, if-pass, pass-or-refuse, after-passed}
+use Rattle.answer.proofs.Order.{pass-left, or-pass, if-pass, pass-or-refuse, after-passed}
 use Rattle.answer.specs.declared.Answer.{Answer}
-use Rattle.answer.specs.declared.Out.the-variants.{Pass, Refuse}
-use Rattle.table.specs.Table.{readable}
+use Rattle.answer.specs.declared.Outcome.the-variants.{Pass, Refuse}
+use Rattle.halves.specs.Table.{outcome11}
 use Rattle.frame.specs.Words.{wordCount, wordsOf}
-use Rattle.reader.specs.Table.{check12, noRoom, reading}
-use Rattle.frame.specs.Counted.{word-count-le}
-use Rattle.reader.specs.Stages.{reading-stages}
-use Rattle.frame.specs.Determine.{words-length}
+use Rattle.reader.specs.Table.{check12, noRoom, readOutcome}
+use Rattle.frame.proofs.Counted.{word-count-le}
+use Rattle.reader.proofs.Stages.{reading-stages}
+use Rattle.frame.proofs.Determine.{words-length}
 use Rattle.reader.specs.Result.{answerOf, wordsAfter}
 use Rattle.reader.proofs.Exactly.{accepted-exactly}
 use Rattle.writer.specs.Result.{readsTo}
-use Rattle.writer.specs.Steps.{reads-no}
+use Rattle.writer.proofs.Steps.{reads-no}
 
 module _ (bw : ℕ) (a b : List ℕ) (room : ℕ) (l : 154 ≤ room) where
-  read-passes : readable bw a b ≡ Pass → reading bw a b room ≡ Pass
+  read-passes : outcome11 bw a b ≡ Pass → readOutcome bw a b room ≡ Pass
   read-passes p =
       reading-stages bw a b room
-      ∙ or-pass (readable bw a b) (check12 bw a b room) p
+      ∙ or-pass (outcome11 bw a b) (check12 bw a b room) p
       (unfold check12 noRoom in if-pass (ltb room (wordCount bw a b)) _ (le-ltb room (wordCount bw a b) (omega (arith, word-count-le bw a b))))
 
   -- any number but 0: the channels are not accepted
@@ -34,17 +34,17 @@ module _ (bw : ℕ) (a b : List ℕ) (room : ℕ) (l : 154 ≤ room) where
   unfolding answerOf
   back-refused w n =
       ⊎-elim
-      (λ (p : readable bw a b ≡ Pass). absurd (n (rw (read-passes p))))
-      (λ (q : (x : Answer) × (readable bw a b ≡ Refuse x)). reads-no bw a b w (readable bw a b) (q .0) refl (q .1))
-      (pass-or-refuse (readable bw a b))
+      (λ (p : outcome11 bw a b ≡ Pass). absurd (n (rw (read-passes p))))
+      (λ (q : (x : Answer) × (outcome11 bw a b ≡ Refuse x)). reads-no bw a b w (outcome11 bw a b) (q .0) refl (q .1))
+      (pass-or-refuse (outcome11 bw a b))
 
   module _ (e : answerOf bw a b room .number ≡ 0) where
-    passed : reading bw a b room ≡ Pass
+    passed : readOutcome bw a b room ≡ Pass
     passed = accepted-exactly bw a b room e
 
     -- 0: they are, the place is how many words there are, and these are at the front
-    pub back-accepted : readable bw a b ≡ Pass
-    back-accepted = pass-left (readable bw a b) (check12 bw a b room) (sym (reading-stages bw a b room) ∙ passed)
+    pub back-accepted : outcome11 bw a b ≡ Pass
+    back-accepted = pass-left (outcome11 bw a b) (check12 bw a b room) (sym (reading-stages bw a b room) ∙ passed)
 
     pub back-count : answerOf bw a b room .place ≡ wordCount bw a b
     unfolding answerOf
@@ -52,7 +52,7 @@ module _ (bw : ℕ) (a b : List ℕ) (room : ℕ) (l : 154 ≤ room) where
 
     pub back-words : (w : List ℕ) → length w ≡ room → wordsAfter bw a b w ≡ wordsOf bw a b ++ drop (wordCount bw a b) w
     unfolding wordsAfter
-    back-words w f = after-passed (reading bw a b (length w)) _ w (rw f passed)
+    back-words w f = after-passed (readOutcome bw a b (length w)) _ w (rw f passed)
 
     -- so many words can be taken from them
     pub back-room : (w t : List ℕ) → length w ≡ room → t ≡ wordsAfter bw a b w → wordCount bw a b ≤ length t

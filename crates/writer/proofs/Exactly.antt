@@ -1,5 +1,5 @@
 -- "The writer's order is 1, 13, 14": each number given exactly when its row of the table says and nothing earlier applies.
--- Assumes nothing.
+--
 use mathlib.Core.Path.{_≡_, refl, sym, _∙_, ap}
 use mathlib.Core.Bool.{true, not, _&&_}
 use mathlib.Core.List.{List, [], _∷_}
@@ -7,25 +7,18 @@ use Prim.Native.Nat.{ℕ, _<_}
 use lib.Dec.{ltb}
 use lib.ListN.{getD}
 use Rattle.answer.specs.Answer.{answerAt}
-use Rattle.answer.specs.Order.{Applies, Only, only-if, only-or, Gives, none, more, distinct, absent, firstOf, first-chain, zero-pass, number-applies, applies-number}
+use Rattle.answer.specs.Order.{Applies, firstOf, Judged}
 use Rattle.answer.specs.declared.Answer.{Answer}
-use Rattle.answer.specs.declared.Out.{Out}
-use Rattle.answer.specs.declared.Out.the-variants.{Pass}
+use Rattle.answer.specs.declared.Outcome.{Outcome}
+use Rattle.answer.specs.declared.Outcome.the-variants.{Pass}
+use Rattle.answer.proofs.Order.{Only, only-if, only-or, Gives, none, more, distinct, absent, first-chain, zero-pass, number-applies, applies-number, judged}
 use Rattle.channel.specs.Layout.{present}
-use Rattle.table.specs.Table.{check1}
-use Rattle.table.specs.Judged.{Judged, judged}
-use Rattle.candidate.specs.Candidate.{needed, candidate}
-use Rattle.writer.specs.Result.{readsTo, notRead, check13, tooShort, check14, writing, answerOf}
+use Rattle.halves.specs.Table.{check1}
+use Rattle.candidate.specs.Engine.{needed, candidate}
+use Rattle.writer.specs.Result.{readsTo, notRead, check13, noChannelRoom, check14, writeOutcome, answerOf, writeNumbers, writeChecks}
 
-abbrev pub numbers : List ℕ
-numbers = 1 ∷ 13 ∷ 14 ∷ []
-
--- the writer's rows of 01's table
-abbrev pub rows : ℕ → List ℕ → ℕ → ℕ → List Out
-rows bw w n m = check1 bw ∷ check13 bw w ∷ check14 bw w n m ∷ []
-
-pub writing-rows : (bw : ℕ) (w : List ℕ) (n m : ℕ) → firstOf (rows bw w n m) ≡ writing bw w n m
-unfolding writing
+pub writing-rows : (bw : ℕ) (w : List ℕ) (n m : ℕ) → firstOf (writeChecks bw w n m) ≡ writeOutcome bw w n m
+unfolding writeOutcome
 writing-rows bw w n m = first-chain (check1 bw) (check13 bw w ∷ check14 bw w n m ∷ [])
 
 module _ (bw : ℕ) (w : List ℕ) (n m : ℕ) where
@@ -38,38 +31,38 @@ module _ (bw : ℕ) (w : List ℕ) (n m : ℕ) where
   only-13 = only-if (not (readsTo bw (candidate bw w 1) (candidate bw w 2) w)) 13 0 0
 
   pub only-14 : Only 14 (check14 bw w n m)
-  unfolding check14 tooShort
+  unfolding check14 noChannelRoom
   only-14 =
       only-or (only-if (ltb n (needed bw w)) 14 1 (needed bw w)) (only-if (present bw 2 && ltb m (needed bw w)) 14 2 (needed bw w))
 
-  rows-give : Gives numbers (rows bw w n m)
+  rows-give : Gives writeNumbers (writeChecks bw w n m)
   rows-give = more only-1 (more only-13 (more only-14 none))
 
-  numbers-distinct : distinct (0 ∷ numbers) ≡ true
+  numbers-distinct : distinct (0 ∷ writeNumbers) ≡ true
   unfolding distinct absent
   numbers-distinct = refl
 
-  answer-rows : answerAt (firstOf (rows bw w n m)) (needed bw w) ≡ answerOf bw w n m
+  answer-rows : answerAt (firstOf (writeChecks bw w n m)) (needed bw w) ≡ answerOf bw w n m
   unfolding answerOf
-  answer-rows = ap (λ (o : Out). answerAt o (needed bw w)) (writing-rows bw w n m)
+  answer-rows = ap (λ (o : Outcome). answerAt o (needed bw w)) (writing-rows bw w n m)
 
-  -- number 0 exactly when none of the rows applies
-  pub accepted-exactly : answerOf bw w n m .number ≡ 0 → writing bw w n m ≡ Pass
+  -- number 0 exactly when none of the writeChecks applies
+  pub accepted-exactly : answerOf bw w n m .number ≡ 0 → writeOutcome bw w n m ≡ Pass
   accepted-exactly e =
       sym (writing-rows bw w n m)
       ∙ zero-pass rows-give numbers-distinct (needed bw w) (ap (λ (x : Answer). x .number) answer-rows ∙ e)
 
   -- each other number exactly when its row applies and none before it; channel and place are then that row's
-  pub refused-exactly : (k : ℕ) → k < 3 → answerOf bw w n m .number ≡ getD numbers k 0 → Applies (rows bw w n m) k (answerOf bw w n m)
+  pub refused-exactly : (k : ℕ) → k < 3 → answerOf bw w n m .number ≡ getD writeNumbers k 0 → Applies (writeChecks bw w n m) k (answerOf bw w n m)
   refused-exactly k l e =
       rw answer-rows at
       (number-applies rows-give numbers-distinct (needed bw w) k l (ap (λ (x : Answer). x .number) answer-rows ∙ e))
 
-  pub applies-exactly : (k : ℕ) (x : Answer) → Applies (rows bw w n m) k x → (answerOf bw w n m ≡ x) × (x .number ≡ getD numbers k 0)
+  pub applies-exactly : (k : ℕ) (x : Answer) → Applies (writeChecks bw w n m) k x → (answerOf bw w n m ≡ x) × (x .number ≡ getD writeNumbers k 0)
   applies-exactly k x a =
       let r = applies-number rows-give numbers-distinct (needed bw w) k x a in
       (sym answer-rows ∙ r .0, r .1)
 
-  -- so the answer is one by these rows
-  pub write-judged : Judged numbers (rows bw w n m) (needed bw w) (answerOf bw w n m)
+  -- so the answer is one by these writeChecks
+  pub write-judged : Judged writeNumbers (writeChecks bw w n m) (needed bw w) (answerOf bw w n m)
   write-judged = rw answer-rows at (judged rows-give numbers-distinct (needed bw w))

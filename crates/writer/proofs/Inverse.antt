@@ -1,4 +1,4 @@
--- Writing is the inverse of reading, of the contracts of `read` and `write`. Assumes nothing.
+-- Writing is the inverse of reading, of the contracts of `read` and `write`.
 --
 -- The user: "Writing those words gives the same channels back, padding zero, up to the end of the longer channel's last
 -- block. Words that no accepted pair of channels reads to are refused."
@@ -14,63 +14,57 @@ use borrow.Author.Tests.{le-ltb}
 use denote.Ref.{now}
 use Rattle.answer.specs.Answer as A
 use Rattle.answer.specs.Answer.{refuseIf, answerAt}
-use Rattle.answer.specs.Order.{Applies, pass-left, pass-right, or-pass, pass-if, if-pass, pass-not-refuse}
+use Rattle.answer.specs.Order.{Applies}
 use Rattle.answer.specs.declared.Answer.{Answer}
-use Rattle.answer.specs.declared.Out.{Out}
-use Rattle.answer.specs.declared.Out.the-variants.{Pass, Refuse}
-use Rattle.bits.specs.Bits.{bit}
-use Rattle.bits.specs.Writes.{Small}
+use Rattle.answer.specs.declared.Outcome.{Outcome}
+use Rattle.answer.specs.declared.Outcome.the-variants.{Pass, Refuse}
+use Rattle.answer.proofs.Order.{pass-left, pass-right, or-pass, pass-if, if-pass, pass-not-refuse}
+use Rattle.bits.specs.Bits.{bit, Small, Same}
 use Rattle.channel.specs.Layout.{present, count, endOf}
-use Rattle.channel.specs.Laws.{present-1}
-use Rattle.faults.specs.Padding.{Same}
-use Rattle.table.specs.Table.{check1, readable}
-use Rattle.frame.specs.Words.{wordCount, wordsOf}
-use Rattle.reader.specs.Table.{check12, noRoom, reading}
+use Rattle.channel.proofs.Laws.{present-1}
+use Rattle.halves.specs.Table.{check1, outcome11}
+use Rattle.frame.specs.Words.{wordCount, wordsOf, SameFrame}
+use Rattle.frame.proofs.Determine.{words-length, words-determine}
+use Rattle.reader.specs.Table.{check12, noRoom, readOutcome}
 use Rattle.reader.specs.Result as R
-use Rattle.reader.specs.Stages.{reading-stages}
-use Rattle.frame.specs.Determine.{words-length, SameFrame, words-determine}
+use Rattle.reader.proofs.Stages.{reading-stages}
 use Rattle.reader.proofs.Exactly as E
 use Rattle.reader.proofs.read.Reads as read
-use Rattle.candidate.specs.Candidate.{countIn, channelIn, needed, bytesFor, candidate}
-use Rattle.candidate.specs.Built.{sealed-small}
-use Rattle.writer.specs.Result.{readsTo, notRead, check13, tooShort, check14, writing, front, answerOf, channelAfter}
-use Rattle.candidate.specs.Held.{present-length, absent-length}
-use Rattle.writer.specs.Inverse.{ReadsTo, reads-to-says, says-reads-to, candidate-reads, accepted-known, same-1, same-2, zero-1, zero-2, reach-1, reach-2, needed-of}
+use Rattle.candidate.specs.Engine.{countIn, channelIn, needed, candidate}
+use Rattle.candidate.specs.Length.{bytesFor}
+use Rattle.candidate.proofs.Built.{sealed-small}
+use Rattle.candidate.proofs.Held.{present-length, absent-length}
+use Rattle.writer.specs.Result.{readsTo, notRead, check13, noChannelRoom, check14, writeOutcome, writeChecks, front, answerOf, channelAfter}
+use Rattle.writer.proofs.Candidate.{ReadsTo, reads-to-says, says-reads-to, candidate-reads, accepted-known, same-1, same-2, zero-1, zero-2, reach-1, reach-2, needed-of}
 use Rattle.writer.proofs.Exactly as W
 use Rattle.writer.proofs.write.Reads as write
+use Rattle.writer.specs.Inverse.{Accepts, Given, GivenBack}
 
--- ---- reading, from its contract's equations
-
--- `read`, with room w₀, accepts a and b with exactly the words w
-pub record Accepts (bw : ℕ) (a b w₀ w : List ℕ) : Type 0 where
-  pub number-0 : R.answerOf bw a b (length w₀) .number ≡ 0
-  pub exactly : take (R.answerOf bw a b (length w₀) .place) (R.wordsAfter bw a b w₀) ≡ w
-
-read-place : (bw : ℕ) (a b : List ℕ) (room : ℕ) → reading bw a b room ≡ Pass → R.answerOf bw a b room ≡ A.no 0 0 (wordCount bw a b)
+read-place : (bw : ℕ) (a b : List ℕ) (room : ℕ) → readOutcome bw a b room ≡ Pass → R.answerOf bw a b room ≡ A.no 0 0 (wordCount bw a b)
 unfolding R.answerOf
 read-place bw a b room e = rw e
 
-read-words : (bw : ℕ) (a b w₀ : List ℕ) → reading bw a b (length w₀) ≡ Pass → take (wordCount bw a b) (R.wordsAfter bw a b w₀) ≡ wordsOf bw a b
+read-words : (bw : ℕ) (a b w₀ : List ℕ) → readOutcome bw a b (length w₀) ≡ Pass → take (wordCount bw a b) (R.wordsAfter bw a b w₀) ≡ wordsOf bw a b
 unfolding R.wordsAfter
 read-words bw a b w₀ e = rw e (take-at (wordsOf bw a b) (drop (wordCount bw a b) w₀) (wordCount bw a b) (words-length bw a b))
 
 pub accepts-reads : (bw : ℕ) (a b w₀ w : List ℕ) → Accepts bw a b w₀ w → ReadsTo bw a b w
 accepts-reads bw a b w₀ w h =
     let e = E.accepted-exactly bw a b (length w₀) (h .number-0) in
-    let f : reading bw a b (length w₀) ≡ Pass = e in
+    let f : readOutcome bw a b (length w₀) ≡ Pass = e in
     record {
-      accepted = pass-left (readable bw a b) (check12 bw a b (length w₀)) (sym (reading-stages bw a b (length w₀)) ∙ f);
+      accepted = pass-left (outcome11 bw a b) (check12 bw a b (length w₀)) (sym (reading-stages bw a b (length w₀)) ∙ f);
       the-words =
           sym (read-words bw a b w₀ f)
           ∙ ap (λ (x : Answer). take (x .place) (R.wordsAfter bw a b w₀)) (sym (read-place bw a b (length w₀) f))
           ∙ h .exactly;
     }
 
-reads-pass : (bw : ℕ) (a b w : List ℕ) (room : ℕ) → ReadsTo bw a b w → length w ≤ room → reading bw a b room ≡ Pass
+reads-pass : (bw : ℕ) (a b w : List ℕ) (room : ℕ) → ReadsTo bw a b w → length w ≤ room → readOutcome bw a b room ≡ Pass
 unfolding check12 noRoom
 reads-pass bw a b w room h l =
     reading-stages bw a b room
-    ∙ or-pass (readable bw a b) (check12 bw a b room) (h .accepted)
+    ∙ or-pass (outcome11 bw a b) (check12 bw a b room) (h .accepted)
     (if-pass _ _ (le-ltb room (wordCount bw a b) (omega (arith, words-length bw a b, ap length (h .the-words)))))
 
 pub reads-accepts : (bw : ℕ) (a b w₀ w : List ℕ) → ReadsTo bw a b w → length w ≤ length w₀ → Accepts bw a b w₀ w
@@ -85,8 +79,8 @@ reads-accepts bw a b w₀ w h l =
 -- ---- writing, from its contract's equations
 
 writing-pass : (bw : ℕ) (w : List ℕ) (n m : ℕ) → bw ≤ 4 → ReadsTo bw (candidate bw w 1) (candidate bw w 2) w
-    → needed bw w ≤ n → (present bw 2 ≡ true → needed bw w ≤ m) → writing bw w n m ≡ Pass
-unfolding writing check1 check13 notRead check14 tooShort
+    → needed bw w ≤ n → (present bw 2 ≡ true → needed bw w ≤ m) → writeOutcome bw w n m ≡ Pass
+unfolding writeOutcome check1 check13 notRead check14 noChannelRoom
 writing-pass bw w n m l h p q =
     or-pass _ _
     (or-pass _ _
@@ -104,34 +98,19 @@ not-true : (t : Bool) → not t ≡ false → t ≡ true
 not-true true e = refl
 not-true false e = sym e
 
-pass-reads : (bw : ℕ) (w : List ℕ) (n m : ℕ) → writing bw w n m ≡ Pass → ReadsTo bw (candidate bw w 1) (candidate bw w 2) w
-unfolding writing check13 notRead
+pass-reads : (bw : ℕ) (w : List ℕ) (n m : ℕ) → writeOutcome bw w n m ≡ Pass → ReadsTo bw (candidate bw w 1) (candidate bw w 2) w
+unfolding writeOutcome check13 notRead
 pass-reads bw w n m e =
     let f = pass-right (check1 bw) _ (pass-left _ (check14 bw w n m) e) in
     reads-to-says bw (candidate bw w 1) (candidate bw w 2) w (not-true _ (pass-if _ _ f))
 
-written : (bw : ℕ) (w : List ℕ) (n m c : ℕ) (d : List ℕ) → writing bw w n m ≡ Pass → channelAfter bw w n m c d ≡ candidate bw w c ++ drop (length (candidate bw w c)) d
+written : (bw : ℕ) (w : List ℕ) (n m c : ℕ) (d : List ℕ) → writeOutcome bw w n m ≡ Pass → channelAfter bw w n m c d ≡ candidate bw w c ++ drop (length (candidate bw w c)) d
 unfolding channelAfter front
 written bw w n m c d e = rw e
 
 bit-front : (s t : List ℕ) (i : ℕ) → i < 8 * length s → bit (s ++ t) i ≡ bit s i
 unfolding bit
 bit-front s t i l = rw (List·getD-append s t 0 (i / 8) (omega arith))
-
--- ---- (a) write after read
-
--- what stands in lent channel c, which was d and is d', after writing k bytes of what was read from s
-pub record Given (bw c : ℕ) (s d d' : List ℕ) (k : ℕ) : Type 0 where
-  pub same : (i : ℕ) → i < endOf bw (count bw c s) → bit d' i ≡ bit s i
-  pub zero-past : (i : ℕ) → endOf bw (count bw c s) ≤ i → i < 8 * k → bit d' i ≡ 0
-  pub kept : drop k d' ≡ drop k d
-
--- a and b were read; x and y are the lent channels, x' and y' what they are then
-pub record GivenBack (bw : ℕ) (a b x y x' y' : List ℕ) (r : Answer) : Type 0 where
-  pub answered : r ≡ A.no 0 0 (bytesFor bw (count bw 1 a) (count bw 2 b))
-  pub channel-1 : Given bw 1 a x x' (r .place)
-  pub channel-2 : present bw 2 ≡ true → Given bw 2 b y y' (r .place)
-  pub untouched : present bw 2 ≡ false → y' ≡ y
 
 module _ (bw : ℕ) (w : List ℕ) where
   given : (c : ℕ) (s d d' : List ℕ) → length (candidate bw w c) ≡ needed bw w
@@ -161,7 +140,7 @@ module _ (bw : ℕ) (w : List ℕ) where
       go true e = present-length bw w 2 e ∙ sym k
       go false e = absent-length bw w 2 e
 
-module _ (bw : ℕ) (a b : List ℕ) (e : readable bw a b ≡ Pass) where
+module _ (bw : ℕ) (a b : List ℕ) (e : outcome11 bw a b ≡ Pass) where
   abbrev bytes : ℕ
   bytes = bytesFor bw (count bw 1 a) (count bw 2 b)
 
@@ -175,7 +154,7 @@ module _ (bw : ℕ) (a b : List ℕ) (e : readable bw a b ≡ Pass) where
   given-back x y x' y' r l m er ex ey =
       let w = wordsOf bw a b in
       let n : needed bw w ≡ bytes = needed-of bw a b e in
-      let o : writing bw w (length x) (length y) ≡ Pass =
+      let o : writeOutcome bw w (length x) (length y) ≡ Pass =
       writing-pass bw w (length x) (length y) (accepted-known bw a b e)
       (candidate-reads bw a b w (record { accepted = e; the-words = refl }))
       (rw n l) (λ p. rw n (m p)) in
@@ -243,9 +222,9 @@ read-after-write κs a r s κs' a' r' s' p q z eb e1 e2 l =
     let w₀ = now (a' .1 .1 .1 .0) in
     let c1 = candidate bw w 1 in
     let c2 = candidate bw w 2 in
-    let o : writing bw w (length x) (length y) ≡ Pass =
+    let o : writeOutcome bw w (length x) (length y) ≡ Pass =
     W.accepted-exactly bw w (length x) (length y) (ap (λ (t : Answer). t .number) (sym (p .0)) ∙ z) in
-    let k : r .place ≡ needed bw w = ap (λ (t : Answer). t .place) (p .0 ∙ ap (λ (o : Out). answerAt o (needed bw w)) o) in
+    let k : r .place ≡ needed bw w = ap (λ (t : Answer). t .place) (p .0 ∙ ap (λ (o : Outcome). answerAt o (needed bw w)) o) in
     let f1 : now (a' .1 .0) ≡ c1 =
     e1
     ∙ ap (take (r .place)) (p .1 .0 ∙ written bw w (length x) (length y) 1 x o)
@@ -289,10 +268,10 @@ second-refuses bw w h = go (readsTo bw (candidate bw w 1) (candidate bw w 2) w) 
     go false e = refl
 
 thirteen-applies : (bw : ℕ) (w : List ℕ) (n m : ℕ) → bw ≤ 4 → (ReadsTo bw (candidate bw w 1) (candidate bw w 2) w → ⊥)
-    → Applies (W.rows bw w n m) 1 (A.no 13 0 0)
+    → Applies (writeChecks bw w n m) 1 (A.no 13 0 0)
 thirteen-applies bw w n m l h = record { refuses = second-refuses bw w h; nothing-earlier = λ j k. go j k }
   where
-    go : (j : ℕ) → j < 1 → getD (W.rows bw w n m) j Pass ≡ Pass
+    go : (j : ℕ) → j < 1 → getD (writeChecks bw w n m) j Pass ≡ Pass
     go j k = let z : j ≡ 0 = omega arith in rw z (first-passes bw l)
 
 candidate-small : (bw : ℕ) (w : List ℕ) (c : ℕ) → Small (candidate bw w c)

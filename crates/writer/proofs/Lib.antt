@@ -2,3 +2,6 @@ pub mod Back
 pub mod Exactly
 pub mod Agree
 pub mod Inverse
+pub mod Candidate
+pub mod Steps
+pub mod Sealed

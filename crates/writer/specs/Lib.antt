@@ -1,4 +1,2 @@
 pub mod Result
 pub mod Inverse
-pub mod Steps
-pub mod Sealed

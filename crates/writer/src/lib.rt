@@ -1,7 +1,7 @@
 // The writer: words to channels, the inverse of the reader. What the words could only come from is built in room of the
 // writer's own, read back and compared; only then is anything written to the caller.
 use answer::Answer;
-use answer::Out;
+use answer::Outcome;
 ghost use mathlib.Core.Path.{_≡_};
 ghost use Prim.Native.Nat.{_+_, _<_, _≤_};
 ghost use lib.ListN.{length, replicate};
@@ -9,10 +9,10 @@ ghost use Rattle.answer.specs.Answer.{_or_};
 ghost use Rattle.answer.specs.Least.{least};
 ghost use mathlib.Core.Bool.{cond};
 ghost use Rattle.channel.specs.Layout.{present};
-ghost use Rattle.table.specs.Table.{check1};
-ghost use Rattle.table.specs.Stages.{Sealed};
-ghost use Rattle.candidate.specs.Candidate.{countIn, needed, bytesIn};
-ghost use Rattle.writer.specs.Result.{unlike, sameWords, readsTo, notRead, tooShort, front, answerOf, channelAfter};
+ghost use Rattle.halves.specs.Table.{check1};
+ghost use Rattle.halves.specs.Engine.{Sealed};
+ghost use Rattle.candidate.specs.Engine.{countIn, needed, bytesIn};
+ghost use Rattle.writer.specs.Result.{unlike, sameWords, readsTo, notRead, noChannelRoom, front, answerOf, channelAfter};
 
 // ---- whether the channels that were built read back
 
@@ -56,19 +56,19 @@ fn reads_to(bw: u32, a: &[u8], b: &[u8], words: &[u32]) -> bool
 // ---- the answers
 
 // 13 for these channels, where nothing earlier applies.
-fn then_not_read(prev: Out, bw: u32, a: &[u8], b: &[u8], words: &[u32]) -> Out
+fn then_not_read(prev: Outcome, bw: u32, a: &[u8], b: &[u8], words: &[u32]) -> Outcome
     requires { ⌜ Sealed bw (now a) (now b) ⌝ }
     ensures { λ r. ⌜ r ≡ (prev or notRead bw (now (a .entry)) (now (b .entry)) (now (words .entry))) ⌝ }
 {
-    if let Out::Refuse(_) = prev {
+    if let Outcome::Refuse(_) = prev {
         return prev;
     }
     answer::refuse_if(!reads_to(bw, a, b, words), 13, 0, 0)
 }
 
 // 14, where so many bytes are needed and n and m lent.
-fn too_short(bw: u32, need: usize, n: usize, m: usize) -> Out
-    ensures { λ r. ⌜ r ≡ tooShort bw need n m ⌝ }
+fn no_channel_room(bw: u32, need: usize, n: usize, m: usize) -> Outcome
+    ensures { λ r. ⌜ r ≡ noChannelRoom bw need n m ⌝ }
 {
     let there = channel::is_present(bw, 2);
     answer::or_else(
@@ -92,12 +92,12 @@ fn put_front(d: &mut [u8], s: &[u8])
 // ---- the whole
 
 // 1, 13 and 14 in order, for the channels that were built.
-fn judge(bw: u32, words: &[u32], a: &[u8], b: &[u8], need: usize, n: usize, m: usize) -> Out
+fn judge(bw: u32, words: &[u32], a: &[u8], b: &[u8], need: usize, n: usize, m: usize) -> Outcome
     requires { ⌜ Sealed bw (now a) (now b) ⌝ }
-    ensures { λ r. ⌜ r ≡ (check1 bw or notRead bw (now (a .entry)) (now (b .entry)) (now (words .entry)) or tooShort bw need n m) ⌝ }
+    ensures { λ r. ⌜ r ≡ (check1 bw or notRead bw (now (a .entry)) (now (b .entry)) (now (words .entry)) or noChannelRoom bw need n m) ⌝ }
 {
-    let out = then_not_read(answer::refuse_if(4 < bw, 1, 0, 0), bw, a, b, words);
-    answer::or_else(out, too_short(bw, need, n, m))
+    let outcome = then_not_read(answer::refuse_if(4 < bw, 1, 0, 0), bw, a, b, words);
+    answer::or_else(outcome, no_channel_room(bw, need, n, m))
 }
 
 // Bytes of a channel: none of one that the bandwidth lacks.
@@ -132,8 +132,8 @@ fn write_in(
 {
     candidate::fill(a, bw, words, 1, 10, n);
     candidate::fill(b, bw, words, 2, 10 + n, m);
-    let out = judge(bw, words, a, b, need, cc1.len(), cc2.len());
-    if let Out::Refuse(x) = out {
+    let outcome = judge(bw, words, a, b, need, cc1.len(), cc2.len());
+    if let Outcome::Refuse(x) = outcome {
         return x;
     }
     put_front(cc1, a);

@@ -1,4 +1,4 @@
--- `answer::or_else` meets its contract: each arm of the match is one case of `_or_`. Assumes nothing.
+-- `answer::or_else` meets its contract: each arm of the match is one case of `_or_`.
 use Rattle.answer.specs.Answer.{_or_}
 use borrow.Author.Needs.{needs}
 use Rattle.answer.proofs.or_else.Statement.{statement}

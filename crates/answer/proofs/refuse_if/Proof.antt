@@ -1,4 +1,4 @@
--- `answer::refuse_if` meets its contract. Assumes nothing.
+-- `answer::refuse_if` meets its contract.
 use borrow.Author.Needs.{needs}
 use Rattle.answer.proofs.refuse_if.Statement.{statement}
 use Rattle.answer.proofs.refuse_if.Tie as tie

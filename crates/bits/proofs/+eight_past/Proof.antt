@@ -1,4 +1,4 @@
--- `bits::eight_past` meets its contract. Assumes nothing.
+-- `bits::eight_past` meets its contract.
 use Prim.Native.Nat.{_+_, _-_, _*_, _/_, _^_}
 use mathlib.Core.Path.{_≡_, sym, _∙_, ap}
 use native.Mathlib.Omega.{arith}

@@ -1,4 +1,4 @@
--- `bits::eight` meets its contract. Assumes nothing.
+-- `bits::eight` meets its contract.
 use mathlib.Core.Path.{_∙_}
 use Rattle.bits.proofs.Windows.{field-two}
 use borrow.Author.Needs.{needs}

@@ -1,10 +1,10 @@
--- `bits::field_at` meets its contract. Assumes nothing.
+-- `bits::field_at` meets its contract.
 use Prim.Native.Nat.{ℕ, _*_, _/_, _%_}
 use mathlib.Core.Path.{ap, _∙_}
 use native.Mathlib.Omega.{arith}
 use lib.Pow.{pow-pos}
 use Rattle.bits.specs.Bits.{field}
-use Rattle.bits.specs.Fields.{field-part, shl-one}
+use Rattle.bits.proofs.Fields.{field-part, shl-one}
 use borrow.Author.Needs.{needs}
 use Rattle.bits.proofs.field_at.Statement.{statement}
 use Rattle.bits.proofs.field_at.Tie as tie

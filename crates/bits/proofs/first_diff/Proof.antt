@@ -1,11 +1,12 @@
--- `bits::first_diff` meets its contract. Assumes nothing.
+-- `bits::first_diff` meets its contract.
 use Prim.Native.Nat.{_+_, _-_, _≤_}
 use mathlib.Core.Path.{_≡_, sym}
 use mathlib.Core.Bool.{true, false}
 use native.Mathlib.Omega.{arith}
-use Rattle.answer.specs.Least.{least, least-start, least-step, least-stop, least-end}
+use Rattle.answer.specs.Least.{least}
+use Rattle.answer.proofs.Least.{least-start, least-step, least-stop, least-end}
 use Rattle.bits.specs.Bits.{differs}
-use Rattle.bits.specs.Differs.{differ, agree}
+use Rattle.bits.proofs.Differs.{differ, agree}
 use borrow.Author.Needs.{needs}
 use Rattle.bits.proofs.first_diff.Statement.{statement}
 use Rattle.bits.proofs.first_diff.Tie as tie

@@ -1,7 +1,7 @@
--- `bits::four` meets its contract. Assumes nothing.
+-- `bits::four` meets its contract.
 use Prim.Native.Nat.{_+_}
 use mathlib.Core.Path.{_∙_, refl}
-use Rattle.bits.specs.Fields.{field-word}
+use Rattle.bits.proofs.Fields.{field-word}
 use borrow.Author.Needs.{needs}
 use Rattle.bits.proofs.four.Statement.{statement}
 use Rattle.bits.proofs.four.Tie as tie

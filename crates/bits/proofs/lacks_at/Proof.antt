@@ -1,4 +1,4 @@
--- `bits::lacks_at` meets its contract. Assumes nothing.
+-- `bits::lacks_at` meets its contract.
 use Prim.Native.Nat.{ℕ, _+_, _-_, _*_, _/_, _%_, _<_}
 use mathlib.Core.Path.{_≡_, sym, _∙_, ap}
 use lib.ListN.{length}

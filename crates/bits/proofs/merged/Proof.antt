@@ -1,11 +1,11 @@
--- `bits::merged` meets its contract. Assumes nothing.
+-- `bits::merged` meets its contract.
 use Prim.Native.Nat.{ℕ, _+_, _*_, _/_, _%_, _^_, _≤_}
 use mathlib.Core.Path.{_≡_, _∙_, ap}
 use native.Mathlib.Nat.{mod-lt, add-mul}
 use native.Mathlib.Omega.{arith}
 use lib.Pow.{pow-pos, shl-exact, split}
-use Rattle.bits.specs.Fields.{shl-one}
-use Rattle.bits.specs.Writes.{merge-lt, merge-change}
+use Rattle.bits.proofs.Fields.{shl-one}
+use Rattle.bits.proofs.Writes.{merge-lt, merge-change}
 use borrow.Author.Needs.{needs}
 use Rattle.bits.proofs.merged.Statement.{statement}
 use Rattle.bits.proofs.merged.Tie as tie

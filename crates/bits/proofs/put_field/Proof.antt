@@ -1,4 +1,4 @@
--- `bits::put_field` meets its contract. Assumes nothing.
+-- `bits::put_field` meets its contract.
 use Prim.Native.Nat.{ℕ, _+_, _*_, _/_, _%_, _≤_, _<_}
 use mathlib.Core.Path.{_≡_, refl, _∙_, ap}
 use mathlib.Core.Bool.{Bool, true, false, _&&_}
@@ -7,7 +7,8 @@ use lib.Dec.{leb, ltb}
 use lib.ListN.{length}
 use borrow.Author.Tests.{leb-true, ltb-true}
 use Rattle.bits.specs.Bits.{put}
-use Rattle.bits.specs.Writes.{merge, put-merged}
+use Rattle.bits.specs.Engine.{merge}
+use Rattle.bits.proofs.Writes.{put-merged}
 use borrow.Author.Needs.{needs}
 use Rattle.bits.proofs.put_field.Statement.{statement}
 use Rattle.bits.proofs.put_field.Tie as tie

@@ -1,9 +1,9 @@
--- `bits::put_part` meets its contract. Assumes nothing.
+-- `bits::put_part` meets its contract.
 use Prim.Native.Nat.{ℕ, _/_, _%_}
 use mathlib.Core.Path.{ap, _∙_}
 use native.Mathlib.Omega.{arith}
 use lib.ListN.{getD, set}
-use Rattle.bits.specs.Writes.{merge-lt, put-byte, put-past}
+use Rattle.bits.proofs.Writes.{merge-lt, put-byte, put-past}
 use borrow.Author.Needs.{needs}
 use Rattle.bits.proofs.put_part.Statement.{statement}
 use Rattle.bits.proofs.put_part.Tie as tie

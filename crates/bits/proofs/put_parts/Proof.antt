@@ -1,11 +1,11 @@
--- `bits::put_parts` meets its contract. Assumes nothing.
+-- `bits::put_parts` meets its contract.
 use Prim.Native.Nat.{ℕ, _+_, _-_, _/_, _^_, _≤_}
 use mathlib.Core.Path.{_≡_, refl, ap, _∙_}
 use mathlib.Core.List.{List}
 use native.Mathlib.Omega.{arith}
 use lib.ListN.{length}
 use Rattle.bits.specs.Bits.{put}
-use Rattle.bits.specs.Writes.{put-none, put-more, put-length}
+use Rattle.bits.proofs.Writes.{put-none, put-more, put-length}
 use borrow.Author.Needs.{needs}
 use Rattle.bits.proofs.put_parts.Statement.{statement}
 use Rattle.bits.proofs.put_parts.Tie as tie

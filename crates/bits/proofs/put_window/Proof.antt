@@ -1,8 +1,8 @@
--- `bits::put_window` meets its contract. Assumes nothing.
+-- `bits::put_window` meets its contract.
 use Prim.Native.Nat.{_+_, _/_, _%_}
 use native.Mathlib.Omega.{arith}
 use lib.ListN.{set, length-set}
-use Rattle.bits.specs.Writes.{set-four}
+use Rattle.bits.proofs.Writes.{set-four}
 use borrow.Author.Needs.{needs}
 use Rattle.bits.proofs.put_window.Statement.{statement}
 use Rattle.bits.proofs.put_window.Tie as tie

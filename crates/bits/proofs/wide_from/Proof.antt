@@ -1,4 +1,4 @@
--- `bits::wide_from` meets its contract. Assumes nothing.
+-- `bits::wide_from` meets its contract.
 use Prim.Native.Nat.{ℕ, _%_, _/_, _^_}
 use mathlib.Core.Path.{ap, _∙_}
 use Rattle.bits.proofs.Windows.{field-from}

@@ -1,7 +1,7 @@
--- `bits::window` meets its contract. Assumes nothing.
+-- `bits::window` meets its contract.
 use mathlib.Core.Path.{_∙_}
 use native.Mathlib.Omega.{arith}
-use Rattle.bits.specs.Fields.{field-word}
+use Rattle.bits.proofs.Fields.{field-word}
 use borrow.Author.Needs.{needs}
 use Rattle.bits.proofs.window.Statement.{statement}
 use Rattle.bits.proofs.window.Tie as tie

@@ -1,4 +1,4 @@
--- `brachymel::brachymel_read` meets its contract. Assumes nothing.
+-- `brachymel::brachymel_read` meets its contract.
 use mathlib.Core.Path.{refl}
 use borrow.Author.Needs.{needs}
 use Rattle.brachymel.proofs.brachymel_read.Statement.{statement}

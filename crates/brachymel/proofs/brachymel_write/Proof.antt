@@ -1,7 +1,7 @@
--- `brachymel::brachymel_write` meets its contract. Assumes nothing.
+-- `brachymel::brachymel_write` meets its contract.
 use Rattle.writer.specs.Result.{answerOf, channelAfter}
 use Rattle.brachymel.specs.Bytes.{writeAnswer, writeChannel}
-use Rattle.brachymel.specs.Early.{early-refuses, early-passes, few-words}
+use Rattle.brachymel.proofs.Early.{early-refuses, early-passes, few-words}
 use lib.ListN.{length}
 use Prim.Native.Nat.{_/_}
 use mathlib.Core.Path.{refl, sym, _∙_}

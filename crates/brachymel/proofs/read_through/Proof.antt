@@ -1,4 +1,4 @@
--- `brachymel::read_through` meets its contract. Assumes nothing.
+-- `brachymel::read_through` meets its contract.
 use Rattle.brachymel.proofs.Through.{answer-is, kept-bytes, place-is, room-for, holds-words, bytes-are}
 use lib.Seq.{length-take-le}
 use lib.ListN.{take, drop}

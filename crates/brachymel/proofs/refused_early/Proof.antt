@@ -1,5 +1,5 @@
--- `brachymel::refused_early` meets its contract. Assumes nothing.
-use Rattle.brachymel.specs.Early.{early}
+-- `brachymel::refused_early` meets its contract.
+use Rattle.brachymel.specs.Engine.{early}
 use mathlib.Core.Path.{refl, _∙_}
 use borrow.Author.Needs.{needs}
 use Rattle.brachymel.proofs.refused_early.Statement.{statement}

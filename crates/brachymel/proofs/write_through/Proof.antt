@@ -1,6 +1,7 @@
--- `brachymel::write_through` meets its contract. Assumes nothing.
+-- `brachymel::write_through` meets its contract.
 use Rattle.octets.specs.Octets.{wordAt}
-use Rattle.answer.specs.Filled.{build, filled-length, take-filled}
+use Rattle.answer.specs.Lists.{build}
+use Rattle.answer.proofs.Lists.{filled-length, take-filled}
 use lib.Seq.{length-take-le}
 use lib.ListN.{length, take}
 use native.Mathlib.Omega.{arith}

@@ -1,5 +1,5 @@
--- `candidate::bytes_for` meets its contract. Assumes nothing.
-use Rattle.candidate.specs.Candidate.{bytesFor, larger}
+-- `candidate::bytes_for` meets its contract.
+use Rattle.candidate.specs.Length.{bytesFor, larger}
 use borrow.Author.Tests.{lt-ltb, le-ltb}
 use native.Mathlib.Omega.{arith}
 use borrow.Author.Needs.{needs}

@@ -1,6 +1,6 @@
--- `candidate::count_in` meets its contract. Assumes nothing.
-use Rattle.candidate.specs.Candidate.{valueIn, countIn}
-use Rattle.channel.specs.Laws.{total-next}
+-- `candidate::count_in` meets its contract.
+use Rattle.candidate.specs.Engine.{valueIn, countIn}
+use Rattle.channel.proofs.Laws.{total-next}
 use Rattle.channel.specs.Layout.{total}
 use Rattle.resource.proofs.Fields.{fields-most}
 use Rattle.resource.specs.Values.{fieldsOf}

@@ -1,5 +1,5 @@
--- `candidate::fill` meets its contract. Assumes nothing.
-use Rattle.candidate.specs.Steps.{channel-none}
+-- `candidate::fill` meets its contract.
+use Rattle.candidate.proofs.Steps.{channel-none}
 use borrow.Author.Needs.{needs}
 use Rattle.candidate.proofs.fill.Statement.{statement}
 use Rattle.candidate.proofs.fill.Tie as tie

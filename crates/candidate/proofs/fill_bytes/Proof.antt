@@ -1,6 +1,6 @@
--- `candidate::fill_bytes` meets its contract. Assumes nothing.
-use Rattle.candidate.specs.Steps.{channel-steps}
-use Rattle.words.specs.Back.{overflowOf}
+-- `candidate::fill_bytes` meets its contract.
+use Rattle.candidate.proofs.Steps.{channel-steps}
+use Rattle.words.specs.Engine.{overflowOf}
 use mathlib.Core.Path.{_∙_, ap}
 use borrow.Author.Needs.{needs}
 use Rattle.candidate.proofs.fill_bytes.Statement.{statement}

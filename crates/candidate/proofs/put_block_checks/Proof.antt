@@ -1,7 +1,7 @@
--- `candidate::put_block_checks` meets its contract. Assumes nothing.
-use Rattle.candidate.specs.Built.{blocks-length}
-use Rattle.candidate.specs.Steps.{blocks-none, blocks-next}
-use Rattle.candidate.specs.Candidate.{sealBlocks}
+-- `candidate::put_block_checks` meets its contract.
+use Rattle.candidate.proofs.Built.{blocks-length}
+use Rattle.candidate.proofs.Steps.{blocks-none, blocks-next}
+use Rattle.candidate.specs.Engine.{sealBlocks}
 use Rattle.channel.specs.Layout.{blocks}
 use lib.ListN.{length}
 use mathlib.Core.Path.{_≡_, refl, _∙_, ap}

@@ -1,5 +1,5 @@
--- `candidate::put_check` meets its contract. Assumes nothing.
-use Rattle.candidate.specs.Candidate.{seal}
+-- `candidate::put_check` meets its contract.
+use Rattle.candidate.specs.Engine.{seal}
 use mathlib.Core.Path.{_∙_}
 use borrow.Author.Needs.{needs}
 use Rattle.candidate.proofs.put_check.Statement.{statement}

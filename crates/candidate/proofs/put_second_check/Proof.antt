@@ -1,5 +1,5 @@
--- `candidate::put_second_check` meets its contract. Assumes nothing.
-use Rattle.candidate.specs.Candidate.{sealSecond}
+-- `candidate::put_second_check` meets its contract.
+use Rattle.candidate.specs.Engine.{sealSecond}
 use mathlib.Core.Path.{sym, _∙_}
 use borrow.Author.Needs.{needs}
 use Rattle.candidate.proofs.put_second_check.Statement.{statement}

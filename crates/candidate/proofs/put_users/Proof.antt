@@ -1,10 +1,10 @@
--- `candidate::put_users` meets its contract. Assumes nothing.
-use Rattle.candidate.specs.Built.{puts-length}
-use Rattle.candidate.specs.Steps.{puts-none, puts-next}
-use Rattle.candidate.specs.Candidate.{puts}
-use Rattle.words.specs.Back.{userField}
-use Rattle.words.specs.Words.{nth}
-use Rattle.channel.specs.Laws.{common-le}
+-- `candidate::put_users` meets its contract.
+use Rattle.candidate.proofs.Built.{puts-length}
+use Rattle.candidate.proofs.Steps.{puts-none, puts-next}
+use Rattle.candidate.specs.Engine.{puts}
+use Rattle.words.specs.Engine.{userField}
+use Rattle.answer.specs.Lists.{at}
+use Rattle.channel.proofs.Laws.{common-le}
 use Rattle.channel.specs.Layout.{userAt}
 use lib.ListN.{length}
 use mathlib.Core.Path.{_≡_, refl, _∙_, ap}
@@ -15,7 +15,7 @@ use Rattle.candidate.proofs.put_users.Statement.{statement}
 use Rattle.candidate.proofs.put_users.Tie as tie
 
 abbrev Inv-loop : tie.InvT-loop
-Inv-loop d₀ bw words first n i₀ d i = (i ≤ n) × (d ≡ puts (userAt bw) 22 (λ j. userField (nth words (first + j))) i d₀) × (length d ≡ length d₀)
+Inv-loop d₀ bw words first n i₀ d i = (i ≤ n) × (d ≡ puts (userAt bw) 22 (λ j. userField (at words (first + j))) i d₀) × (length d ≡ length d₀)
 
 abbrev μ-loop : tie.MeasureT-loop
 μ-loop d₀ bw words first n i₀ d i = n - i
@@ -53,7 +53,7 @@ loop-again c =
     let a = c .before .before .before .before .before .before .before .before .before .before .before .args in
     let l = c .before .before .before .before .before .before .before .before .loop in
     let p = c .before .before .put-field in
-    let f : ℕ → ℕ = λ j. userField (nth (a .words .now) (a .first + j)) in
+    let f : ℕ → ℕ = λ j. userField (at (a .words .now) (a .first + j)) in
     let v : c .before .before .before .before .before .user-field .result ≡ f (l .i) =
     c .before .before .before .before .before .user-field .ensures ∙ ap userField (c .before .before .before .before .before .before .word-at .ensures) in
     let e : p .last .0 ≡ puts (userAt (a .bw)) 22 f (l .i + 1) (a .d .now) =
@@ -69,7 +69,7 @@ returns c =
     let a = c .before .before .before .before .args in
     let l = c .before .loop in
     let e : l .i ≡ a .n = omega arith in
-    l .inv .1 ∙ ap (λ (k : ℕ). puts (userAt (a .bw)) 22 (λ j. userField (nth (a .words .now) (a .first + j))) k (a .d .now)) e
+    l .inv .1 ∙ ap (λ (k : ℕ). puts (userAt (a .bw)) 22 (λ j. userField (at (a .words .now) (a .first + j))) k (a .d .now)) e
 
 pub put-users-spec : {M : Type 1} → statement M
 put-users-spec =

@@ -1,8 +1,8 @@
--- `candidate::put_values` meets its contract. Assumes nothing.
-use Rattle.candidate.specs.Built.{puts-length}
-use Rattle.candidate.specs.Steps.{puts-none, puts-next}
-use Rattle.candidate.specs.Candidate.{puts, valueIn}
-use Rattle.channel.specs.Laws.{value-inside, subfieldsIn-le, common-le}
+-- `candidate::put_values` meets its contract.
+use Rattle.candidate.proofs.Built.{puts-length}
+use Rattle.candidate.proofs.Steps.{puts-none, puts-next}
+use Rattle.candidate.specs.Engine.{puts, valueIn}
+use Rattle.channel.proofs.Laws.{value-inside, subfieldsIn-le, common-le}
 use Rattle.channel.specs.Layout.{valueAt}
 use lib.ListN.{length}
 use mathlib.Core.Path.{_≡_, refl, _∙_, ap}

@@ -1,6 +1,6 @@
--- `candidate::value_in` meets its contract. Assumes nothing.
-use Rattle.candidate.specs.Steps.{value-of-lt}
-use Rattle.candidate.specs.Candidate.{valueIn}
+-- `candidate::value_in` meets its contract.
+use Rattle.candidate.proofs.Steps.{value-of-lt}
+use Rattle.candidate.specs.Engine.{valueIn}
 use Prim.Native.Nat.{_<_}
 use native.Mathlib.Omega.{arith}
 use borrow.Author.Needs.{needs}

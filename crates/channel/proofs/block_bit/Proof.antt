@@ -1,4 +1,4 @@
--- `channel::block_bit` meets its contract. Assumes nothing.
+-- `channel::block_bit` meets its contract.
 use Rattle.channel.specs.Layout.{blockAt}
 use borrow.Author.Needs.{needs}
 use Rattle.channel.proofs.block_bit.Statement.{statement}

@@ -1,4 +1,4 @@
--- `channel::common_bits` meets its contract. Assumes nothing.
+-- `channel::common_bits` meets its contract.
 use mathlib.Core.Path.{_≡_, sym, _∙_}
 use native.Mathlib.Omega.{arith}
 use mathlib.Core.Bool.{true, false}

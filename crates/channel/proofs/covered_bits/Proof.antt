@@ -1,4 +1,4 @@
--- `channel::covered_bits` meets its contract. Assumes nothing.
+-- `channel::covered_bits` meets its contract.
 use Prim.Native.Nat.{_+_, _*_}
 use borrow.Author.Tests.{lt-ltb, le-ltb}
 use Rattle.channel.specs.Layout.{covered}

@@ -1,4 +1,4 @@
--- `channel::end_bit` meets its contract. Assumes nothing.
+-- `channel::end_bit` meets its contract.
 use Rattle.channel.specs.Layout.{endOf}
 use borrow.Author.Needs.{needs}
 use Rattle.channel.proofs.end_bit.Statement.{statement}

@@ -1,4 +1,4 @@
--- `channel::fill_row` meets its contract. Assumes nothing.
+-- `channel::fill_row` meets its contract.
 use mathlib.Core.Path.{sym, _∙_}
 use Rattle.channel.proofs.Windows.{narrow-row, wide-row, not-true, not-false}
 use borrow.Author.Needs.{needs}

@@ -1,4 +1,4 @@
--- `channel::first_bits` meets its contract. Assumes nothing.
+-- `channel::first_bits` meets its contract.
 use Rattle.channel.specs.Layout.{firstBits}
 use borrow.Author.Needs.{needs}
 use Rattle.channel.proofs.first_bits.Statement.{statement}

@@ -1,10 +1,10 @@
--- `channel::first_window` meets its contract. Assumes nothing.
+-- `channel::first_window` meets its contract.
 use mathlib.Core.Path.{_≡_, sym, _∙_}
 use mathlib.Core.Bool.{true, false}
 use native.Mathlib.Omega.{arith}
 use Rattle.bits.proofs.Windows.{field-rest}
 use Rattle.channel.specs.Layout.{present}
-use Rattle.channel.specs.Windows.{firstWindow}
+use Rattle.channel.specs.Engine.{firstWindow}
 use borrow.Author.Needs.{needs}
 use Rattle.channel.proofs.first_window.Statement.{statement}
 use Rattle.channel.proofs.first_window.Tie as tie

@@ -1,4 +1,4 @@
--- `channel::firsts_of` meets its contract. Assumes nothing.
+-- `channel::firsts_of` meets its contract.
 use borrow.Author.Tests.{lt-ltb, le-ltb}
 use Rattle.channel.specs.Layout.{firsts}
 use borrow.Author.Needs.{needs}

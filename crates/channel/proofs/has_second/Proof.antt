@@ -1,4 +1,4 @@
--- `channel::has_second` meets its contract. Assumes nothing.
+-- `channel::has_second` meets its contract.
 use Rattle.channel.specs.Layout.{hasSecond}
 use borrow.Author.Needs.{needs}
 use Rattle.channel.proofs.has_second.Statement.{statement}

@@ -1,4 +1,4 @@
--- `channel::is_present` meets its contract. Assumes nothing.
+-- `channel::is_present` meets its contract.
 use Rattle.channel.specs.Layout.{present}
 use borrow.Author.Needs.{needs}
 use Rattle.channel.proofs.is_present.Statement.{statement}

@@ -1,4 +1,4 @@
--- `channel::positions_of` meets its contract. Assumes nothing.
+-- `channel::positions_of` meets its contract.
 use lib.Pow.{pow-mono}
 use Prim.Native.Nat.{_^_}
 use Prim.Native.Nat.{_≤_}

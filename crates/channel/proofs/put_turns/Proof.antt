@@ -1,9 +1,9 @@
--- `channel::put_turns` meets its contract. Assumes nothing.
+-- `channel::put_turns` meets its contract.
 use Prim.Native.Nat.{_+_, _-_, _*_, _/_, _%_, _^_, _≤_}
 use mathlib.Core.Path.{_≡_, refl}
 use native.Mathlib.Omega.{arith}
 use lib.ListN.{length-set}
-use Rattle.channel.specs.Windows.{Turns}
+use Rattle.channel.specs.Engine.{Turns}
 use Rattle.channel.proofs.Windows.{turns-none, turns-next}
 use borrow.Author.Needs.{needs}
 use Rattle.channel.proofs.put_turns.Statement.{statement}

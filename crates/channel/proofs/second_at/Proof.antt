@@ -1,4 +1,4 @@
--- `channel::second_at` meets its contract. Assumes nothing.
+-- `channel::second_at` meets its contract.
 use Rattle.channel.specs.Layout.{secondAt}
 use borrow.Author.Needs.{needs}
 use Rattle.channel.proofs.second_at.Statement.{statement}

@@ -1,4 +1,4 @@
--- `channel::second_bits` meets its contract. Assumes nothing.
+-- `channel::second_bits` meets its contract.
 use Rattle.channel.specs.Layout.{secondBits}
 use borrow.Author.Needs.{needs}
 use Rattle.channel.proofs.second_bits.Statement.{statement}

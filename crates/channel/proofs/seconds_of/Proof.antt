@@ -1,4 +1,4 @@
--- `channel::seconds_of` meets its contract. Assumes nothing.
+-- `channel::seconds_of` meets its contract.
 use borrow.Author.Tests.{eq-eqb, ne-eqb}
 use Rattle.channel.specs.Layout.{seconds}
 use borrow.Author.Needs.{needs}

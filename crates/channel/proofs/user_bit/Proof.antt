@@ -1,4 +1,4 @@
--- `channel::user_bit` meets its contract. Assumes nothing.
+-- `channel::user_bit` meets its contract.
 use Rattle.channel.specs.Layout.{userAt}
 use borrow.Author.Needs.{needs}
 use Rattle.channel.proofs.user_bit.Statement.{statement}

@@ -1,4 +1,4 @@
--- `channel::value_bit` meets its contract. Assumes nothing.
+-- `channel::value_bit` meets its contract.
 use native.Mathlib.Omega.{arith}
 use borrow.Author.Tests.{lt-ltb, le-ltb}
 use Rattle.channel.specs.Layout.{firsts, valueAt}

@@ -1,9 +1,9 @@
--- `channel::value_of` meets its contract. Assumes nothing.
+-- `channel::value_of` meets its contract.
 use Prim.Native.Nat.{ℕ}
 use mathlib.Core.Path.{_∙_, ap}
 use native.Mathlib.Omega.{arith}
 use Rattle.bits.specs.Bits.{field}
-use Rattle.bits.specs.Fields.{field-lt}
+use Rattle.bits.proofs.Fields.{field-lt}
 use Rattle.channel.specs.Layout.{value}
 use borrow.Author.Needs.{needs}
 use Rattle.channel.proofs.value_of.Statement.{statement}

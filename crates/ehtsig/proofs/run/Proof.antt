@@ -1,9 +1,9 @@
--- `ehtsig::run` meets its contract. Assumes nothing.
+-- `ehtsig::run` meets its contract.
 use mathlib.Core.Path.{sym}
 use lib.Seq.{length-take-le}
 use native.Mathlib.Omega.{arith}
-use Rattle.text.specs.Laws.{kept}
-use Rattle.longest.specs.Longest.{respond-most}
+use Rattle.text.proofs.Laws.{kept}
+use Rattle.listed.proofs.Longest.{respond-most}
 use borrow.Author.Needs.{needs}
 use Rattle.ehtsig.proofs.run.Statement.{statement}
 use Rattle.ehtsig.proofs.run.Tie as tie

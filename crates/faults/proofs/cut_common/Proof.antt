@@ -1,4 +1,4 @@
--- `faults::cut_common` meets its contract. Assumes nothing.
+-- `faults::cut_common` meets its contract.
 use Rattle.faults.specs.Checks.{cutCommon}
 use borrow.Author.Needs.{needs}
 use Rattle.faults.proofs.cut_common.Statement.{statement}

@@ -1,4 +1,4 @@
--- `faults::cut_users` meets its contract. Assumes nothing.
+-- `faults::cut_users` meets its contract.
 use Rattle.faults.specs.Checks.{cutUsers}
 use borrow.Author.Needs.{needs}
 use Rattle.faults.proofs.cut_users.Statement.{statement}

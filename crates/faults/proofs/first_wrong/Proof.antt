@@ -1,8 +1,9 @@
--- `faults::first_wrong` meets its contract. Assumes nothing.
+-- `faults::first_wrong` meets its contract.
 use Prim.Native.Nat.{_+_, _-_, _/_, _≤_}
 use mathlib.Core.Path.{_≡_, sym, _∙_}
 use native.Mathlib.Omega.{arith}
-use Rattle.answer.specs.Least.{least, least-start, least-step, least-stop, least-end}
+use Rattle.answer.specs.Least.{least}
+use Rattle.answer.proofs.Least.{least-start, least-step, least-stop, least-end}
 use Rattle.channel.specs.Layout.{blocks}
 use Rattle.faults.specs.Checks.{wrongBlock, firstWrong}
 use borrow.Author.Needs.{needs}

@@ -1,5 +1,5 @@
--- `faults::is_foreign` meets its contract. Assumes nothing.
-use Rattle.faults.specs.Checks.{foreign}
+-- `faults::is_foreign` meets its contract.
+use Rattle.faults.specs.Checks.{uncarried}
 use borrow.Author.Needs.{needs}
 use Rattle.faults.proofs.is_foreign.Statement.{statement}
 use Rattle.faults.proofs.is_foreign.Tie as tie
@@ -11,7 +11,7 @@ is-carried-requires : tie.Need-is-carried-requires
 is-carried-requires c κs = search needs
 
 returns : tie.Need-returns
-unfolding foreign
+unfolding uncarried
 returns c = cc
 
 pub is-foreign-spec : {M : Type 1} → statement M

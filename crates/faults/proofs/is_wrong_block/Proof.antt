@@ -1,4 +1,4 @@
--- `faults::is_wrong_block` meets its contract. Assumes nothing.
+-- `faults::is_wrong_block` meets its contract.
 use Rattle.faults.specs.Checks.{wrongBlock}
 use borrow.Author.Needs.{needs}
 use Rattle.faults.proofs.is_wrong_block.Statement.{statement}

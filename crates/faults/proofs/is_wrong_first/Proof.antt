@@ -1,4 +1,4 @@
--- `faults::is_wrong_first` meets its contract. Assumes nothing.
+-- `faults::is_wrong_first` meets its contract.
 use mathlib.Core.Path.{_≡_, sym, _∙_}
 use mathlib.Core.Bool.{true, false}
 use Rattle.channel.specs.Layout.{present}

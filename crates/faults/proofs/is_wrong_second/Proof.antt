@@ -1,4 +1,4 @@
--- `faults::is_wrong_second` meets its contract. Assumes nothing.
+-- `faults::is_wrong_second` meets its contract.
 use mathlib.Core.Path.{_≡_, sym, _∙_, ap}
 use mathlib.Core.Bool.{true, false, _&&_}
 use Rattle.channel.specs.Layout.{present, hasSecond}

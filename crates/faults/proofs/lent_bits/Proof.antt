@@ -1,4 +1,4 @@
--- `faults::lent_bits` meets its contract. Assumes nothing.
+-- `faults::lent_bits` meets its contract.
 use Rattle.faults.specs.Checks.{lent}
 use borrow.Author.Needs.{needs}
 use Rattle.faults.proofs.lent_bits.Statement.{statement}

@@ -1,4 +1,4 @@
--- `faults::not_carried` meets its contract. Assumes nothing.
+-- `faults::not_carried` meets its contract.
 use Rattle.faults.specs.Checks.{notCarried}
 use borrow.Author.Needs.{needs}
 use Rattle.faults.proofs.not_carried.Statement.{statement}
@@ -7,8 +7,8 @@ use Rattle.faults.proofs.not_carried.Tie as tie
 subfields-of-requires : tie.Need-subfields-of-requires
 subfields-of-requires c κs = search needs
 
-first-foreign-requires : tie.Need-first-foreign-requires
-first-foreign-requires c κs = search needs
+first-uncarried-requires : tie.Need-first-uncarried-requires
+first-uncarried-requires c κs = search needs
 
 value-bit-requires : tie.Need-value-bit-requires
 value-bit-requires c κs = search needs
@@ -25,7 +25,7 @@ not-carried-spec =
     tie.close
     (tie.spec
     subfields-of-requires
-    first-foreign-requires
+    first-uncarried-requires
     value-bit-requires
     refuse-if-requires
     returns)

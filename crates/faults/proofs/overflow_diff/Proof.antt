@@ -1,7 +1,7 @@
--- `faults::overflow_diff` meets its contract. Assumes nothing.
+-- `faults::overflow_diff` meets its contract.
 use mathlib.Core.Path.{_≡_, sym, _∙_}
 use Rattle.bits.specs.Bits.{field}
-use Rattle.bits.specs.Differs.{differ-nowhere, differs-from-0}
+use Rattle.bits.proofs.Differs.{differ-nowhere, differs-from-0}
 use borrow.Author.Needs.{needs}
 use Rattle.faults.proofs.overflow_diff.Statement.{statement}
 use Rattle.faults.proofs.overflow_diff.Tie as tie

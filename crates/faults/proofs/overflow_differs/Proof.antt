@@ -1,7 +1,7 @@
--- `faults::overflow_differs` meets its contract. Assumes nothing.
+-- `faults::overflow_differs` meets its contract.
 use Rattle.faults.specs.Checks.{overflowDiffers}
 use Rattle.channel.specs.Layout.{present}
-use Rattle.answer.specs.Order.{or-end}
+use Rattle.answer.proofs.Order.{or-end}
 use borrow.Author.Tests.{not-true, not-false}
 use mathlib.Core.Bool.{true, false}
 use mathlib.Core.Path.{_≡_, sym, _∙_}

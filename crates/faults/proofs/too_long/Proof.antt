@@ -1,4 +1,4 @@
--- `faults::too_long` meets its contract. Assumes nothing.
+-- `faults::too_long` meets its contract.
 use Rattle.faults.specs.Checks.{tooLong}
 use borrow.Author.Needs.{needs}
 use Rattle.faults.proofs.too_long.Statement.{statement}

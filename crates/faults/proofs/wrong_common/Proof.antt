@@ -1,4 +1,4 @@
--- `faults::wrong_common` meets its contract. Assumes nothing.
+-- `faults::wrong_common` meets its contract.
 use Rattle.faults.specs.Checks.{wrongCommon}
 use borrow.Author.Needs.{needs}
 use Rattle.faults.proofs.wrong_common.Statement.{statement}

@@ -1,4 +1,4 @@
--- `faults::wrong_users` meets its contract. Assumes nothing.
+-- `faults::wrong_users` meets its contract.
 use Rattle.faults.specs.Checks.{firstWrong, wrongUsers, wrongUsersOf}
 use Rattle.channel.specs.Layout.{count, blocks}
 use mathlib.Core.Path.{_≡_, sym, _∙_}
@@ -6,7 +6,7 @@ use mathlib.Core.List.{List}
 use Prim.Native.Nat.{ℕ, _+_, _/_}
 use native.Mathlib.Omega.{arith}
 use borrow.Author.Tests.{le-ltb}
-use Rattle.answer.specs.declared.Out.the-variants.{Pass}
+use Rattle.answer.specs.declared.Outcome.the-variants.{Pass}
 use borrow.Author.Needs.{needs}
 use Rattle.faults.proofs.wrong_users.Statement.{statement}
 use Rattle.faults.proofs.wrong_users.Tie as tie

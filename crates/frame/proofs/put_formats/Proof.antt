@@ -1,14 +1,16 @@
--- `frame::put_formats` meets its contract. Assumes nothing.
+-- `frame::put_formats` meets its contract.
 use Prim.Native.Nat.{ℕ, _+_, _-_, _/_, _%_, _^_, _≤_, _<_}
 use mathlib.Core.Path.{_≡_, refl, _∙_, ap}
 use native.Mathlib.Omega.{arith}
 use lib.Dec.{eqb}
 use lib.ListN.{length, length-drop}
-use Rattle.answer.specs.Filled.{filled-length, filled, filled-start}
+use Rattle.answer.proofs.Lists.{filled-length, filled-start}
+use Rattle.answer.specs.Lists.{filled}
 use Rattle.resource.specs.Values.{fieldsOf}
-use Rattle.channel.specs.Laws.{count-le}
+use Rattle.channel.proofs.Laws.{count-le}
 use Rattle.channel.specs.Layout.{subfieldsIn, value, count}
-use Rattle.frame.specs.Words.{positionOf, runWord, before, userWordAt}
+use Rattle.frame.specs.Words.{positionOf, before, userWordAt}
+use Rattle.frame.specs.Engine.{runWord}
 use Rattle.frame.proofs.Givers.{count-before, before-none, before-next, before-count, run-words}
 use Rattle.frame.proofs.Grow.{part-tail, grown}
 use borrow.Author.Needs.{needs}

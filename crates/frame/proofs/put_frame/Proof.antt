@@ -1,8 +1,8 @@
--- `frame::put_frame` meets its contract. Assumes nothing.
+-- `frame::put_frame` meets its contract.
 use Rattle.frame.proofs.Grow.{part-tail, head-length, filled-put-length, laid-out}
 use Rattle.frame.specs.Words.{headerOf, userWordAt, wordsIn, wordCount}
 use Rattle.channel.specs.Layout.{count}
-use Rattle.channel.specs.Laws.{count-le}
+use Rattle.channel.proofs.Laws.{count-le}
 use Rattle.frame.proofs.Rows.{row-short, holds-1, holds-2}
 use borrow.Rule.Slice.PartMut.{putMid}
 use lib.ListN.{length, length-drop}

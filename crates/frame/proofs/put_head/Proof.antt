@@ -1,7 +1,7 @@
--- `frame::put_head` meets its contract. Assumes nothing.
+-- `frame::put_head` meets its contract.
 use mathlib.Core.Path.{_∙_}
 use native.Mathlib.Omega.{arith}
-use Rattle.bits.specs.Fields.{field-lt}
+use Rattle.bits.proofs.Fields.{field-lt}
 use borrow.Author.Needs.{needs}
 use Rattle.frame.proofs.put_head.Statement.{statement}
 use Rattle.frame.proofs.put_head.Tie as tie

@@ -1,6 +1,7 @@
--- `frame::put_run` meets its contract. Assumes nothing.
-use Rattle.frame.specs.Words.{runWord}
-use Rattle.answer.specs.Filled.{filled, filled-start, filled-step}
+-- `frame::put_run` meets its contract.
+use Rattle.frame.specs.Engine.{runWord}
+use Rattle.answer.specs.Lists.{filled}
+use Rattle.answer.proofs.Lists.{filled-start, filled-step}
 use lib.ListN.{length, set, length-set}
 use Prim.Native.Nat.{_+_, _-_, _≤_}
 use mathlib.Core.Path.{_≡_, refl, _∙_}

@@ -1,12 +1,14 @@
--- `frame::put_users` meets its contract. Assumes nothing.
+-- `frame::put_users` meets its contract.
 use Prim.Native.Nat.{ℕ}
 use mathlib.Core.Path.{_∙_, ap}
 use mathlib.Core.Bool.{false}
 use native.Mathlib.Omega.{arith}
-use Rattle.answer.specs.Filled.{filled, filled-cong}
+use Rattle.answer.specs.Lists.{filled}
+use Rattle.answer.proofs.Lists.{filled-cong}
 use Rattle.channel.specs.Layout.{count}
-use Rattle.channel.specs.Laws.{count-le}
-use Rattle.frame.specs.Words.{runWord, userWordAt}
+use Rattle.channel.proofs.Laws.{count-le}
+use Rattle.frame.specs.Engine.{runWord}
+use Rattle.frame.specs.Words.{userWordAt}
 use Rattle.frame.proofs.Givers.{lone-words}
 use borrow.Author.Needs.{needs}
 use Rattle.frame.proofs.put_users.Statement.{statement}

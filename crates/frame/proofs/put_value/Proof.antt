@@ -1,5 +1,5 @@
--- `frame::put_value` meets its contract. Assumes nothing.
-use Rattle.answer.specs.Filled.{filled-start}
+-- `frame::put_value` meets its contract.
+use Rattle.answer.proofs.Lists.{filled-start}
 use native.Mathlib.Omega.{arith}
 use mathlib.Core.Path.{_≡_}
 use borrow.Author.Needs.{needs}

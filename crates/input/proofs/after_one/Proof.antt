@@ -1,7 +1,7 @@
--- `input::after_one` meets its contract. Assumes nothing.
+-- `input::after_one` meets its contract.
 use native.Mathlib.Omega.{arith}
 use lib.ListN.{length}
-use Rattle.input.specs.Turns.{room, wrong-2, next-2}
+use Rattle.input.proofs.Turns.{room, wrong-2, next-2}
 use borrow.Author.Needs.{needs}
 use Rattle.input.proofs.after_one.Statement.{statement}
 use Rattle.input.proofs.after_one.Tie as tie

@@ -1,8 +1,8 @@
--- `input::after_two` meets its contract. Assumes nothing.
+-- `input::after_two` meets its contract.
 use native.Mathlib.Omega.{arith}
 use lib.ListN.{length}
 use Prim.Native.Nat.{_+_, _*_}
-use Rattle.input.specs.Turns.{room, wrong-3, wrong-4, right}
+use Rattle.input.proofs.Turns.{room, wrong-3, wrong-4, right}
 use borrow.Author.Needs.{needs}
 use Rattle.input.proofs.after_two.Statement.{statement}
 use Rattle.input.proofs.after_two.Tie as tie

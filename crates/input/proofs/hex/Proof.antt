@@ -1,4 +1,4 @@
--- `input::hex` meets its contract. Assumes nothing.
+-- `input::hex` meets its contract.
 use borrow.Author.Tests.{lt-ltb, le-ltb}
 use borrow.Author.Needs.{needs}
 use Rattle.input.proofs.hex.Statement.{statement}

@@ -1,11 +1,11 @@
--- `input::hex_line` meets its contract. Assumes nothing.
+-- `input::hex_line` meets its contract.
 use borrow.Author.Needs.{needs}
 use mathlib.Core.Path.{_≡_, refl, sym, ap, _∙_}
 use Prim.Native.Nat.{_+_, _-_, _*_}
 use native.Mathlib.Omega.{arith}
 use lib.ListN.{length, drop}
-use Rattle.input.specs.Parse.{hexLine, hexOf}
-use Rattle.input.specs.Turns.{hex-stop, hex-bad, hex-bad2, hex-next, hex-end}
+use Rattle.input.specs.Engine.{hexLine, hexOf}
+use Rattle.input.proofs.Turns.{hex-stop, hex-bad, hex-bad2, hex-next, hex-end}
 use Rattle.input.proofs.hex_line.Statement.{statement}
 use Rattle.input.proofs.hex_line.Tie as tie
 

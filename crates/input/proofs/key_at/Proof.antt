@@ -1,12 +1,12 @@
--- `input::key_at` meets its contract. Assumes nothing.
+-- `input::key_at` meets its contract.
 use borrow.Author.Needs.{needs}
 use mathlib.Core.Path.{_≡_, sym, _∙_}
 use Prim.Native.Nat.{_+_, _-_, _≤_}
 use native.Mathlib.Omega.{arith}
 use native.Mathlib.Nat.{add-zero}
 use lib.ListN.{length, drop}
-use Rattle.input.specs.Parse.{starts}
-use Rattle.input.specs.Turns.{key-end, key-short, key-not, key-more}
+use Rattle.input.specs.Engine.{starts}
+use Rattle.input.proofs.Turns.{key-end, key-short, key-not, key-more}
 use Rattle.input.proofs.key_at.Statement.{statement}
 use Rattle.input.proofs.key_at.Tie as tie
 

@@ -1,6 +1,6 @@
--- `input::line` meets its contract. Assumes nothing.
+-- `input::line` meets its contract.
 use native.Mathlib.Omega.{arith}
-use Rattle.input.specs.Turns.{key-room, keyed-not, keyed-is}
+use Rattle.input.proofs.Turns.{key-room, keyed-not, keyed-is}
 use borrow.Author.Needs.{needs}
 use Rattle.input.proofs.line.Statement.{statement}
 use Rattle.input.proofs.line.Tie as tie

@@ -1,5 +1,5 @@
--- `input::line_bw` meets its contract. Assumes nothing.
-use Rattle.input.specs.Turns.{bw-none, bw-low, bw-high, bw-end}
+-- `input::line_bw` meets its contract.
+use Rattle.input.proofs.Turns.{bw-none, bw-low, bw-high, bw-end}
 use borrow.Author.Needs.{needs}
 use Rattle.input.proofs.line_bw.Statement.{statement}
 use Rattle.input.proofs.line_bw.Tie as tie

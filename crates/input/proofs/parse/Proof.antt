@@ -1,7 +1,7 @@
--- `input::parse` meets its contract. Assumes nothing.
+-- `input::parse` meets its contract.
 use borrow.Author.Needs.{needs}
 use mathlib.Core.Path.{sym, _∙_}
-use Rattle.input.specs.Turns.{parsed-long, parsed-short}
+use Rattle.input.proofs.Turns.{parsed-long, parsed-short}
 use Rattle.input.proofs.parse.Statement.{statement}
 use Rattle.input.proofs.parse.Tie as tie
 

@@ -1,8 +1,8 @@
--- `input::three_lines` meets its contract. Assumes nothing.
+-- `input::three_lines` meets its contract.
 use native.Mathlib.Omega.{arith}
 use mathlib.Core.Path.{sym, ap, _∙_}
 use Prim.Native.Nat.{_-_}
-use Rattle.input.specs.Turns.{bw-digit, bw-long, wrong-1, next-1}
+use Rattle.input.proofs.Turns.{bw-digit, bw-long, wrong-1, next-1}
 use borrow.Author.Needs.{needs}
 use Rattle.input.proofs.three_lines.Statement.{statement}
 use Rattle.input.proofs.three_lines.Tie as tie

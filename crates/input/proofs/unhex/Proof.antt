@@ -1,11 +1,12 @@
--- `input::unhex` meets its contract. Assumes nothing.
+-- `input::unhex` meets its contract.
 use borrow.Author.Needs.{needs}
 use native.Mathlib.Omega.{arith}
 use mathlib.Core.Path.{_≡_, ap, _∙_}
 use Prim.Native.Nat.{_+_, _-_, _*_, _≤_}
 use lib.ListN.{length, getD, set}
-use Rattle.answer.specs.Filled.{filled, filled-start, filled-step, filled-length}
-use Rattle.input.specs.Parse.{byteOf, pairOf}
+use Rattle.answer.specs.Lists.{filled}
+use Rattle.answer.proofs.Lists.{filled-start, filled-step, filled-length}
+use Rattle.input.specs.Engine.{byteOf, pairOf}
 use Rattle.input.proofs.unhex.Statement.{statement}
 use Rattle.input.proofs.unhex.Tie as tie
 

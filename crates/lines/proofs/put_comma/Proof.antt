@@ -1,7 +1,7 @@
--- `lines::put_comma` meets its contract. Assumes nothing.
+-- `lines::put_comma` meets its contract.
 use native.Mathlib.Omega.{arith}
 use borrow.Author.Tests.{ne-eqb}
-use Rattle.text.specs.Laws.{nothing}
+use Rattle.text.proofs.Laws.{nothing}
 use Rattle.lines.specs.Lines.{comma}
 use borrow.Author.Needs.{needs}
 use Rattle.lines.proofs.put_comma.Statement.{statement}

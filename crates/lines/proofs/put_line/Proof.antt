@@ -1,6 +1,6 @@
--- `lines::put_line` meets its contract. Assumes nothing.
+-- `lines::put_line` meets its contract.
 use native.Mathlib.Omega.{arith}
-use Rattle.text.specs.Laws.{after}
+use Rattle.text.proofs.Laws.{after}
 use borrow.Author.Needs.{needs}
 use Rattle.lines.proofs.put_line.Statement.{statement}
 use Rattle.lines.proofs.put_line.Tie as tie

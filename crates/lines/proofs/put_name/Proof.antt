@@ -1,4 +1,4 @@
--- `lines::put_name` meets its contract. Assumes nothing.
+-- `lines::put_name` meets its contract.
 use native.Mathlib.Omega.{arith}
 use Rattle.lines.specs.Lines.{nameText}
 use borrow.Author.Needs.{needs}

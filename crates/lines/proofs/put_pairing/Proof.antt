@@ -1,4 +1,4 @@
--- `lines::put_pairing` meets its contract. Assumes nothing.
+-- `lines::put_pairing` meets its contract.
 use native.Mathlib.Omega.{arith}
 use borrow.Author.Needs.{needs}
 use Rattle.lines.proofs.put_pairing.Statement.{statement}

@@ -1,6 +1,6 @@
--- `lines::put_refusal` meets its contract. Assumes nothing.
+-- `lines::put_refusal` meets its contract.
 use native.Mathlib.Omega.{arith}
-use Rattle.text.specs.Laws.{after}
+use Rattle.text.proofs.Laws.{after}
 use Rattle.lines.specs.Lines.{refusalText}
 use borrow.Author.Needs.{needs}
 use Rattle.lines.proofs.put_refusal.Statement.{statement}

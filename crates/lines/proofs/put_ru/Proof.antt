@@ -1,7 +1,7 @@
--- `lines::put_ru` meets its contract. Assumes nothing.
+-- `lines::put_ru` meets its contract.
 use native.Mathlib.Omega.{arith}
 use mathlib.Core.Path.{_≡_, ap, _∙_}
-use Rattle.text.specs.Laws.{after}
+use Rattle.text.proofs.Laws.{after}
 use Rattle.resource.specs.Runs.{runsOf}
 use Rattle.resource.proofs.Held.{runs-few, held-few}
 use Rattle.lines.specs.Lines.{ruLine, tonesText, heldText}

@@ -1,11 +1,11 @@
--- `lines::put_tones` meets its contract. Assumes nothing.
+-- `lines::put_tones` meets its contract.
 use borrow.Author.Needs.{needs}
 use native.Mathlib.Omega.{arith}
 use mathlib.Core.Path.{_≡_}
 use Prim.Native.Nat.{_+_, _-_, _*_, _≤_}
 use lib.ListN.{getD}
 use Rattle.text.specs.Text.{Wrote, upto}
-use Rattle.text.specs.Laws.{no-item, item, kept}
+use Rattle.text.proofs.Laws.{no-item, item, kept}
 use Rattle.resource.specs.Runs.{spanOf, noRun}
 use Rattle.lines.specs.Lines.{spanText, heldText}
 use Rattle.lines.proofs.put_tones.Statement.{statement}

@@ -1,4 +1,4 @@
--- `listing::list` meets its contract. Assumes nothing.
+-- `listing::list` meets its contract.
 use native.Mathlib.Omega.{arith}
 use Rattle.listing.proofs.Halves.{outcome, code, row-16, given, given-front}
 use Rattle.listing.proofs.Outcome.{refused-by}

@@ -1,9 +1,9 @@
--- `listing::list_given` meets its contract. Assumes nothing.
+-- `listing::list_given` meets its contract.
 use native.Mathlib.Omega.{arith}
 use Rattle.listing.proofs.Outcome.{too-short, at-once, listed}
 use Rattle.listed.proofs.Accepted.{known-code}
-use Rattle.longest.specs.Longest.{listing-within}
-use Rattle.text.specs.Laws.{count}
+use Rattle.listed.proofs.Longest.{listing-within}
+use Rattle.text.proofs.Laws.{count}
 use borrow.Author.Needs.{needs}
 use Rattle.listing.proofs.list_given.Statement.{statement}
 use Rattle.listing.proofs.list_given.Tie as tie

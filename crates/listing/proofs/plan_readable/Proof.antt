@@ -1,7 +1,7 @@
--- `listing::plan_readable` meets its contract. Assumes nothing.
+-- `listing::plan_readable` meets its contract.
 use mathlib.Core.Bool.{false≢true}
-use Rattle.table.specs.Stages.{common-pass}
-use Rattle.table.proofs.Half.{planned-made}
+use Rattle.halves.proofs.Stages.{common-pass}
+use Rattle.halves.proofs.Half.{planned-made}
 use Rattle.listing.proofs.Halves.{stopped, both}
 use borrow.Author.Needs.{needs}
 use Rattle.listing.proofs.plan_readable.Statement.{statement}

@@ -1,11 +1,11 @@
--- `listing::put_channel` meets its contract. Assumes nothing.
+-- `listing::put_channel` meets its contract.
 use borrow.Author.Needs.{needs}
 use native.Mathlib.Omega.{arith}
 use mathlib.Core.Path.{_≡_, ap, _∙_}
 use Prim.Native.Nat.{ℕ, _+_, _-_, _*_, _≤_}
 use lib.ListN.{getD}
 use Rattle.text.specs.Text.{Wrote, upto}
-use Rattle.text.specs.Laws.{no-item, item, kept}
+use Rattle.text.proofs.Laws.{no-item, item, kept}
 use Rattle.bits.specs.Bits.{field}
 use Rattle.channel.specs.Layout.{userAt}
 use Rattle.lines.specs.Lines.{staLine}

@@ -1,9 +1,9 @@
--- `listing::put_larger` meets its contract. Assumes nothing.
+-- `listing::put_larger` meets its contract.
 use native.Mathlib.Omega.{arith}
 use mathlib.Core.Path.{sym, ap, _∙_}
 use lib.ListN.{length}
 use Rattle.resource.specs.Runs.{held}
-use Rattle.plan.specs.Plan.{at as value}
+use Rattle.answer.specs.Lists.{at as value}
 use Rattle.records.proofs.Larger.{larger-runs}
 use Rattle.listing.proofs.Held.{none-listed, one-listed, no-lines, one-line}
 use borrow.Author.Needs.{needs}

@@ -1,6 +1,6 @@
--- `listing::put_lines` meets its contract. Assumes nothing.
+-- `listing::put_lines` meets its contract.
 use mathlib.Core.Path.{sym}
-use Rattle.answer.specs.Filled.{length-build}
+use Rattle.answer.proofs.Lists.{length-build}
 use Rattle.listing.proofs.Outcome.{front-of}
 use borrow.Author.Needs.{needs}
 use Rattle.listing.proofs.put_lines.Statement.{statement}

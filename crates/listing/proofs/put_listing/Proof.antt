@@ -1,5 +1,5 @@
--- `listing::put_listing` meets its contract. Assumes nothing.
-use Rattle.channel.specs.Laws.{count-le}
+-- `listing::put_listing` meets its contract.
+use Rattle.channel.proofs.Laws.{count-le}
 use Rattle.listing.proofs.Halves.{row-few}
 use Rattle.listed.specs.Listing.{listing}
 use borrow.Author.Needs.{needs}

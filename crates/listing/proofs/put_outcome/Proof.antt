@@ -1,4 +1,4 @@
--- `listing::put_outcome` meets its contract. Assumes nothing.
+-- `listing::put_outcome` meets its contract.
 use native.Mathlib.Omega.{arith}
 use Rattle.listing.proofs.Halves.{outcome, code, row-16, given, given-front}
 use Rattle.listed.specs.Listing.{frameText}

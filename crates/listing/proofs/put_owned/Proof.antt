@@ -1,8 +1,8 @@
--- `listing::put_owned` meets its contract. Assumes nothing.
+-- `listing::put_owned` meets its contract.
 use borrow.Author.Needs.{needs}
 use native.Mathlib.Omega.{arith}
 use mathlib.Core.Path.{_≡_}
-use Rattle.text.specs.Laws.{no-item}
+use Rattle.text.proofs.Laws.{no-item}
 use Rattle.listing.proofs.put_owned.Statement.{statement}
 use Rattle.listing.proofs.put_owned.Tie as tie
 

@@ -1,4 +1,4 @@
--- `listing::put_piece` meets its contract. Assumes nothing.
+-- `listing::put_piece` meets its contract.
 use native.Mathlib.Omega.{arith}
 use mathlib.Core.Path.{_∙_}
 use Rattle.resource.proofs.Starts.{place-most}

@@ -1,13 +1,14 @@
--- `listing::put_pieces` meets its contract. Assumes nothing.
+-- `listing::put_pieces` meets its contract.
 use native.Mathlib.Omega.{arith}
 use mathlib.Core.Path.{_≡_, refl, sym, ap, _∙_}
 use Prim.Native.Nat.{_+_, _-_, _*_, _≤_}
 use lib.ListN.{length, getD}
 use Rattle.text.specs.Text.{Wrote, upto}
-use Rattle.text.specs.Laws.{no-item, item, kept}
-use Rattle.resource.specs.Starts.{pieceAt}
+use Rattle.text.proofs.Laws.{no-item, item, kept}
+use Rattle.resource.specs.Engine.{pieceAt}
 use Rattle.resource.proofs.Starts.{own-most}
-use Rattle.records.specs.Records.{blank, pieceRecord, listed, listAt}
+use Rattle.records.specs.Records.{blank, pieceRecord, listAt}
+use Rattle.records.specs.Engine.{listed}
 use Rattle.records.proofs.Listing.{list-length, list-at, own-record}
 use Rattle.listed.specs.Listing.{recordLine, ruLines}
 use borrow.Author.Needs.{needs}

@@ -1,4 +1,4 @@
--- `listing::put_position` meets its contract. Assumes nothing.
+-- `listing::put_position` meets its contract.
 use Rattle.records.specs.Records.{listAt}
 use borrow.Author.Needs.{needs}
 use Rattle.listing.proofs.put_position.Statement.{statement}

@@ -1,12 +1,12 @@
--- `listing::put_records` meets its contract. Assumes nothing.
+-- `listing::put_records` meets its contract.
 use native.Mathlib.Omega.{arith}
 use mathlib.Core.Path.{_≡_}
 use Prim.Native.Nat.{_+_, _-_, _*_, _≤_}
 use lib.ListN.{length}
 use Rattle.text.specs.Text.{Wrote}
-use Rattle.text.specs.Laws.{no-item, after, kept}
-use Rattle.plan.specs.Plan.{at as value}
-use Rattle.plan.specs.Guess.{onlyPlan}
+use Rattle.text.proofs.Laws.{no-item, after, kept}
+use Rattle.answer.specs.Lists.{at as value}
+use Rattle.plan.specs.Engine.{onlyPlan}
 use Rattle.records.specs.Records.{listAt, recordsFrom}
 use Rattle.records.proofs.Listing.{next-length, records-most}
 use Rattle.records.proofs.Tables.{kind-in, kind-known}

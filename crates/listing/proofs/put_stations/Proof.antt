@@ -1,8 +1,8 @@
--- `listing::put_stations` meets its contract. Assumes nothing.
+-- `listing::put_stations` meets its contract.
 use borrow.Author.Needs.{needs}
 use Rattle.text.specs.Text.{upto}
-use Rattle.text.specs.Laws.{after}
-use Rattle.listing.specs.Owned.{ownedLine, ownersIn}
+use Rattle.text.proofs.Laws.{after}
+use Rattle.listing.specs.Engine.{ownedLine, ownersIn}
 use Rattle.listing.proofs.Channels.{both-channels}
 use Rattle.listing.proofs.put_stations.Statement.{statement}
 use Rattle.listing.proofs.put_stations.Tie as tie

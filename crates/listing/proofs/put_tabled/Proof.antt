@@ -1,6 +1,6 @@
--- `listing::put_tabled` meets its contract. Assumes nothing.
+-- `listing::put_tabled` meets its contract.
 use native.Mathlib.Omega.{arith}
-use Rattle.text.specs.Laws.{after}
+use Rattle.text.proofs.Laws.{after}
 use Rattle.listed.specs.Listing.{listingOf}
 use Rattle.listing.proofs.Held.{resources-few}
 use borrow.Author.Needs.{needs}

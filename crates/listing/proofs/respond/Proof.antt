@@ -1,4 +1,4 @@
--- `listing::respond` meets its contract. Assumes nothing.
+-- `listing::respond` meets its contract.
 use native.Mathlib.Omega.{arith}
 use mathlib.Core.Path.{sym, _∙_}
 use Rattle.input.proofs.Exact.{few}

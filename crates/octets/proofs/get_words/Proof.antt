@@ -1,6 +1,7 @@
--- `octets::get_words` meets its contract. Assumes nothing.
+-- `octets::get_words` meets its contract.
 use Rattle.octets.specs.Octets.{wordAt}
-use Rattle.answer.specs.Filled.{filled, filled-start, filled-step}
+use Rattle.answer.specs.Lists.{filled}
+use Rattle.answer.proofs.Lists.{filled-start, filled-step}
 use lib.ListN.{length, set, length-set}
 use Prim.Native.Nat.{_+_, _-_, _≤_}
 use mathlib.Core.Path.{_≡_, refl}

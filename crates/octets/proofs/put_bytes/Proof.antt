@@ -1,7 +1,8 @@
--- `octets::put_bytes` meets its contract. Assumes nothing.
+-- `octets::put_bytes` meets its contract.
 use Rattle.octets.proofs.Four.{four}
 use Rattle.octets.specs.Octets.{byteAt}
-use Rattle.answer.specs.Filled.{filled, filled-start}
+use Rattle.answer.specs.Lists.{filled}
+use Rattle.answer.proofs.Lists.{filled-start}
 use lib.ListN.{length, length-set}
 use Prim.Native.Nat.{_*_, _-_, _≤_}
 use mathlib.Core.Path.{_≡_, refl}

@@ -1,4 +1,4 @@
--- `octets::word_in` meets its contract. Assumes nothing.
+-- `octets::word_in` meets its contract.
 use Rattle.octets.specs.Octets.{wordAt}
 use borrow.Author.Needs.{needs}
 use Rattle.octets.proofs.word_in.Statement.{statement}

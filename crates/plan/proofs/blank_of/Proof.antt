@@ -1,4 +1,4 @@
--- `plan::blank_of` meets its contract. Assumes nothing.
+-- `plan::blank_of` meets its contract.
 use Rattle.plan.proofs.Steps.{blank-30, blank-29, blank-28}
 use borrow.Author.Needs.{needs}
 use Rattle.plan.proofs.blank_of.Statement.{statement}

@@ -1,9 +1,9 @@
--- `plan::channel_fields` meets its contract. Assumes nothing.
+-- `plan::channel_fields` meets its contract.
 use Rattle.resource.proofs.Fields.{fields-most as most-fields}
 use lib.ListN.{length}
 use Rattle.plan.proofs.Value.{fields-most, fields-start, fields-next, fields-end}
-use Rattle.plan.specs.Value.{fieldsTo}
-use Rattle.plan.specs.Plan.{at}
+use Rattle.plan.specs.Fields.{fieldsTo}
+use Rattle.answer.specs.Lists.{at}
 use Prim.Native.Nat.{_+_, _-_, _%_, _≤_}
 use mathlib.Core.Path.{_≡_, _∙_}
 use borrow.Author.Needs.{needs}

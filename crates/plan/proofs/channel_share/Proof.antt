@@ -1,4 +1,4 @@
--- `plan::channel_share` meets its contract. Assumes nothing.
+-- `plan::channel_share` meets its contract.
 use Rattle.plan.proofs.Steps.{channel-own, channel-other}
 use mathlib.Core.Path.{_∙_}
 use native.Mathlib.Omega.{arith}

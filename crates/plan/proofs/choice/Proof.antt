@@ -1,4 +1,4 @@
--- `plan::choice` meets its contract. Assumes nothing.
+-- `plan::choice` meets its contract.
 use Rattle.plan.proofs.Steps.{choose-named, choose-told, choose-whole}
 use mathlib.Core.Bool.{true, false}
 use mathlib.Core.Path.{sym, _∙_}

@@ -1,8 +1,8 @@
--- `plan::enter_segment` meets its contract. Assumes nothing.
+-- `plan::enter_segment` meets its contract.
 use Rattle.plan.proofs.Value.{enter-kind}
-use Rattle.plan.specs.Guess.{onlyPlan}
-use Rattle.plan.specs.Plan.{at}
-use Rattle.answer.specs.Filled.{filled, filled-length, filled-step}
+use Rattle.plan.specs.Engine.{onlyPlan}
+use Rattle.answer.specs.Lists.{at, filled}
+use Rattle.answer.proofs.Lists.{filled-length, filled-step}
 use lib.ListN.{length, replicate, length-replicate, set, length-set}
 use Prim.Native.Nat.{ℕ, _-_, _≤_}
 use mathlib.Core.List.{List}

@@ -1,4 +1,4 @@
--- `plan::family_of` meets its contract. Assumes nothing.
+-- `plan::family_of` meets its contract.
 use Rattle.plan.specs.Kinds.{family, kindAt, kinds}
 use Rattle.plan.proofs.Table.{family-past, left-over}
 use mathlib.Core.Path.{sym}

@@ -1,8 +1,8 @@
--- `plan::fields_in` meets its contract. Assumes nothing.
+-- `plan::fields_in` meets its contract.
 use native.Mathlib.Numerals.{add-one}
 use Rattle.plan.specs.Fields.{shares, fieldsIn}
 use Rattle.plan.specs.Kinds.{span}
-use Rattle.plan.specs.Plan.{at}
+use Rattle.answer.specs.Lists.{at}
 use Prim.Native.Nat.{_-_, _*_, _≤_}
 use mathlib.Core.Path.{_≡_, refl, _∙_}
 use native.Mathlib.Omega.{arith}

@@ -1,11 +1,11 @@
--- `plan::first_named` meets its contract. Assumes nothing.
+-- `plan::first_named` meets its contract.
 use mathlib.Core.Path.{_≡_, refl, _∙_}
 use Prim.Native.Nat.{_≤_, _-_}
 use native.Mathlib.Omega.{arith}
 use native.Mathlib.Numerals.{add-one}
 use borrow.Author.Needs.{needs}
-use Rattle.plan.specs.Plan.{at}
-use Rattle.plan.specs.Guess.{firstNamed}
+use Rattle.answer.specs.Lists.{at}
+use Rattle.plan.specs.Engine.{firstNamed}
 use Rattle.plan.proofs.first_named.Statement.{statement}
 use Rattle.plan.proofs.first_named.Tie as tie
 

@@ -1,8 +1,9 @@
--- `plan::first_wrong` meets its contract. Assumes nothing.
+-- `plan::first_wrong` meets its contract.
 use Rattle.plan.proofs.Value.{wrong-at}
 use lib.ListN.{length}
-use Rattle.plan.specs.Guess.{wrongAt, firstWrong}
-use Rattle.answer.specs.Least.{least, least-start, least-step, least-stop, least-end}
+use Rattle.plan.specs.Engine.{wrongAt, firstWrong}
+use Rattle.answer.specs.Least.{least}
+use Rattle.answer.proofs.Least.{least-start, least-step, least-stop, least-end}
 use Prim.Native.Nat.{_-_, _≤_}
 use mathlib.Core.Path.{_≡_, sym, _∙_}
 use borrow.Author.Needs.{needs}

@@ -1,4 +1,4 @@
--- `plan::fits_alone` meets its contract. Assumes nothing.
+-- `plan::fits_alone` meets its contract.
 use Rattle.plan.proofs.Steps.{fitting-alone}
 use borrow.Author.Needs.{needs}
 use Rattle.plan.proofs.fits_alone.Statement.{statement}

@@ -1,4 +1,4 @@
--- `plan::fits_place` meets its contract. Assumes nothing.
+-- `plan::fits_place` meets its contract.
 use borrow.Author.Needs.{needs}
 use Rattle.plan.proofs.fits_place.Statement.{statement}
 use Rattle.plan.proofs.fits_place.Tie as tie

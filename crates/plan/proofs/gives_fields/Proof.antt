@@ -1,4 +1,4 @@
--- `plan::gives_fields` meets its contract. Assumes nothing.
+-- `plan::gives_fields` meets its contract.
 use Rattle.plan.specs.Fields.{gives}
 use borrow.Author.Needs.{needs}
 use Rattle.plan.proofs.gives_fields.Statement.{statement}

@@ -1,4 +1,4 @@
--- `plan::is_right` meets its contract. Assumes nothing.
+-- `plan::is_right` meets its contract.
 use Rattle.plan.proofs.Steps.{and-yes, and-no, place-is, fitting-place, fitting-none, right-alone}
 use mathlib.Core.Path.{sym, _∙_}
 use borrow.Author.Needs.{needs}

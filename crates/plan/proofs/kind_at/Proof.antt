@@ -1,4 +1,4 @@
--- `plan::kind_at` meets its contract. Assumes nothing.
+-- `plan::kind_at` meets its contract.
 use Rattle.plan.proofs.Value.{kind-held}
 use borrow.Author.Needs.{needs}
 use Rattle.plan.proofs.kind_at.Statement.{statement}

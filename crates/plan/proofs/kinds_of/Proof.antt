@@ -1,8 +1,7 @@
--- `plan::kinds_of` meets its contract. Assumes nothing.
-use Rattle.plan.specs.Value.{kindsOf}
-use Rattle.plan.specs.Guess.{onlyPlan}
-use Rattle.plan.specs.Plan.{at}
-use Rattle.answer.specs.Filled.{filled, filled-start}
+-- `plan::kinds_of` meets its contract.
+use Rattle.plan.specs.Engine.{kindsOf, onlyPlan}
+use Rattle.answer.specs.Lists.{at, filled}
+use Rattle.answer.proofs.Lists.{filled-start}
 use lib.ListN.{length, replicate}
 use Prim.Native.Nat.{_-_, _%_, _≤_, _<_}
 use mathlib.Core.Path.{_≡_}

@@ -1,6 +1,6 @@
--- `plan::lies_within` meets its contract. Assumes nothing.
+-- `plan::lies_within` meets its contract.
 use Rattle.plan.proofs.Steps.{one-bit}
-use Rattle.plan.specs.Guess.{within}
+use Rattle.plan.specs.Engine.{within}
 use Prim.Native.Nat.{_-_}
 use native.Mathlib.Omega.{arith}
 use borrow.Author.Needs.{needs}

@@ -1,4 +1,4 @@
--- `plan::mask_of` meets its contract. Assumes nothing.
+-- `plan::mask_of` meets its contract.
 use Rattle.plan.specs.Kinds.{mask, kindAt, kinds}
 use Rattle.plan.proofs.Table.{mask-past, left-over}
 use mathlib.Core.Path.{sym}

@@ -1,5 +1,5 @@
--- `plan::name_of` meets its contract. Assumes nothing.
-use Rattle.plan.specs.Guess.{nameOf}
+-- `plan::name_of` meets its contract.
+use Rattle.plan.specs.Engine.{nameOf}
 use Rattle.plan.specs.Kinds.{family, kindAt, kinds}
 use Prim.Native.Nat.{ℕ, _/_, _≤_, _<_}
 use mathlib.Core.Path.{_≡_, refl, sym, _∙_}

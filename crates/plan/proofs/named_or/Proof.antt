@@ -1,4 +1,4 @@
--- `plan::named_or` meets its contract. Assumes nothing.
+-- `plan::named_or` meets its contract.
 use mathlib.Core.Path.{_∙_}
 use native.Mathlib.Omega.{arith}
 use Rattle.plan.proofs.Steps.{orElse-low, orElse-high}

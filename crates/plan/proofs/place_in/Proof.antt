@@ -1,4 +1,4 @@
--- `plan::place_in` meets its contract. Assumes nothing.
+-- `plan::place_in` meets its contract.
 use Rattle.plan.proofs.Table.{span-high}
 use Rattle.plan.specs.Kinds.{span, kindAt, kinds}
 use borrow.Author.Needs.{needs}

@@ -1,8 +1,8 @@
--- `plan::plan_of` meets its contract. Assumes nothing.
+-- `plan::plan_of` meets its contract.
 use Rattle.plan.proofs.Value.{out-is, plan-is}
-use Rattle.plan.proofs.Laid.{layout-laid}
-use Rattle.plan.specs.Value.{sharedTo}
-use Rattle.plan.specs.Layout.{Laid}
+use Rattle.plan.proofs.Laid.{outcome-laid}
+use Rattle.plan.specs.Engine.{sharedTo}
+use Rattle.plan.specs.Answers.{Laid}
 use mathlib.Core.Path.{sym, _∙_, ap, subst}
 use borrow.Author.Needs.{needs}
 use Rattle.plan.proofs.plan_of.Statement.{statement}
@@ -38,7 +38,7 @@ returns c =
     let s = c .before .before .before .before .before .before .before .sharing in
     let o = out-is row _ _ _ _ _ (c .before .before .before .before .before .before .before .before .before .first-wrong .ensures) (s .ensures .0) (c .before .before .before .before .before .before .refuse-if .ensures) (c .before .before .before .refuse-if2 .ensures) (c .before .before .or-else .ensures) in (
       plan-is row _ _ _ _ _ o (c .before .before .before .before .before .before .before .before .before .before .before .kinds-of .ensures) (s .ensures .1 ∙ ap (sharedTo row) (s .ensures .0)) (c .before .channel-fields .ensures) (c .channel-fields2 .ensures),
-      subst (Laid row) (sym o) (layout-laid row),
+      subst (Laid row) (sym o) (outcome-laid row),
     )
 
 pub plan-of-spec : {M : Type 1} → statement M

@@ -1,4 +1,4 @@
--- `plan::share_of` meets its contract. Assumes nothing.
+-- `plan::share_of` meets its contract.
 use Rattle.plan.proofs.Steps.{share-if, share-not}
 use Rattle.resource.proofs.Fields.{fields-most}
 use mathlib.Core.Path.{sym, _∙_}

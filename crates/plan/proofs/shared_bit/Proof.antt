@@ -1,4 +1,4 @@
--- `plan::shared_bit` meets its contract. Assumes nothing.
+-- `plan::shared_bit` meets its contract.
 use Rattle.plan.proofs.Steps.{one-bit}
 use borrow.Author.Tests.{le-leb, lt-leb}
 use mathlib.Core.Path.{_∙_}

@@ -1,21 +1,15 @@
--- `plan::sharing` meets its contract. Assumes nothing.
-use Rattle.plan.proofs.Value.{bit-most}
-use Prim.Native.Nat.{_^_}
+-- `plan::sharing` meets its contract.
+use Rattle.plan.proofs.Value.{bit-most, over-at, shared-next, shared-lt}
+use Prim.Native.Nat.{_^_, ℕ, _+_, _-_, _≤_, _<_}
 use lib.Pow.{pow-mono}
-use Rattle.plan.proofs.Value.{over-at}
-use Rattle.plan.specs.Guess.{onlyPlan}
+use Rattle.plan.specs.Engine.{onlyPlan, overAt, firstOver, sharedTo}
 use borrow.Author.Tests.{lt-ltb, le-ltb}
-use Prim.Native.Nat.{ℕ, _+_}
-use mathlib.Core.Path.{ap}
+use mathlib.Core.Path.{ap, _≡_, refl, sym, _∙_}
 use lib.ListN.{length}
-use Rattle.plan.proofs.Value.{shared-next, shared-lt}
-use Rattle.plan.specs.Value.{sharedTo}
-use Rattle.plan.specs.Guess.{overAt, firstOver}
 use Rattle.plan.specs.Fields.{total}
-use Rattle.plan.specs.Plan.{at}
-use Rattle.answer.specs.Least.{least, least-start, least-step, least-stop, least-end}
-use Prim.Native.Nat.{_-_, _≤_, _<_}
-use mathlib.Core.Path.{_≡_, refl, sym, _∙_}
+use Rattle.answer.specs.Lists.{at}
+use Rattle.answer.specs.Least.{least}
+use Rattle.answer.proofs.Least.{least-start, least-step, least-stop, least-end}
 use borrow.Author.Needs.{needs}
 use native.Mathlib.Omega.{arith}
 use Rattle.plan.proofs.sharing.Statement.{statement}

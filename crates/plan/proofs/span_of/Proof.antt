@@ -1,4 +1,4 @@
--- `plan::span_of` meets its contract. Assumes nothing.
+-- `plan::span_of` meets its contract.
 use Rattle.plan.specs.Kinds.{span, kindAt, kinds}
 use Rattle.plan.proofs.Table.{span-high}
 use mathlib.Core.Path.{sym}

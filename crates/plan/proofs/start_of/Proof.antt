@@ -1,4 +1,4 @@
--- `plan::start_of` meets its contract. Assumes nothing.
+-- `plan::start_of` meets its contract.
 use Rattle.plan.specs.Kinds.{span, kindAt, kinds}
 use Rattle.plan.proofs.Table.{span-high}
 use Prim.Native.Nat.{ℕ, _*_, _/_}

@@ -1,4 +1,4 @@
--- `plan::takes_place` meets its contract. Assumes nothing.
+-- `plan::takes_place` meets its contract.
 use mathlib.Core.Path.{ap}
 use Prim.Native.Nat.{ℕ, _/_, _%_, _^_}
 use lib.Dec.{eqb}

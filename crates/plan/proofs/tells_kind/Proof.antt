@@ -1,4 +1,4 @@
--- `plan::tells_kind` meets its contract. Assumes nothing.
+-- `plan::tells_kind` meets its contract.
 use Rattle.plan.proofs.Steps.{tells-own, tells-blank}
 use mathlib.Core.Path.{sym, _∙_}
 use borrow.Author.Needs.{needs}

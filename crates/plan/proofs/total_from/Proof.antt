@@ -1,4 +1,4 @@
--- `plan::total_from` meets its contract. Assumes nothing.
+-- `plan::total_from` meets its contract.
 use Rattle.plan.proofs.Laid.{and-left, and-right}
 use Rattle.plan.proofs.Steps.{total-alone, total-reused}
 use Rattle.plan.specs.Fields.{share}

@@ -1,8 +1,8 @@
--- `plan::total_of` meets its contract. Assumes nothing.
+-- `plan::total_of` meets its contract.
 use Rattle.plan.proofs.Steps.{shares-next}
 use Rattle.plan.specs.Fields.{shares, fieldsIn}
 use Rattle.plan.specs.Kinds.{span}
-use Rattle.plan.specs.Plan.{at}
+use Rattle.answer.specs.Lists.{at}
 use Prim.Native.Nat.{_+_, _-_, _*_, _≤_}
 use mathlib.Core.Path.{_≡_, refl, _∙_}
 use native.Mathlib.Omega.{arith}

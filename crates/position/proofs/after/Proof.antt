@@ -1,6 +1,6 @@
 -- `position::after` meets its contract: a walk of its MIR, by hand. A struct is made anew of the slice that the one passed holds, and the number that the common field passed has last.
 -- The struct is Copy: what it owns is had twice, one copy is kept whole for the exit, and the other, with that number's facts in the place of `bit`'s, is what the result owns.
--- Assumes nothing.
+--
 use mathlib.Core.Path.{refl}
 use Prim.Native.Nat.{_<_, _^_}
 use mathlib.Core.List.{[], _∷_}

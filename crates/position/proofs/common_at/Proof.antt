@@ -1,17 +1,19 @@
--- `position::common_at` meets its contract. Assumes nothing.
+-- `position::common_at` meets its contract.
 use Prim.Native.Nat.{ℕ, _+_, _-_, _*_, _≤_}
 use mathlib.Core.Path.{_≡_, refl, sym, _∙_, ap}
 use mathlib.Core.List.{List}
 use lib.ListN.{replicate, set}
 use native.Mathlib.Omega.{arith}
-use Rattle.answer.specs.Filled.{filled, filled-start, filled-step}
+use Rattle.answer.specs.Lists.{filled}
+use Rattle.answer.proofs.Lists.{filled-start, filled-step}
 use Rattle.bits.specs.Bits.{field}
 use Rattle.resource.specs.Values.{fieldsOf}
 use Rattle.resource.proofs.Fields.{fields-most}
 use Rattle.channel.specs.Layout.{subfields, common, valueAt, total}
-use Rattle.channel.specs.Laws.{total-next}
+use Rattle.channel.proofs.Laws.{total-next}
 use Rattle.position.specs.Walk.{valueFrom, commonAt}
-use Rattle.position.specs.Steps.{pastCheck, reached, reached-none, reached-le, value-reached, reached-next, reached-all}
+use Rattle.position.specs.Engine.{pastCheck}
+use Rattle.position.proofs.Steps.{reached, reached-none, reached-le, value-reached, reached-next, reached-all}
 use Rattle.position.proofs.Whole.{subfields-1}
 use borrow.Author.Needs.{needs}
 use Rattle.position.proofs.common_at.Statement.{statement}

@@ -1,6 +1,6 @@
 -- `position::left` meets its contract: a walk of its MIR, by hand. The struct is taken apart, and `left_at` is called on the slice and the number. All that the proof knows of `left_at` is that it meets its contract.
 -- The struct is Copy: what it owns is had twice, one copy is kept whole for the exit, and of the other what `channel` owns goes to the callee, beside the lifetime's token, which comes back.
--- Assumes nothing.
+--
 use mathlib.Core.Path.{_≡_, refl}
 use Prim.Native.Nat.{ℕ, _*_, _<_, _^_}
 use mathlib.Core.List.{[], _∷_}

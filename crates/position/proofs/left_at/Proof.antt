@@ -1,4 +1,4 @@
--- `position::left_at` meets its contract. Assumes nothing.
+-- `position::left_at` meets its contract.
 use native.Mathlib.Omega.{arith}
 use Rattle.position.specs.Walk.{leftAt}
 use borrow.Author.Needs.{needs}

@@ -1,6 +1,6 @@
--- `position::past_check` meets its contract. Assumes nothing.
+-- `position::past_check` meets its contract.
 use borrow.Author.Tests.{eq-eqb, ne-eqb}
-use Rattle.position.specs.Steps.{pastCheck}
+use Rattle.position.specs.Engine.{pastCheck}
 use borrow.Author.Needs.{needs}
 use Rattle.position.proofs.past_check.Statement.{statement}
 use Rattle.position.proofs.past_check.Tie as tie

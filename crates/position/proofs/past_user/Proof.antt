@@ -1,6 +1,6 @@
--- `position::past_user` meets its contract. Assumes nothing.
+-- `position::past_user` meets its contract.
 use borrow.Author.Tests.{eq-eqb, ne-eqb}
-use Rattle.position.specs.Steps.{pastUser}
+use Rattle.position.specs.Engine.{pastUser}
 use borrow.Author.Needs.{needs}
 use Rattle.position.proofs.past_user.Statement.{statement}
 use Rattle.position.proofs.past_user.Tie as tie

@@ -1,4 +1,4 @@
--- `position::read_at` meets its contract. Assumes nothing.
+-- `position::read_at` meets its contract.
 use mathlib.Core.Path.{sym, _∙_}
 use borrow.Author.Tests.{eq-eqb, ne-eqb}
 use Rattle.bits.specs.Bits.{lacks}

@@ -1,6 +1,6 @@
 -- `position::start` meets its contract: a walk of its MIR, by hand. A `Position` is made of the slice passed and 0, in the result's local.
 -- A `&[u8]` is Copy, so what it owns is had twice: once for the slice at exit, and once inside the result, beside the facts of `bit`.
--- Assumes nothing.
+--
 use mathlib.Core.Path.{refl}
 use Prim.Native.Nat.{ℕ}
 use mathlib.Core.List.{List, [], _∷_}

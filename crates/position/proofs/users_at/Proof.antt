@@ -1,13 +1,15 @@
--- `position::users_at` meets its contract. Assumes nothing.
+-- `position::users_at` meets its contract.
 use Prim.Native.Nat.{ℕ, _+_, _-_, _*_, _/_, _%_, _≤_, _<_}
 use mathlib.Core.Path.{_≡_, _∙_, ap}
 use mathlib.Core.List.{List}
 use lib.ListN.{replicate, set}
 use native.Mathlib.Omega.{arith}
-use Rattle.answer.specs.Filled.{filled, filled-start, filled-step}
+use Rattle.answer.specs.Lists.{filled}
+use Rattle.answer.proofs.Lists.{filled-start, filled-step}
 use Rattle.bits.specs.Bits.{field}
 use Rattle.position.specs.Walk.{userFrom, endFrom, usersAt}
-use Rattle.position.specs.Steps.{pastUser, stands, stands-first, stands-user, stands-next, stands-last, stands-le}
+use Rattle.position.specs.Engine.{pastUser}
+use Rattle.position.proofs.Steps.{stands, stands-first, stands-user, stands-next, stands-last, stands-le}
 use borrow.Author.Needs.{needs}
 use Rattle.position.proofs.users_at.Statement.{statement}
 use Rattle.position.proofs.users_at.Tie as tie

@@ -1,6 +1,6 @@
--- `position::value_from` meets its contract. Assumes nothing.
+-- `position::value_from` meets its contract.
 use native.Mathlib.Omega.{arith}
-use Rattle.bits.specs.Fields.{field-lt}
+use Rattle.bits.proofs.Fields.{field-lt}
 use borrow.Author.Needs.{needs}
 use Rattle.position.proofs.value_from.Statement.{statement}
 use Rattle.position.proofs.value_from.Tie as tie

@@ -1,4 +1,4 @@
--- `position::walk` meets its contract. Assumes nothing.
+-- `position::walk` meets its contract.
 use mathlib.Core.Path.{_∙_, ap}
 use Rattle.position.specs.declared.CommonField.{CommonField}
 use Rattle.position.specs.Walk.{blocksAt}

@@ -1,7 +1,7 @@
 -- `position::walk_through` meets its contract: a walk of its MIR, by hand. The position that `start` returns is held in a local; `common` reads at it, `after` moves it on, and `blocks` reads where it then stands.
 -- All that the proof knows of the four is that each meets its contract. The position and the common field are Copy: what each owns is had twice, for the two calls that take it.
 -- In a local of a body MIR erases the lifetime of the position's type, so the value is shown to have the type at `erased`: what it owns does not say the lifetime's name.
--- Assumes nothing.
+--
 use mathlib.Core.Path.{_≡_, refl, ap, _∙_}
 use Prim.Native.Nat.{ℕ, _≤_, _<_, _^_}
 use mathlib.Core.List.{List, [], _∷_}

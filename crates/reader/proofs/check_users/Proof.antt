@@ -1,8 +1,8 @@
--- `reader::check_users` meets its contract. Assumes nothing.
+-- `reader::check_users` meets its contract.
 use mathlib.Core.Path.{_∙_}
-use Rattle.answer.specs.Order.{pass-or}
-use Rattle.table.specs.Stages.{userChecks}
-use Rattle.frame.specs.Counted.{counted}
+use Rattle.answer.proofs.Order.{pass-or}
+use Rattle.halves.specs.Engine.{outcome9to11}
+use Rattle.frame.proofs.Counted.{counted}
 use Rattle.reader.specs.Table.{check12}
 use borrow.Author.Needs.{needs}
 use Rattle.reader.proofs.check_users.Statement.{statement}
@@ -26,7 +26,7 @@ returns c =
     let a = c .before .before .before .before .args in
     let p = c .before .before .before .before .pre in
     let need = counted (a .bw) (a .a .now) (a .b .now) _ _ (p .4) (p .5) in
-    c .then-room .ensures ∙ rw (c .before .then-users .ensures, pass-or (userChecks (a .bw) (a .a .now) (a .b .now)), need)
+    c .then-room .ensures ∙ rw (c .before .then-users .ensures, pass-or (outcome9to11 (a .bw) (a .a .now) (a .b .now)), need)
 
 pub check-users-spec : {M : Type 1} → statement M
 check-users-spec =

@@ -1,4 +1,4 @@
--- `reader::read` meets its contract: none of its channels is known to be sealed. Assumes nothing.
+-- `reader::read` meets its contract: none of its channels is known to be sealed.
 use mathlib.Core.Bool.{false≢true}
 use borrow.Author.Needs.{needs}
 use Rattle.reader.proofs.read.Statement.{statement}

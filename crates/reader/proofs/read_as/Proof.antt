@@ -1,15 +1,15 @@
--- `reader::read_as` meets its contract. Assumes nothing.
+-- `reader::read_as` meets its contract.
 use mathlib.Core.Path.{_≡_, sym, _∙_, ap}
 use native.Mathlib.Omega.{arith}
 use lib.ListN.{length}
-use Rattle.channel.specs.Laws.{row-length}
-use Rattle.table.specs.Stages.{common-pass}
-use Rattle.table.proofs.Rows.{front, sixteen}
-use Rattle.table.proofs.Half.{planned-made}
+use Rattle.channel.proofs.Laws.{row-length}
+use Rattle.halves.proofs.Stages.{common-pass}
+use Rattle.halves.proofs.Rows.{front, sixteen}
+use Rattle.halves.proofs.Half.{planned-made}
 use Rattle.frame.specs.Words.{wordsOf}
-use Rattle.frame.specs.Counted.{counted}
+use Rattle.frame.proofs.Counted.{counted}
 use Rattle.reader.specs.Result.{answerOf, wordsAfter}
-use Rattle.reader.specs.Stages.{reading-pass}
+use Rattle.reader.proofs.Stages.{reading-pass}
 use Rattle.reader.proofs.Halves.{first-refuses, second-says, formats}
 use borrow.Author.Needs.{needs}
 use Rattle.reader.proofs.read_as.Statement.{statement}
@@ -38,15 +38,15 @@ check-users-requires c κs =
     let m = planned-made (s .bandwidth) (s .cc1 .now) (s .cc2 .now) _ q (c .enum-told .given .1) in
     (c .before .before .before .before .before .before .pre, common-pass (s .bandwidth) (s .cc1 .now) (s .cc2 .now) (m .common) .short, m .most1, m .most2, m .count1, m .count2)
 
-enum-known-out : tie.Need-enum-known-out
-enum-known-out c = search needs
+enum-known-outcome : tie.Need-enum-known-outcome
+enum-known-outcome c = search needs
 
 returns-2 : tie.Need-returns-2
 unfolding answerOf wordsAfter
 returns-2 c =
     let s = c .before .before .before .before .before .before .before .before .before .before .args in
     let q = c .before .before .before .before .before .before .plan-frame .ensures in
-    let e = second-says (s .bandwidth) (s .cc1 .now) (s .cc2 .now) (length (s .words .now)) q _ _ (c .before .before .before .before .enum-told .given .1) (c .before .before .before .check-users .ensures) (c .before .out .given .1) in
+    let e = second-says (s .bandwidth) (s .cc1 .now) (s .cc2 .now) (length (s .words .now)) q _ _ (c .before .before .before .before .enum-told .given .1) (c .before .before .before .check-users .ensures) (c .before .outcome .given .1) in
     (rw e, rw e)
 
 enum-told-2 : tie.Need-enum-told-2
@@ -122,7 +122,7 @@ read-as-spec =
     returns
     enum-told
     check-users-requires
-    enum-known-out
+    enum-known-outcome
     returns-2
     enum-told-2
     positions-of-requires

@@ -1,4 +1,4 @@
--- `reader::then_room` meets its contract. Assumes nothing.
+-- `reader::then_room` meets its contract.
 use Rattle.reader.specs.Table.{noRoom}
 use mathlib.Core.Path.{_∙_}
 use borrow.Author.Needs.{needs}

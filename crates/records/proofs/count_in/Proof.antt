@@ -1,4 +1,4 @@
--- `records::count_in` meets its contract. Assumes nothing.
+-- `records::count_in` meets its contract.
 use Rattle.records.proofs.Tables.{number-at}
 use lib.ListN.{length, getD}
 use mathlib.Core.List.{List}

@@ -1,12 +1,11 @@
--- `records::enter_owners` meets its contract. Assumes nothing.
+-- `records::enter_owners` meets its contract.
 use Rattle.records.proofs.Entering.{one-most, only-below, owner-next, owner-most, enter, few-here}
 use Rattle.records.proofs.Owners.{before-next}
 use Rattle.records.specs.Records.{inChannel}
-use Rattle.records.specs.Owns.{ownerAt, ownerOf}
+use Rattle.records.specs.Engine.{ownerAt, ownerOf}
 use Rattle.resource.specs.Values.{fieldsOf, divides}
-use Rattle.answer.specs.Filled.{filled}
-use Rattle.plan.specs.Guess.{onlyPlan}
-use Rattle.plan.specs.Plan.{at}
+use Rattle.answer.specs.Lists.{filled, at}
+use Rattle.plan.specs.Engine.{onlyPlan}
 use lib.ListN.{length, replicate, length-replicate}
 use mathlib.Core.Bool.{Bool, cond}
 use mathlib.Core.List.{List}

@@ -1,9 +1,9 @@
--- `records::first_owner` meets its contract. Assumes nothing.
+-- `records::first_owner` meets its contract.
 use Rattle.records.proofs.Entering.{only-below}
 use Rattle.records.proofs.Tables.{kind-in, kind-known, number-at}
-use Rattle.records.specs.Owns.{lowest, ownerAt}
-use Rattle.plan.specs.Guess.{onlyPlan}
-use Rattle.plan.specs.Plan.{at}
+use Rattle.records.specs.Engine.{lowest, ownerAt}
+use Rattle.plan.specs.Engine.{onlyPlan}
+use Rattle.answer.specs.Lists.{at}
 use lib.ListN.{getD}
 use mathlib.Core.List.{List}
 use mathlib.Core.Path.{_≡_, ap, _∙_}

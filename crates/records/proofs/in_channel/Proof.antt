@@ -1,4 +1,4 @@
--- `records::in_channel` meets its contract. Assumes nothing.
+-- `records::in_channel` meets its contract.
 use borrow.Author.Tests.{ne-eqb, eq-eqb}
 use Rattle.records.proofs.in_channel.Statement.{statement}
 use Rattle.records.proofs.in_channel.Tie as tie

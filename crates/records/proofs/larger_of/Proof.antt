@@ -1,4 +1,4 @@
--- `records::larger_of` meets its contract. Assumes nothing.
+-- `records::larger_of` meets its contract.
 use Rattle.records.specs.Records.{resourceColumn, larger}
 use Rattle.records.proofs.Larger.{larger-high}
 use Rattle.resource.specs.Index.{resourceAt, indexOf}

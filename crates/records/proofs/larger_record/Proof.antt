@@ -1,4 +1,4 @@
--- `records::larger_record` meets its contract. Assumes nothing.
+-- `records::larger_record` meets its contract.
 use borrow.Author.Needs.{needs}
 use Rattle.records.proofs.larger_record.Statement.{statement}
 use Rattle.records.proofs.larger_record.Tie as tie

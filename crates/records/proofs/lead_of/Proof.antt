@@ -1,4 +1,4 @@
--- `records::lead_of` meets its contract. Assumes nothing.
+-- `records::lead_of` meets its contract.
 use Rattle.records.proofs.Lead.{lead-bit}
 use native.Mathlib.Omega.{arith}
 use borrow.Author.Needs.{needs}

@@ -1,7 +1,7 @@
--- `records::listed_of` meets its contract. Assumes nothing.
+-- `records::listed_of` meets its contract.
 use Rattle.records.proofs.Lead.{lowest-here}
 use Rattle.records.proofs.Listing.{listed-most}
-use Rattle.records.specs.Records.{listed}
+use Rattle.records.specs.Engine.{listed}
 use Prim.Native.Nat.{ℕ, _≤_}
 use mathlib.Core.Bool.{cond}
 use mathlib.Core.Path.{_≡_, ap, _∙_}

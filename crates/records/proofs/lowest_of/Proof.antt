@@ -1,5 +1,5 @@
--- `records::lowest_of` meets its contract. Assumes nothing.
-use Rattle.records.specs.Owns.{lowest}
+-- `records::lowest_of` meets its contract.
+use Rattle.records.specs.Engine.{lowest}
 use native.Mathlib.Omega.{arith}
 use borrow.Author.Needs.{needs}
 use Rattle.records.proofs.lowest_of.Statement.{statement}

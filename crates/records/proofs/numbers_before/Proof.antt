@@ -1,11 +1,11 @@
--- `records::numbers_before` meets its contract. Assumes nothing.
+-- `records::numbers_before` meets its contract.
 use Rattle.records.proofs.Tables.{kind-in, kind-known}
 use Rattle.records.proofs.Listing.{next-length, records-most, here-is}
 use Rattle.records.specs.Records.{listAt, recordsFrom}
-use Rattle.records.specs.Tables.{numbersOf}
-use Rattle.answer.specs.Filled.{filled, filled-start, filled-step}
-use Rattle.plan.specs.Guess.{onlyPlan}
-use Rattle.plan.specs.Plan.{at}
+use Rattle.records.specs.Engine.{numbersOf}
+use Rattle.answer.specs.Lists.{filled, at}
+use Rattle.answer.proofs.Lists.{filled-start, filled-step}
+use Rattle.plan.specs.Engine.{onlyPlan}
 use lib.ListN.{length, replicate, length-replicate, set, length-set}
 use mathlib.Core.List.{List}
 use Prim.Native.Nat.{ℕ, _+_, _-_, _≤_}

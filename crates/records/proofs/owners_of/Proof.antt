@@ -1,9 +1,10 @@
--- `records::owners_of` meets its contract. Assumes nothing.
+-- `records::owners_of` meets its contract.
 use Rattle.records.proofs.Entering.{few-fields, entered}
-use Rattle.records.specs.Owns.{fieldsBefore, ownerOf}
-use Rattle.answer.specs.Filled.{filled, filled-start}
-use Rattle.plan.specs.Guess.{onlyPlan}
-use Rattle.plan.specs.Plan.{at}
+use Rattle.records.specs.Owns.{fieldsBefore}
+use Rattle.records.specs.Engine.{ownerOf}
+use Rattle.answer.specs.Lists.{filled, at}
+use Rattle.answer.proofs.Lists.{filled-start}
+use Rattle.plan.specs.Engine.{onlyPlan}
 use lib.ListN.{length, replicate}
 use mathlib.Core.Path.{_≡_, refl}
 use Prim.Native.Nat.{_-_, _≤_}

@@ -1,4 +1,4 @@
--- `records::piece_record` meets its contract. Assumes nothing.
+-- `records::piece_record` meets its contract.
 use borrow.Author.Needs.{needs}
 use Rattle.records.proofs.piece_record.Statement.{statement}
 use Rattle.records.proofs.piece_record.Tie as tie

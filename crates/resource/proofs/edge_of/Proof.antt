@@ -1,4 +1,4 @@
--- `resource::edge_of` meets its contract. Assumes nothing.
+-- `resource::edge_of` meets its contract.
 use borrow.Author.Tests.{ne-eqb}
 use native.Mathlib.Omega.{arith}
 use borrow.Author.Needs.{needs}

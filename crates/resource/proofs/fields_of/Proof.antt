@@ -1,4 +1,4 @@
--- `resource::fields_of` meets its contract: each arm's keys give as many fields as it says, and what is left gives none. Assumes nothing.
+-- `resource::fields_of` meets its contract: each arm's keys give as many fields as it says, and what is left gives none.
 use mathlib.Core.Path.{_≡_}
 use mathlib.Core.Logic.{⊎-elim}
 use mathlib.Core.Bool.{Bool}

@@ -1,4 +1,4 @@
--- `resource::index_of` meets its contract. Assumes nothing.
+-- `resource::index_of` meets its contract.
 use Rattle.resource.specs.Index.{indexOf}
 use borrow.Author.Tests.{lt-ltb, le-ltb}
 use borrow.Author.Needs.{needs}

@@ -1,4 +1,4 @@
--- `resource::is_carried` meets its contract: every range of the `match` has one answer. Assumes nothing.
+-- `resource::is_carried` meets its contract: every range of the `match` has one answer.
 use mathlib.Core.Path.{_≡_, sym}
 use mathlib.Core.Logic.{inl, inr, ⊎-elim}
 use mathlib.Core.Bool.{true, false}

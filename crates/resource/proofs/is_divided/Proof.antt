@@ -1,4 +1,4 @@
--- `resource::is_divided` meets its contract. Assumes nothing.
+-- `resource::is_divided` meets its contract.
 use Rattle.resource.proofs.Apart.{not-divided}
 use Rattle.resource.proofs.Test.{below-or, every-below, every-between, Missed, key-or, no-key}
 use Rattle.resource.specs.Values.{divides}

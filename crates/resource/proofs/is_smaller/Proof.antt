@@ -1,4 +1,4 @@
--- `resource::is_smaller` meets its contract. Assumes nothing.
+-- `resource::is_smaller` meets its contract.
 use mathlib.Core.Path.{_≡_, refl}
 use mathlib.Core.Bool.{Bool, true, false, not, _||_}
 use Prim.Native.Nat.{ℕ, _≤_, _<_}

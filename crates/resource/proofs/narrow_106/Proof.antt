@@ -1,4 +1,4 @@
--- `resource::narrow_106` meets its contract. Assumes nothing.
+-- `resource::narrow_106` meets its contract.
 use Rattle.resource.proofs.Test.{none-listed}
 use Rattle.resource.specs.Runs.{narrow106}
 use native.Mathlib.Omega.{arith}

@@ -1,4 +1,4 @@
--- `resource::narrow_joined` meets its contract. Assumes nothing.
+-- `resource::narrow_joined` meets its contract.
 use borrow.Author.Tests.{ne-eqb}
 use Rattle.resource.specs.Runs.{narrowWith26}
 use mathlib.Core.Path.{_∙_}

@@ -1,4 +1,4 @@
--- `resource::narrow_tones` meets its contract. Assumes nothing.
+-- `resource::narrow_tones` meets its contract.
 use borrow.Author.Tests.{ne-eqb}
 use Rattle.resource.specs.Runs.{narrow}
 use mathlib.Core.Path.{_∙_}

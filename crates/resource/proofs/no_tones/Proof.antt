@@ -1,4 +1,4 @@
--- `resource::no_tones` meets its contract. Assumes nothing.
+-- `resource::no_tones` meets its contract.
 use Rattle.resource.specs.Runs.{held}
 use borrow.Author.Needs.{needs}
 use Rattle.resource.proofs.no_tones.Statement.{statement}

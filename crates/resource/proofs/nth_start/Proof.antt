@@ -1,10 +1,10 @@
--- `resource::nth_start` meets its contract. The invariant: what is left to seek gives the same place. Assumes nothing.
+-- `resource::nth_start` meets its contract. The invariant: what is left to seek gives the same place.
 use mathlib.Core.Path.{_≡_, refl, sym, _∙_}
 use mathlib.Core.Logic.{⊎-elim}
 use Prim.Native.Nat.{_-_, _≤_}
 use native.Mathlib.Omega.{arith}
 use borrow.Author.Needs.{needs}
-use Rattle.resource.specs.Starts.{nthFrom}
+use Rattle.resource.specs.Engine.{nthFrom}
 use Rattle.resource.proofs.Starts.{found, passed, skipped, ended}
 use Rattle.resource.proofs.nth_start.Statement.{statement}
 use Rattle.resource.proofs.nth_start.Tie as tie

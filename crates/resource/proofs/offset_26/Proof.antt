@@ -1,4 +1,4 @@
--- `resource::offset_26` meets its contract. Assumes nothing.
+-- `resource::offset_26` meets its contract.
 use Rattle.resource.proofs.Test.{none-listed}
 use Rattle.resource.specs.Runs.{offset26}
 use native.Mathlib.Omega.{arith}

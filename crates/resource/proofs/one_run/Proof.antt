@@ -1,4 +1,4 @@
--- `resource::one_run` meets its contract. Assumes nothing.
+-- `resource::one_run` meets its contract.
 use Rattle.resource.specs.Runs.{held}
 use borrow.Author.Needs.{needs}
 use Rattle.resource.proofs.one_run.Statement.{statement}

@@ -1,4 +1,4 @@
--- `resource::piece_at` meets its contract. Assumes nothing.
+-- `resource::piece_at` meets its contract.
 use Rattle.resource.proofs.Starts.{found-right}
 use mathlib.Core.Path.{_∙_}
 use borrow.Author.Needs.{needs}

@@ -1,4 +1,4 @@
--- `resource::piece_fields` meets its contract. Assumes nothing.
+-- `resource::piece_fields` meets its contract.
 use Rattle.resource.specs.Values.{pieceFields}
 use mathlib.Core.Path.{_∙_}
 use borrow.Author.Needs.{needs}

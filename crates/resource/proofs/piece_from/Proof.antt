@@ -1,8 +1,8 @@
--- `resource::piece_from` meets its contract. Assumes nothing.
+-- `resource::piece_from` meets its contract.
 use Rattle.resource.proofs.Test.{below-or}
 use Rattle.resource.specs.declared.Piece.the-variants.{Part}
 use Rattle.resource.specs.declared.Size.the-variants.{S52, S242}
-use Rattle.resource.specs.Starts.{pieceFrom}
+use Rattle.resource.specs.Engine.{pieceFrom}
 use native.Mathlib.Omega.{arith}
 use Prim.Native.Nat.{ℕ, suc, _+_, _-_, _/_, _≤_, _<_}
 use mathlib.Core.Logic.{⊎-elim}

@@ -1,4 +1,4 @@
--- `resource::piece_tones` meets its contract. Assumes nothing.
+-- `resource::piece_tones` meets its contract.
 use borrow.Author.Needs.{needs}
 use mathlib.Core.Path.{sym, ap, _∙_}
 use Rattle.resource.specs.Runs.{held}

@@ -1,4 +1,4 @@
--- `resource::pieces_of` meets its contract. Assumes nothing.
+-- `resource::pieces_of` meets its contract.
 use Rattle.resource.proofs.Starts.{own-fields, own-whole}
 use Rattle.resource.proofs.Apart.{no-pieces}
 use Rattle.resource.specs.Values.{ownPieces, pieces}

@@ -1,4 +1,4 @@
--- `resource::places_tones` meets its contract. Assumes nothing.
+-- `resource::places_tones` meets its contract.
 use borrow.Author.Needs.{needs}
 use native.Mathlib.Omega.{arith}
 use mathlib.Core.Path.{_≡_, _∙_}

@@ -1,4 +1,4 @@
--- `resource::resource_at` meets its contract. Assumes nothing.
+-- `resource::resource_at` meets its contract.
 use Rattle.resource.specs.Index.{resourceAt}
 use native.Mathlib.Omega.{arith}
 use borrow.Author.Needs.{needs}

@@ -1,4 +1,4 @@
--- `resource::run_242` meets its contract. Assumes nothing.
+-- `resource::run_242` meets its contract.
 use mathlib.Core.Path.{_∙_}
 use borrow.Author.Needs.{needs}
 use Rattle.resource.proofs.run_242.Statement.{statement}

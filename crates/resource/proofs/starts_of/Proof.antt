@@ -1,7 +1,7 @@
--- `resource::starts_of` meets its contract: each arm is computed at all of its values. Assumes nothing.
+-- `resource::starts_of` meets its contract: each arm is computed at all of its values.
 use Rattle.resource.proofs.Starts.{starts-high}
 use Rattle.resource.proofs.Test.{every-between, Missed, key-or, no-key}
-use Rattle.resource.specs.Starts.{starts}
+use Rattle.resource.specs.Engine.{starts}
 use Rattle.resource.specs.Values.{ownPieces, pieces}
 use lib.Dec.{eqb, eqb→eq}
 use native.Mathlib.Omega.{arith}

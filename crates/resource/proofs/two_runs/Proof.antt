@@ -1,4 +1,4 @@
--- `resource::two_runs` meets its contract. Assumes nothing.
+-- `resource::two_runs` meets its contract.
 use Rattle.resource.specs.Runs.{held}
 use borrow.Author.Needs.{needs}
 use Rattle.resource.proofs.two_runs.Statement.{statement}

@@ -1,4 +1,4 @@
--- `resource::wide_joined` meets its contract. Assumes nothing.
+-- `resource::wide_joined` meets its contract.
 use borrow.Author.Tests.{ne-eqb}
 use Rattle.resource.specs.Runs.{wideWith26}
 use mathlib.Core.Path.{_∙_}

@@ -1,4 +1,4 @@
--- `resource::wide_tones` meets its contract. Assumes nothing.
+-- `resource::wide_tones` meets its contract.
 use Rattle.resource.specs.Runs.{wide}
 use Rattle.resource.proofs.Places.{own-place}
 use mathlib.Core.Path.{_∙_}

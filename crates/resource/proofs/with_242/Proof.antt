@@ -1,4 +1,4 @@
--- `resource::with_242` meets its contract. Assumes nothing.
+-- `resource::with_242` meets its contract.
 use borrow.Author.Needs.{needs}
 use native.Mathlib.Omega.{arith}
 use mathlib.Core.Path.{refl}

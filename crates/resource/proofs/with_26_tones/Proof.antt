@@ -1,4 +1,4 @@
--- `resource::with_26_tones` meets its contract. Assumes nothing.
+-- `resource::with_26_tones` meets its contract.
 use borrow.Author.Tests.{ne-eqb}
 use mathlib.Core.Path.{_∙_}
 use borrow.Author.Needs.{needs}

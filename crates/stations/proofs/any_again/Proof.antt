@@ -1,10 +1,10 @@
--- `stations::any_again` meets its contract. Assumes nothing.
+-- `stations::any_again` meets its contract.
 use borrow.Author.Needs.{needs}
 use Prim.Native.Nat.{_-_, _≤_}
 use mathlib.Core.Path.{_≡_, refl, _∙_, ap}
 use native.Mathlib.Omega.{arith}
 use lib.ListN.{length, length-set}
-use Rattle.stations.specs.Gathered.{stationIn, anyRepeated}
+use Rattle.stations.specs.Engine.{stationIn, anyRepeated}
 use Rattle.stations.proofs.Gathered.{station-lt, Marked, marked-none, marked-more, again-none, again-more, seen}
 use Rattle.stations.proofs.any_again.Statement.{statement}
 use Rattle.stations.proofs.any_again.Tie as tie

@@ -1,7 +1,7 @@
--- `stations::enter_stations` meets its contract. Assumes nothing.
-use Rattle.bits.specs.Fields.{field-lt}
+-- `stations::enter_stations` meets its contract.
+use Rattle.bits.proofs.Fields.{field-lt}
 use Rattle.stations.proofs.Gathered.{entered-none, entered-more}
-use Rattle.stations.specs.Kept.{Entered}
+use Rattle.stations.specs.Engine.{Entered}
 use Rattle.stations.specs.Stations.{stationAt}
 use Prim.Native.Nat.{_-_, _≤_}
 use mathlib.Core.Path.{_≡_}

@@ -1,8 +1,9 @@
--- `stations::first_again` meets its contract. Assumes nothing.
+-- `stations::first_again` meets its contract.
 use Rattle.stations.proofs.Gathered.{station-lt, Marked, marked-none, marked-more, seen}
-use Rattle.stations.specs.Gathered.{stationIn}
+use Rattle.stations.specs.Engine.{stationIn}
 use Rattle.stations.specs.Stations.{repeated}
-use Rattle.answer.specs.Least.{least, least-start, least-step, least-stop, least-end}
+use Rattle.answer.specs.Least.{least}
+use Rattle.answer.proofs.Least.{least-start, least-step, least-stop, least-end}
 use lib.ListN.{length, length-set}
 use Prim.Native.Nat.{_-_, _≤_}
 use mathlib.Core.Path.{_≡_, refl, sym, _∙_}

@@ -1,6 +1,6 @@
--- `stations::first_repeated` meets its contract. Assumes nothing.
+-- `stations::first_repeated` meets its contract.
 use Rattle.stations.proofs.Gathered.{none-again, repeat-in, station-low}
-use Rattle.stations.specs.Kept.{repeat-none}
+use Rattle.stations.proofs.Kept.{repeat-none}
 use Rattle.stations.specs.Stations.{stationOf, firstRepeated}
 use borrow.Author.Tests.{not-true}
 use Prim.Native.Nat.{_+_}

@@ -1,4 +1,4 @@
--- `stations::station_place` meets its contract. Assumes nothing.
+-- `stations::station_place` meets its contract.
 use borrow.Author.Tests.{lt-ltb, le-ltb}
 use borrow.Author.Needs.{needs}
 use Rattle.stations.proofs.station_place.Statement.{statement}

@@ -1,4 +1,4 @@
--- `stations::station_twice` meets its contract. Assumes nothing.
+-- `stations::station_twice` meets its contract.
 use mathlib.Core.Path.{_∙_}
 use Rattle.stations.specs.Stations.{stationTwice}
 use borrow.Author.Needs.{needs}

@@ -1,4 +1,4 @@
--- `stations::stations_of` meets its contract. Assumes nothing.
+-- `stations::stations_of` meets its contract.
 use Rattle.stations.proofs.Gathered.{both-entered}
 use mathlib.Core.Path.{refl, _∙_}
 use native.Mathlib.Omega.{arith}

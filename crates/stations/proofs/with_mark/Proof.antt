@@ -1,4 +1,4 @@
--- `stations::with_mark` meets its contract. Assumes nothing.
+-- `stations::with_mark` meets its contract.
 use lib.Pow.{shl-exact}
 use lib.Bits.{bitOr}
 use native.Mathlib.Nat.{one-mul}

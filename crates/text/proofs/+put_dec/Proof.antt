@@ -1,10 +1,9 @@
--- `text::put_dec` meets its contract. Assumes nothing.
+-- `text::put_dec` meets its contract.
 use borrow.Author.Needs.{needs}
 use native.Mathlib.Omega.{arith}
-use Prim.Native.Nat.{_/_}
+use Prim.Native.Nat.{_/_, ℕ, _<_}
 use Rattle.text.specs.Text.{dec}
-use Rattle.text.specs.Laws.{decs-short, dec-short, dec-fit, dec-more}
-use Prim.Native.Nat.{ℕ, _<_}
+use Rattle.text.proofs.Laws.{decs-short, dec-short, dec-fit, dec-more}
 use borrow.Fn.Kinds.{In}
 use borrow.Fn.PlainCycle.{Measures, is, falls, and}
 use Rattle.text.proofs.put_dec.Reads as put-dec

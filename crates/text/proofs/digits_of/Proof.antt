@@ -1,6 +1,6 @@
--- `text::digits_of` meets its contract. Assumes nothing.
+-- `text::digits_of` meets its contract.
 use native.Mathlib.Omega.{arith}
-use Rattle.text.specs.Laws.{one-digit, two-digits, three-digits, four-digits}
+use Rattle.text.proofs.Laws.{one-digit, two-digits, three-digits, four-digits}
 use Rattle.text.proofs.digits_of.Statement.{statement}
 use Rattle.text.proofs.digits_of.Tie as tie
 

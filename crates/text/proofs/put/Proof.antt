@@ -1,4 +1,4 @@
--- `text::put` meets its contract. Assumes nothing.
+-- `text::put` meets its contract.
 use borrow.Author.Needs.{needs}
 use mathlib.Core.Path.{refl, sym}
 use lib.Seq.{set-out}

@@ -1,6 +1,6 @@
--- `text::put_all` meets its contract. Assumes nothing.
+-- `text::put_all` meets its contract.
 use borrow.Author.Needs.{needs}
-use Rattle.text.specs.Laws.{past}
+use Rattle.text.proofs.Laws.{past}
 use Rattle.text.proofs.put_all.Statement.{statement}
 use Rattle.text.proofs.put_all.Tie as tie
 

@@ -1,10 +1,10 @@
--- `text::put_each` meets its contract. Assumes nothing.
+-- `text::put_each` meets its contract.
 use borrow.Author.Needs.{needs}
 use Prim.Native.Nat.{_-_, _≤_}
 use native.Mathlib.Omega.{arith}
 use lib.ListN.{length, take}
 use Rattle.text.specs.Text.{Wrote}
-use Rattle.text.specs.Laws.{nothing, more, whole, kept, reach}
+use Rattle.text.proofs.Laws.{nothing, more, whole, kept, reach}
 use Rattle.text.proofs.put_each.Statement.{statement}
 use Rattle.text.proofs.put_each.Tie as tie
 

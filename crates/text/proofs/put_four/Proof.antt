@@ -1,10 +1,10 @@
--- `text::put_four` meets its contract. Assumes nothing.
+-- `text::put_four` meets its contract.
 use borrow.Author.Needs.{needs}
 use mathlib.Core.Path.{_≡_}
 use native.Mathlib.Omega.{arith}
 use Prim.Native.Nat.{_/_}
 use Rattle.text.specs.Text.{decs}
-use Rattle.text.specs.Laws.{past, digit-one, digit-more, decs-short}
+use Rattle.text.proofs.Laws.{past, digit-one, digit-more, decs-short}
 use Rattle.text.proofs.put_four.Statement.{statement}
 use Rattle.text.proofs.put_four.Tie as tie
 

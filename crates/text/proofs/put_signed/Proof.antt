@@ -1,7 +1,7 @@
--- `text::put_signed` meets its contract. Assumes nothing.
+-- `text::put_signed` meets its contract.
 use borrow.Author.Needs.{needs}
 use native.Mathlib.Omega.{arith}
-use Rattle.text.specs.Laws.{after, signed-low, signed-high}
+use Rattle.text.proofs.Laws.{after, signed-low, signed-high}
 use Rattle.text.proofs.put_signed.Statement.{statement}
 use Rattle.text.proofs.put_signed.Tie as tie
 

@@ -1,9 +1,9 @@
--- `text::put_three` meets its contract. Assumes nothing.
+-- `text::put_three` meets its contract.
 use borrow.Author.Needs.{needs}
 use mathlib.Core.Path.{_≡_}
 use native.Mathlib.Omega.{arith}
 use Prim.Native.Nat.{_/_}
-use Rattle.text.specs.Laws.{digit-one, digit-more, decs-short}
+use Rattle.text.proofs.Laws.{digit-one, digit-more, decs-short}
 use Rattle.text.proofs.put_three.Statement.{statement}
 use Rattle.text.proofs.put_three.Tie as tie
 

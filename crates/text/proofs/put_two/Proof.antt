@@ -1,9 +1,9 @@
--- `text::put_two` meets its contract. Assumes nothing.
+-- `text::put_two` meets its contract.
 use borrow.Author.Needs.{needs}
 use mathlib.Core.Path.{_≡_}
 use native.Mathlib.Omega.{arith}
 use Prim.Native.Nat.{_/_}
-use Rattle.text.specs.Laws.{digit-one, digit-more, digit-alone}
+use Rattle.text.proofs.Laws.{digit-one, digit-more, digit-alone}
 use Rattle.text.proofs.put_two.Statement.{statement}
 use Rattle.text.proofs.put_two.Tie as tie
 

@@ -1,11 +1,11 @@
--- `text::put_whole` meets its contract. Assumes nothing.
+-- `text::put_whole` meets its contract.
 use mathlib.Core.Path.{refl}
 use Prim.Native.Nat.{_+_, _-_, _≤_}
 use native.Mathlib.Omega.{arith}
 use native.Mathlib.Nat.{add-zero}
 use lib.ListN.{length, take}
 use Rattle.text.specs.Text.{Wrote}
-use Rattle.text.specs.Laws.{nothing, more, whole, kept}
+use Rattle.text.proofs.Laws.{nothing, more, whole, kept}
 use Rattle.text.proofs.put_whole.Statement.{statement}
 use Rattle.text.proofs.put_whole.Tie as tie
 

@@ -1,4 +1,4 @@
--- `timed::blocks_of` meets its contract. Assumes nothing.
+-- `timed::blocks_of` meets its contract.
 use Prim.Native.Nat.{ℕ, _+_, _-_, _*_, _≤_}
 use mathlib.Core.Path.{_≡_, refl, _∙_, ap, ap₂}
 use native.Mathlib.Omega.{arith}

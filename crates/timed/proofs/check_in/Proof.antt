@@ -1,9 +1,9 @@
--- `timed::check_in` meets its contract. Assumes nothing.
+-- `timed::check_in` meets its contract.
 use Prim.Native.Nat.{ℕ}
 use mathlib.Core.Path.{_∙_, ap}
 use native.Mathlib.Omega.{arith}
-use Rattle.check4.specs.Check.{check}
-use Rattle.check4.specs.Checks.{check-lt}
+use Rattle.block.specs.Check.{check}
+use Rattle.block.proofs.Checks.{check-lt}
 use Rattle.timed.specs.Sums.{checkIn}
 use borrow.Author.Needs.{needs}
 use Rattle.timed.proofs.check_in.Statement.{statement}

@@ -1,4 +1,4 @@
--- `timed::place` meets its contract. Assumes nothing.
+-- `timed::place` meets its contract.
 use mathlib.Core.Path.{refl}
 use native.Mathlib.Omega.{arith}
 use Rattle.timed.proofs.Sum.{place-lt}

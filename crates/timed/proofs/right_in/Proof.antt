@@ -1,9 +1,9 @@
--- `timed::right_in` meets its contract. Assumes nothing.
+-- `timed::right_in` meets its contract.
 use Prim.Native.Nat.{ℕ}
 use mathlib.Core.Path.{_≡_, _∙_, sym, ap}
 use mathlib.Core.Bool.{Bool, true, false, cond}
 use native.Mathlib.Omega.{arith}
-use Rattle.check4.specs.Check.{right}
+use Rattle.block.specs.Check.{right}
 use Rattle.timed.specs.Sums.{rightIn}
 use borrow.Author.Needs.{needs}
 use Rattle.timed.proofs.right_in.Statement.{statement}

@@ -1,4 +1,4 @@
--- `timed::timed_blocks` meets its contract. Assumes nothing.
+-- `timed::timed_blocks` meets its contract.
 use borrow.Author.Needs.{needs}
 use Rattle.timed.proofs.timed_blocks.Statement.{statement}
 use Rattle.timed.proofs.timed_blocks.Tie as tie

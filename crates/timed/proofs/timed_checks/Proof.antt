@@ -1,4 +1,4 @@
--- `timed::timed_checks` meets its contract. Assumes nothing.
+-- `timed::timed_checks` meets its contract.
 use borrow.Author.Needs.{needs}
 use Rattle.timed.proofs.timed_checks.Statement.{statement}
 use Rattle.timed.proofs.timed_checks.Tie as tie

@@ -1,4 +1,4 @@
--- `vectors::each` is safe and ends: each turn starts past the line before. Assumes nothing.
+-- `vectors::each` is safe and ends: each turn starts past the line before.
 use Prim.Native.Nat.{_≤_, _-_}
 use lib.ListN.{length}
 use borrow.Author.Needs.{needs}

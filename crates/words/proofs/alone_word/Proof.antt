@@ -1,4 +1,4 @@
--- `words::alone_word` meets its contract. Assumes nothing.
+-- `words::alone_word` meets its contract.
 use native.Mathlib.Nat.{add-zero}
 use Rattle.words.specs.Words.{userWord}
 use borrow.Author.Needs.{needs}

@@ -1,4 +1,4 @@
--- `words::first_word` meets its contract. Assumes nothing.
+-- `words::first_word` meets its contract.
 use Rattle.words.specs.Words.{firstWord}
 use borrow.Author.Needs.{needs}
 use Rattle.words.proofs.first_word.Statement.{statement}

@@ -1,4 +1,4 @@
--- `words::gi_ltf` meets its contract. Assumes nothing.
+-- `words::gi_ltf` meets its contract.
 use borrow.Author.Tests.{eq-eqb, ne-eqb}
 use native.Mathlib.Omega.{arith}
 use Rattle.words.proofs.gi_ltf.Statement.{statement}

@@ -1,6 +1,6 @@
--- `words::gi_of` meets its contract. Assumes nothing.
+-- `words::gi_of` meets its contract.
 use native.Mathlib.Omega.{arith}
-use Rattle.words.specs.Laws.{gi-is}
+use Rattle.words.proofs.Laws.{gi-is}
 use borrow.Author.Needs.{needs}
 use Rattle.words.proofs.gi_of.Statement.{statement}
 use Rattle.words.proofs.gi_of.Tie as tie

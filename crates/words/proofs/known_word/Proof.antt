@@ -1,4 +1,4 @@
--- `words::known_word` meets its contract. Assumes nothing.
+-- `words::known_word` meets its contract.
 use borrow.Author.Tests.{lt-ltb, le-ltb}
 use Rattle.words.specs.Words.{known}
 use native.Mathlib.Omega.{arith}

@@ -1,5 +1,5 @@
--- `words::overflow_of` meets its contract. Assumes nothing.
-use Rattle.words.specs.Back.{overflowOf}
+-- `words::overflow_of` meets its contract.
+use Rattle.words.specs.Engine.{overflowOf}
 use borrow.Author.Needs.{needs}
 use Rattle.words.proofs.overflow_of.Statement.{statement}
 use Rattle.words.proofs.overflow_of.Tie as tie

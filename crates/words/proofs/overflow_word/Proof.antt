@@ -1,4 +1,4 @@
--- `words::overflow_word` meets its contract. Assumes nothing.
+-- `words::overflow_word` meets its contract.
 use native.Mathlib.Nat.{add-zero, zero-add}
 use Rattle.words.specs.Words.{overflowWord}
 use borrow.Author.Needs.{needs}

@@ -1,8 +1,8 @@
--- `words::put_header` meets its contract. Assumes nothing.
-use Rattle.words.specs.Words.{nth, header}
+-- `words::put_header` meets its contract.
+use Rattle.answer.specs.Lists.{at}
+use Rattle.words.specs.Words.{header}
 use lib.Seq.{sets-eq}
-use lib.ListN.{length}
-use lib.ListN.{length-set}
+use lib.ListN.{length, length-set}
 use native.Mathlib.Omega.{arith}
 use borrow.Author.Needs.{needs}
 use Rattle.words.proofs.put_header.Statement.{statement}
@@ -72,7 +72,7 @@ returns : tie.Need-returns
 returns c =
     let a = c .before .before .before .before .before .before .before .before .before .before .before .args in
     rw (c .second-word .ensures, c .before .triple-word5 .ensures, c .before .before .triple-word4 .ensures, c .before .before .before .triple-word3 .ensures, c .before .before .before .before .triple-word2 .ensures, c .before .before .before .before .before .triple-word .ensures, c .before .before .before .before .before .before .first-word .ensures, c .before .before .before .before .before .before .before .overflow-word .ensures, c .before .before .before .before .before .before .before .before .known-word .ensures)
-    (sets-eq (header (a .bw) (a .v) (a .t) (a .t2) (nth (a .row .now)) (length (a .row .now))) (a .words .now) 0 (omega arith))
+    (sets-eq (header (a .bw) (a .v) (a .t) (a .t2) (at (a .row .now)) (length (a .row .now))) (a .words .now) 0 (omega arith))
 
 pub put-header-spec : {M : Type 1} → statement M
 put-header-spec =

@@ -1,4 +1,4 @@
--- `words::second_word` meets its contract. Assumes nothing.
+-- `words::second_word` meets its contract.
 use borrow.Author.Tests.{lt-ltb, le-ltb}
 use Rattle.words.specs.Words.{secondWord}
 use native.Mathlib.Omega.{arith}

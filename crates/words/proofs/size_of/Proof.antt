@@ -1,6 +1,6 @@
--- `words::size_of` meets its contract. Assumes nothing.
+-- `words::size_of` meets its contract.
 use native.Mathlib.Omega.{arith}
-use Rattle.words.specs.Laws.{size-is}
+use Rattle.words.proofs.Laws.{size-is}
 use borrow.Author.Needs.{needs}
 use Rattle.words.proofs.size_of.Statement.{statement}
 use Rattle.words.proofs.size_of.Tie as tie

@@ -1,4 +1,4 @@
--- `words::slot_of` meets its contract. Assumes nothing.
+-- `words::slot_of` meets its contract.
 use borrow.Author.Tests.{lt-ltb, le-ltb}
 use lib.ListN.{length}
 use Rattle.words.specs.Words.{slot}

@@ -1,4 +1,4 @@
--- `words::triple_word` meets its contract. Assumes nothing.
+-- `words::triple_word` meets its contract.
 use Rattle.words.specs.Words.{tripleWord}
 use borrow.Author.Needs.{needs}
 use Rattle.words.proofs.triple_word.Statement.{statement}

@@ -1,6 +1,6 @@
--- `words::user_field` meets its contract. Assumes nothing.
+-- `words::user_field` meets its contract.
 use borrow.Author.Tests.{eq-eqb, ne-eqb}
-use Rattle.words.specs.Back.{userField}
+use Rattle.words.specs.Engine.{userField}
 use borrow.Author.Needs.{needs}
 use Rattle.words.proofs.user_field.Statement.{statement}
 use Rattle.words.proofs.user_field.Tie as tie

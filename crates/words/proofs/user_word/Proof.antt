@@ -1,4 +1,4 @@
--- `words::user_word` meets its contract. Assumes nothing.
+-- `words::user_word` meets its contract.
 use borrow.Author.Needs.{needs}
 use Rattle.words.proofs.user_word.Statement.{statement}
 use Rattle.words.proofs.user_word.Tie as tie

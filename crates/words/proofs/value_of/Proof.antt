@@ -1,5 +1,5 @@
--- `words::value_of` meets its contract. Assumes nothing.
-use Rattle.words.specs.Back.{valueOf}
+-- `words::value_of` meets its contract.
+use Rattle.words.specs.Engine.{valueOf}
 use borrow.Author.Tests.{eq-eqb, ne-eqb}
 use borrow.Author.Needs.{needs}
 use Rattle.words.proofs.value_of.Statement.{statement}

@@ -1,4 +1,4 @@
--- `words::word_at` meets its contract. Assumes nothing.
+-- `words::word_at` meets its contract.
 use lib.ListN.{getD, List·getD-eq-default}
 use mathlib.Core.Path.{_≡_, sym}
 use native.Mathlib.Omega.{arith}

@@ -1,4 +1,4 @@
--- `writer::bytes_in` meets its contract. Assumes nothing.
+-- `writer::bytes_in` meets its contract.
 use mathlib.Core.Path.{sym, _∙_}
 use borrow.Author.Needs.{needs}
 use Rattle.writer.proofs.bytes_in.Statement.{statement}

@@ -1,7 +1,8 @@
--- `writer::first_unlike` meets its contract. Assumes nothing.
-use Rattle.writer.specs.Steps.{unlike-yes, unlike-no}
+-- `writer::first_unlike` meets its contract.
+use Rattle.writer.proofs.Steps.{unlike-yes, unlike-no}
 use Rattle.writer.specs.Result.{unlike}
-use Rattle.answer.specs.Least.{least, least-start, least-step, least-stop, least-end}
+use Rattle.answer.specs.Least.{least}
+use Rattle.answer.proofs.Least.{least-start, least-step, least-stop, least-end}
 use lib.ListN.{length}
 use mathlib.Core.Path.{_≡_, sym}
 use Prim.Native.Nat.{_-_, _≤_}

@@ -1,5 +1,5 @@
--- `writer::judge` meets its contract. Assumes nothing.
-use Rattle.table.specs.Table.{check1}
+-- `writer::judge` meets its contract.
+use Rattle.halves.specs.Table.{check1}
 use borrow.Author.Needs.{needs}
 use Rattle.writer.proofs.judge.Statement.{statement}
 use Rattle.writer.proofs.judge.Tie as tie
@@ -10,8 +10,8 @@ refuse-if-requires c κs = search needs
 then-not-read-requires : tie.Need-then-not-read-requires
 then-not-read-requires c κs = search needs
 
-too-short-requires : tie.Need-too-short-requires
-too-short-requires c κs = search needs
+no-channel-room-requires : tie.Need-no-channel-room-requires
+no-channel-room-requires c κs = search needs
 
 or-else-requires : tie.Need-or-else-requires
 or-else-requires c κs = search needs
@@ -26,6 +26,6 @@ judge-spec =
     (tie.spec
     refuse-if-requires
     then-not-read-requires
-    too-short-requires
+    no-channel-room-requires
     or-else-requires
     returns)

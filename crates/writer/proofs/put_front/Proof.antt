@@ -1,7 +1,7 @@
--- `writer::put_front` meets its contract. Assumes nothing.
-use Rattle.writer.specs.Steps.{front-filled}
-use Rattle.words.specs.Words.{nth}
-use Rattle.answer.specs.Filled.{filled, filled-start, filled-step, filled-length}
+-- `writer::put_front` meets its contract.
+use Rattle.writer.proofs.Steps.{front-filled}
+use Rattle.answer.specs.Lists.{at, filled}
+use Rattle.answer.proofs.Lists.{filled-start, filled-step, filled-length}
 use lib.ListN.{length, set}
 use mathlib.Core.List.{List}
 use mathlib.Core.Path.{_≡_, refl, _∙_, ap}
@@ -12,7 +12,7 @@ use Rattle.writer.proofs.put_front.Statement.{statement}
 use Rattle.writer.proofs.put_front.Tie as tie
 
 abbrev Inv-loop : tie.InvT-loop
-Inv-loop d₀ s i₀ d i = (i ≤ length s) × (d ≡ filled (nth s) i d₀) × (length d ≡ length d₀)
+Inv-loop d₀ s i₀ d i = (i ≤ length s) × (d ≡ filled (at s) i d₀) × (length d ≡ length d₀)
 
 abbrev μ-loop : tie.MeasureT-loop
 μ-loop d₀ s i₀ d i = length s - i
@@ -37,8 +37,8 @@ loop-again c =
     let a = c .before .before .before .args in
     let l = c .before .before .loop in
     let s = a .s .now in
-    let e = ap (λ (d : List ℕ). set d (l .i) (nth s (l .i))) (l .inv .1) ∙ filled-step (nth s) (l .i) (nth s (l .i)) (a .d .now) (omega arith) refl in
-    (search needs, e, ap length e ∙ filled-length (nth s) (l .i + 1) (a .d .now) (omega arith))
+    let e = ap (λ (d : List ℕ). set d (l .i) (at s (l .i))) (l .inv .1) ∙ filled-step (at s) (l .i) (at s (l .i)) (a .d .now) (omega arith) refl in
+    (search needs, e, ap length e ∙ filled-length (at s) (l .i + 1) (a .d .now) (omega arith))
 
 same-length : tie.Need-same-length Inv-loop μ-loop
 same-length c = search needs
@@ -49,7 +49,7 @@ returns c =
     let l = c .before .loop in
     let s = a .s .now in
     let e : l .i ≡ length s = omega arith in
-    l .inv .1 ∙ ap (λ (k : ℕ). filled (nth s) k (a .d .now)) e ∙ front-filled s (a .d .now)
+    l .inv .1 ∙ ap (λ (k : ℕ). filled (at s) k (a .d .now)) e ∙ front-filled s (a .d .now)
 
 pub put-front-spec : {M : Type 1} → statement M
 put-front-spec =

@@ -1,11 +1,11 @@
--- `writer::reads_to` meets its contract. Assumes nothing.
+-- `writer::reads_to` meets its contract.
 use borrow.Author.Needs.{needs}
 use mathlib.Core.Path.{refl, sym, _∙_, ap}
 use native.Mathlib.Omega.{arith}
 use lib.ListN.{length, replicate}
 use Rattle.answer.specs.declared.Answer.{Answer}
-use Rattle.frame.specs.Determine.{words-length}
-use Rattle.writer.specs.Steps.{reads-yes, words-front}
+use Rattle.frame.proofs.Determine.{words-length}
+use Rattle.writer.proofs.Steps.{reads-yes, words-front}
 use Rattle.writer.proofs.Back.{back-refused, back-accepted, back-count, back-words, back-room}
 use Rattle.writer.proofs.reads_to.Statement.{statement}
 use Rattle.writer.proofs.reads_to.Tie as tie

@@ -1,4 +1,4 @@
--- `writer::same_words` meets its contract. Assumes nothing.
+-- `writer::same_words` meets its contract.
 use Rattle.writer.specs.Result.{sameWords}
 use borrow.Author.Tests.{eq-eqb, ne-eqb}
 use lib.ListN.{length}

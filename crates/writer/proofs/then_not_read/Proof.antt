@@ -1,4 +1,4 @@
--- `writer::then_not_read` meets its contract. Assumes nothing.
+-- `writer::then_not_read` meets its contract.
 use Rattle.writer.specs.Result.{notRead}
 use Rattle.answer.specs.Answer.{_or_}
 use mathlib.Core.Path.{_∙_}

@@ -1,5 +1,5 @@
--- `writer::write` meets its contract. Assumes nothing.
-use Rattle.writer.specs.Steps.{room-length, room-zeros, needed-is, bytes-1, bytes-2}
+-- `writer::write` meets its contract.
+use Rattle.writer.proofs.Steps.{room-length, room-zeros, needed-is, bytes-1, bytes-2}
 use native.Mathlib.Omega.{arith}
 use borrow.Author.Needs.{needs}
 use Rattle.writer.proofs.write.Statement.{statement}

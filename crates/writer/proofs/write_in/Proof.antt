@@ -1,8 +1,8 @@
--- `writer::write_in` meets its contract. Assumes nothing.
-use Rattle.writer.specs.Steps.{candidate-is, writing-is, writing-room}
-use Rattle.writer.specs.Sealed.{candidate-sealed}
+-- `writer::write_in` meets its contract.
+use Rattle.writer.proofs.Steps.{candidate-is, writing-is, writing-room}
+use Rattle.writer.proofs.Sealed.{candidate-sealed}
 use Rattle.writer.specs.Result.{front, answerOf, channelAfter}
-use Rattle.candidate.specs.Candidate.{firstIn}
+use Rattle.candidate.specs.Engine.{firstIn}
 use lib.ListN.{length}
 use mathlib.Core.List.{List}
 use mathlib.Core.Path.{refl, _∙_, ap}
@@ -34,8 +34,8 @@ judge-requires c κs =
     let eb = candidate-is (s .args .bw) (s .args .words .now) 2 _ _ (s .pre .1 .1) (c .before .before .before .before .fill2 .ensures) in
     rw (ea, eb) (candidate-sealed (s .args .bw) (s .args .words .now))
 
-enum-known-out : tie.Need-enum-known-out
-enum-known-out c = search needs
+enum-known-outcome : tie.Need-enum-known-outcome
+enum-known-outcome c = search needs
 
 same-length : tie.Need-same-length
 same-length c = search needs
@@ -49,7 +49,7 @@ returns c =
     let s = c .before .before .before .before .before .before .before .before .before .before .before .before .before .before .before .before .before .before .before in
     let ea = candidate-is (s .args .bw) (s .args .words .now) 1 _ _ (s .pre .1 .0) (c .before .before .before .before .before .before .before .before .before .before .before .before .fill .ensures) in
     let eb = candidate-is (s .args .bw) (s .args .words .now) 2 _ _ (s .pre .1 .1) (c .before .before .before .before .before .before .before .before .fill2 .ensures) in
-    let e = writing-is (s .args .bw) (s .args .words .now) (length (s .args .cc1 .now)) (length (s .args .cc2 .now)) (s .args .need) _ _ _ ea eb (s .pre .0 .4) (c .before .before .before .judge .ensures) ∙ c .before .out .given .1 in
+    let e = writing-is (s .args .bw) (s .args .words .now) (length (s .args .cc1 .now)) (length (s .args .cc2 .now)) (s .args .need) _ _ _ ea eb (s .pre .0 .4) (c .before .before .before .judge .ensures) ∙ c .before .outcome .given .1 in
     (rw e, (rw e, rw e))
 
 enum-told : tie.Need-enum-told
@@ -105,7 +105,7 @@ write-in-spec =
     add-fill
     fill-requires-2
     judge-requires
-    enum-known-out
+    enum-known-outcome
     same-length
     same-length-2
     returns

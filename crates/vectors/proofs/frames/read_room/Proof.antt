@@ -1,4 +1,4 @@
--- `vectors::frames::read_room` is safe: it lends no more words than there are. Assumes nothing.
+-- `vectors::frames::read_room` is safe: it lends no more words than there are.
 use mathlib.Core.Path.{sym}
 use lib.Seq.{length-take-le}
 use native.Mathlib.Omega.{arith}

@@ -1,4 +1,4 @@
--- `vectors::print::encode` meets its contract: the buffer keeps its length, and what it counts lies within it. Assumes nothing.
+-- `vectors::print::encode` meets its contract: the buffer keeps its length, and what it counts lies within it.
 use Prim.Native.Nat.{_≤_, _*_, _-_}
 use mathlib.Core.Path.{_≡_, sym}
 use lib.ListN.{length}

@@ -1,4 +1,4 @@
--- `vectors::print::glyph` meets its contract. Assumes nothing.
+-- `vectors::print::glyph` meets its contract.
 use borrow.Author.Needs.{needs}
 use borrow.Author.Tests.{lt-ltb, le-ltb}
 use Rattle.vectors.proofs.print.glyph.Statement.{statement}

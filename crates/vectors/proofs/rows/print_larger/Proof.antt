@@ -1,4 +1,4 @@
--- `vectors::rows::print_larger` is safe: a resource has at most three runs. Assumes nothing.
+-- `vectors::rows::print_larger` is safe: a resource has at most three runs.
 use Rattle.resource.proofs.Held.{held-few}
 use Rattle.resource.proofs.Places.{places-few}
 use borrow.Author.Needs.{needs}

@@ -1,4 +1,4 @@
--- `vectors::rows::print_pieces` is safe and ends. Assumes nothing.
+-- `vectors::rows::print_pieces` is safe and ends.
 use Prim.Native.Nat.{_≤_, _-_}
 use native.Mathlib.Omega.{arith}
 use borrow.Author.Needs.{needs}

@@ -1,7 +1,7 @@
--- `vectors::rows::print_row` is safe: the kinds that are printed are those of the row's plan. Assumes nothing.
+-- `vectors::rows::print_row` is safe: the kinds that are printed are those of the row's plan.
 use mathlib.Core.Path.{ap}
 use Rattle.plan.specs.declared.Plan.{Plan}
-use Rattle.plan.specs.Value.{planOf}
+use Rattle.plan.specs.Engine.{planOf}
 use borrow.Author.Needs.{needs}
 use Rattle.vectors.proofs.rows.print_row.Statement.{statement}
 use Rattle.vectors.proofs.rows.print_row.Tie as tie

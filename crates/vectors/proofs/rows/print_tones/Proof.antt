@@ -1,4 +1,4 @@
--- `vectors::rows::print_tones` is safe and ends. Assumes nothing.
+-- `vectors::rows::print_tones` is safe and ends.
 use Prim.Native.Nat.{_≤_, _-_}
 use borrow.Author.Needs.{needs}
 use Rattle.vectors.proofs.rows.print_tones.Statement.{statement}

@@ -1,4 +1,4 @@
--- `vectors::rows::row_line` is safe and ends: the row keeps its length. Assumes nothing.
+-- `vectors::rows::row_line` is safe and ends: the row keeps its length.
 use Prim.Native.Nat.{_≤_, _-_}
 use mathlib.Core.Path.{_≡_}
 use lib.ListN.{length, length-set}

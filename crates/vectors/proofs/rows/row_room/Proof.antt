@@ -1,4 +1,4 @@
--- `vectors::rows::row_room` is safe: it lends no more values than there are. Assumes nothing.
+-- `vectors::rows::row_room` is safe: it lends no more values than there are.
 use mathlib.Core.Path.{sym}
 use lib.Seq.{length-take-le}
 use native.Mathlib.Omega.{arith}

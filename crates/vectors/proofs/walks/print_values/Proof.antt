@@ -1,4 +1,4 @@
--- `vectors::walks::print_values` is safe and ends. Assumes nothing.
+-- `vectors::walks::print_values` is safe and ends.
 use Prim.Native.Nat.{_≤_, _-_}
 use borrow.Author.Needs.{needs}
 use Rattle.vectors.proofs.walks.print_values.Statement.{statement}

@@ -1,4 +1,4 @@
--- `vectors::walks::walk` is safe. Assumes nothing.
+-- `vectors::walks::walk` is safe.
 use mathlib.Core.Path.{_≡_}
 use mathlib.Core.List.{List}
 use Prim.Native.Nat.{ℕ, _≤_}

@@ -1,4 +1,4 @@
--- `vectors::words::has` is safe and ends. Assumes nothing.
+-- `vectors::words::has` is safe and ends.
 use Prim.Native.Nat.{_≤_, _-_}
 use lib.ListN.{length}
 use borrow.Author.Needs.{needs}

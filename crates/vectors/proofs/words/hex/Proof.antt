@@ -1,4 +1,4 @@
--- `vectors::words::hex` meets its contract, a range of bytes at a time. Assumes nothing.
+-- `vectors::words::hex` meets its contract, a range of bytes at a time.
 use borrow.Author.Tests.{lt-ltb, le-ltb}
 use borrow.Author.Needs.{needs}
 use Rattle.vectors.proofs.words.hex.Statement.{statement}

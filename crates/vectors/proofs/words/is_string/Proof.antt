@@ -1,4 +1,4 @@
--- `vectors::words::is_string` is safe and ends. Assumes nothing.
+-- `vectors::words::is_string` is safe and ends.
 use Prim.Native.Nat.{_≤_, _-_}
 use mathlib.Core.Path.{_≡_}
 use lib.ListN.{length}

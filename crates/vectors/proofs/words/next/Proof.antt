@@ -1,4 +1,4 @@
--- `vectors::words::next` meets its contract: the place stays between `at` and the end. Assumes nothing.
+-- `vectors::words::next` meets its contract: the place stays between `at` and the end.
 use Prim.Native.Nat.{_≤_, _-_}
 use lib.ListN.{length}
 use borrow.Author.Needs.{needs}

@@ -1,9 +1,9 @@
--- `vectors::words::number_of` meets its contract: the digits passed and those to come make the number. Assumes nothing.
+-- `vectors::words::number_of` meets its contract: the digits passed and those to come make the number.
 use Prim.Native.Nat.{_≤_, _<_, _-_}
 use mathlib.Core.Path.{_≡_, refl, sym, _∙_}
 use lib.ListN.{length, drop, getD}
 use Rattle.vectors.specs.Text.{unread, withDigit, numberFrom, numberOf}
-use Rattle.vectors.specs.Digits.{number-turn, number-stop, number-end}
+use Rattle.vectors.proofs.Digits.{number-turn, number-stop, number-end}
 use borrow.Author.Tests.{eq-eqb, ne-eqb}
 use native.Mathlib.Omega.{arith}
 use borrow.Author.Needs.{needs}

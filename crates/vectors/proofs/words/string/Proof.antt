@@ -1,4 +1,4 @@
--- `vectors::words::string` meets its contract: what it counts lies within the buffer. Assumes nothing.
+-- `vectors::words::string` meets its contract: what it counts lies within the buffer.
 use Prim.Native.Nat.{_≤_}
 use mathlib.Core.Path.{sym}
 use lib.ListN.{length}

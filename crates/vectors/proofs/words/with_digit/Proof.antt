@@ -1,4 +1,4 @@
--- `vectors::words::with_digit` meets its contract. Assumes nothing.
+-- `vectors::words::with_digit` meets its contract.
 use borrow.Author.Needs.{needs}
 use borrow.Author.Tests.{lt-ltb, le-ltb}
 use Rattle.vectors.specs.Text.{withDigit}

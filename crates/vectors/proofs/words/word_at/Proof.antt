@@ -1,4 +1,4 @@
--- `vectors::words::word_at` meets its contract: the place stays within the line. Assumes nothing.
+-- `vectors::words::word_at` meets its contract: the place stays within the line.
 use Prim.Native.Nat.{_≤_, _-_}
 use lib.ListN.{length}
 use borrow.Author.Needs.{needs}

@@ -1,4 +1,4 @@
--- `vectors::words::words` is safe: there is at most one word more than bytes. Assumes nothing.
+-- `vectors::words::words` is safe: there is at most one word more than bytes.
 use Prim.Native.Nat.{_≤_, _+_, _-_}
 use lib.ListN.{length}
 use native.Mathlib.Omega.{arith}

@@ -1,4 +1,4 @@
--- `vectors::writes::unpack` is safe: it stores no more words than there are. Assumes nothing.
+-- `vectors::writes::unpack` is safe: it stores no more words than there are.
 use Prim.Native.Nat.{_-_, _≤_}
 use mathlib.Core.Path.{_≡_}
 use lib.ListN.{length, length-set}

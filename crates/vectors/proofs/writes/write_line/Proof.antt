@@ -1,4 +1,4 @@
--- `vectors::writes::write_line` is safe: it lends no more words than there are. Assumes nothing.
+-- `vectors::writes::write_line` is safe: it lends no more words than there are.
 use mathlib.Core.Path.{sym}
 use lib.Seq.{length-take-le}
 use native.Mathlib.Omega.{arith}

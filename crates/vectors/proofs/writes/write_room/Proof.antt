@@ -1,4 +1,4 @@
--- `vectors::writes::write_room` is safe: it lends no more bytes than there are. Assumes nothing.
+-- `vectors::writes::write_room` is safe: it lends no more bytes than there are.
 use mathlib.Core.Path.{sym}
 use lib.Seq.{length-take-le}
 use native.Mathlib.Omega.{arith}

@@ -1,0 +1,82 @@
+-- Engine: the only channels that can read to given words, up to the padding. The contracts of the code cite it; nobody has to believe it: what
+-- the writer gives is said by the reader alone (`writer/specs`).
+--
+-- Every bit of a channel up to its end is in the words, or is a check or a tail (01, "Bandwidth and channels"); so the
+-- words give the channels, whatever words they are, and whether these read back to the words is 13's question.
+use mathlib.Core.Bool.{cond}
+use mathlib.Core.List.{List}
+use Prim.Native.Nat.{ℕ, zero, suc, _+_}
+use lib.Dec.{eqb}
+use lib.ListN.{replicate}
+use Rattle.bits.specs.Bits.{put}
+use Rattle.block.specs.Check.{check}
+use Rattle.resource.specs.Values.{fieldsOf}
+use Rattle.channel.specs.Layout.{present, firstBits, secondAt, secondBits, hasSecond, subfieldsIn, valueAt, total, userAt, blockAt, blocks, covered}
+use Rattle.answer.specs.Lists.{at}
+use Rattle.words.specs.Engine.{overflowOf, valueOf, userField}
+use Rattle.frame.specs.Words.{positionOf}
+use Rattle.candidate.specs.Length.{bytesFor}
+
+-- ---- a channel from what it carries
+
+-- numbers put one by one: the k-th in the w bits from `at k`, for k below n
+unfoldable pub puts : (ℕ → ℕ) → ℕ → (ℕ → ℕ) → ℕ → List ℕ → List ℕ
+puts at w v zero d = d
+puts at w v (suc n) d = put (puts at w v n d) (at n) w (v n)
+
+-- the check of the n bits from `at`, in the four bits after them
+unfoldable pub seal : ℕ → ℕ → List ℕ → List ℕ
+seal at n d = put d (at + n) 4 (check d at n)
+
+-- the second common check, which 160 and 320 MHz have
+unfoldable pub sealSecond : ℕ → List ℕ → List ℕ
+sealSecond bw d = cond (hasSecond bw) (seal (secondAt bw) (secondBits bw) d) d
+
+-- the checks of the first m User blocks, of n fields
+unfoldable pub sealBlocks : ℕ → ℕ → ℕ → List ℕ → List ℕ
+sealBlocks bw n zero d = d
+sealBlocks bw n (suc b) d = seal (blockAt bw b) (covered n b) (sealBlocks bw n b d)
+
+-- overflow v, RU Allocation values x 0, x 1, .. of s subfields and n User fields f 0, f 1, .. put into d
+unfoldable pub payload : ℕ → ℕ → (ℕ → ℕ) → ℕ → (ℕ → ℕ) → ℕ → List ℕ → List ℕ
+payload bw v x s f n d = puts (userAt bw) 22 f n (puts (valueAt bw) 9 x s (put d 0 17 v))
+
+-- and then every check. "Tail is zero", and so is the padding, where d is.
+unfoldable pub sealed : ℕ → ℕ → List ℕ → List ℕ
+sealed bw n d = sealBlocks bw n (blocks n) (sealSecond bw (seal 0 (firstBits bw) d))
+
+-- ---- what the words say
+
+unfoldable pub overflowIn : List ℕ → ℕ
+overflowIn w = overflowOf (at w 1)
+
+-- the k-th value of channel c
+unfoldable pub valueIn : List ℕ → ℕ → ℕ → ℕ
+valueIn w c k = valueOf w (positionOf c k)
+
+-- how many User fields the channel has: as many as its values give
+unfoldable pub countIn : ℕ → List ℕ → ℕ → ℕ
+countIn bw w c = total (λ k. fieldsOf (valueIn w c k)) (subfieldsIn bw c)
+
+-- "one per User field, channel 1 first", after the first ten
+unfoldable pub firstIn : ℕ → List ℕ → ℕ → ℕ
+firstIn bw w c = cond (eqb c 1) 10 (10 + countIn bw w 1)
+
+unfoldable pub fieldIn : ℕ → List ℕ → ℕ → ℕ → ℕ
+fieldIn bw w c i = userField (at w (firstIn bw w c + i))
+
+unfoldable pub needed : ℕ → List ℕ → ℕ
+needed bw w = bytesFor bw (countIn bw w 1) (countIn bw w 2)
+
+-- none at 20 MHz for channel 2
+unfoldable pub bytesIn : ℕ → List ℕ → ℕ → ℕ
+bytesIn bw w c = cond (present bw c) (needed bw w) 0
+
+-- channel c, of those bytes, in d
+unfoldable pub channelIn : ℕ → List ℕ → ℕ → List ℕ → List ℕ
+channelIn bw w c d =
+    sealed bw (countIn bw w c)
+    (payload bw (overflowIn w) (valueIn w c) (subfieldsIn bw c) (fieldIn bw w c) (countIn bw w c) d)
+
+unfoldable pub candidate : ℕ → List ℕ → ℕ → List ℕ
+candidate bw w c = channelIn bw w c (replicate (bytesIn bw w c) 0)

@@ -1,3 +1,0 @@
-pub mod Check
-pub mod Checks
-pub mod Engine

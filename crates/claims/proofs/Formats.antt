@@ -1,0 +1,205 @@
+-- The reader's plan is 01's, and each User word is of the format that its field's owner has.
+use mathlib.Core.Path.{_≡_, sym, _∙_, ap, subst}
+use mathlib.Core.Logic.{⊎-elim}
+use mathlib.Core.Bool.{Bool, true, false}
+use mathlib.Core.List.{List}
+use Prim.Native.Nat.{ℕ, _+_, _/_, _%_, _≤_, _<_}
+use native.Mathlib.Decide.{ℕ-discrete}
+use native.Mathlib.Omega.{arith}
+use lib.Dec.{leb}
+use lib.ListN.{length, getD, drop, List·getD-append}
+use borrow.Author.Tests.{le-leb, lt-leb, eq-eqb, ne-eqb}
+use denote.Ref.{now}
+use Rattle.answer.specs.declared.Answer.{Answer}
+use Rattle.answer.specs.declared.Outcome.the-variants.{Pass}
+use Rattle.answer.proofs.Order.{pass-left, pass-right}
+use Rattle.bits.specs.Bits.{field}
+use Rattle.resource.specs.Values.{fieldsOf, divides, pieceFields}
+use Rattle.resource.specs.Engine.{pieceAt}
+use Rattle.resource.proofs.Pieces.{some-pieces, no-pieces-left, divided-low}
+use Rattle.plan.specs.Kinds.{span}
+use Rattle.answer.specs.Lists.{at}
+use Rattle.plan.specs.Signals.{Place, Fits, Signals}
+use Rattle.plan.specs.Fields.{share, fieldsIn, total, shared}
+use Rattle.plan.specs.Answers.{Laid}
+use Rattle.plan.specs.Engine.{planOutcome}
+use Rattle.plan.proofs.Table.{equal-or}
+use Rattle.plan.proofs.Laid.{outcome-laid}
+use Rattle.plan.proofs.Demand.{accepted-plan, only-plan}
+use Rattle.records.specs.declared.Record.{Record}
+use Rattle.records.specs.Records.{inChannel, pieceRecord, recordsFrom, recordsOf, blank}
+use Rattle.records.specs.Owns.{fieldsBefore, ComesFrom, number, Owns, of-piece, of-place}
+use Rattle.records.specs.Engine.{lowest, ownerOf}
+use Rattle.records.proofs.Listing.{recordAt, Located, located-record, own-record, larger-record}
+use Rattle.records.proofs.Lead.{lowest-only, itself-place}
+use Rattle.records.proofs.Owners.{before-next, before-rise, in-own, one-owner, owner-owns}
+use Rattle.records.proofs.Shares.{low-share, share-fields, own-fieldsIn, home-piece, home-whole, owner-listed}
+use Rattle.channel.specs.Layout.{row, count, userAt}
+use Rattle.words.specs.Words.{userWord}
+use Rattle.halves.specs.Table.{outcome11, outcome6}
+use Rattle.halves.specs.Engine.{outcome9to11}
+use Rattle.halves.proofs.Stages.{outcome11-stages}
+use Rattle.frame.specs.Words.{wordCount, giver, positionOf, sharedAt, userWordAt, wordsOf}
+use Rattle.frame.proofs.Determine.{words-length, word-1, word-2}
+use Rattle.frame.proofs.Counts.{row-count-1, row-count-2, given-1, given-2}
+use Rattle.reader.specs.Table.{check12, readOutcome}
+use Rattle.reader.specs.Result.{wordsAfter}
+use Rattle.reader.proofs.Stages.{reading-stages, reading-pass}
+use Rattle.reader.proofs.Exactly.{accepted-exactly}
+use Rattle.reader.proofs.read.Reads as read
+use Rattle.claims.specs.Formats.{together, WordOn, OwnsIn, OneOwner, Formatted, UserWords}
+
+-- a position is one channel's
+one-channel : (p f : ℕ) → inChannel 0 p f + inChannel 1 p f ≡ f
+one-channel p f = go (ℕ-discrete (p % 2) 0)
+  where
+    go : Dec (p % 2 ≡ 0) → inChannel 0 p f + inChannel 1 p f ≡ f
+    go (yes e) = rw (eq-eqb (p % 2) 0 e, ne-eqb (p % 2) 1 (λ z. omega arith)) (omega arith)
+    go (no d) = rw (ne-eqb (p % 2) 0 d, eq-eqb (p % 2) 1 (omega arith)) (omega arith)
+
+own-total : (row : ℕ → ℕ) (p : ℕ) → total 0 row p ≡ share 0 p (row p)
+own-total row p = rw (own-fieldsIn 0 row p, own-fieldsIn 1 row p) (one-channel p (share 0 p (row p)))
+
+-- the resource at a place has the same fields seen from any of its places
+total-place : (x : ℕ) (row : ℕ → ℕ) (p q : ℕ) → q / span x ≡ p / span x → total x row q ≡ total x row p
+unfolding fieldsIn
+total-place x row p q e = rw e
+
+-- ---- the fields of the resource that owns a field, and the position that the field comes from
+module _ (o row : ℕ → ℕ) (n : ℕ) (s : Signals o row 0 n) where
+  abbrev rec : ℕ → Record
+  rec i = getD (recordsFrom o row n) i blank
+
+  -- a piece has one field, and its position gives none to a larger resource
+  piece-alone : (i p k : ℕ) → p < n → k < fieldsOf (row p) → o p ≡ 0 → divides (row p) ≡ true → i ≡ number o row p k
+      → leb 2 (together (rec i)) ≡ shared o row p
+  unfolding pieceFields
+  piece-alone i p k l h e d f =
+      let r : rec i ≡ pieceRecord row p (pieceAt (row p) k) =
+      ap rec f ∙ located-record o row n (number o row p k) p k (home-piece o row n s p k l h d) ∙ own-record (o p) row p k e in
+      let a : together (rec i) ≡ 1 = ap together r ∙ one-channel p (pieceFields (row p)) ∙ rw d in
+      let z : total (o p) row p ≡ 0 =
+      ap (λ (x : ℕ). total x row p) e ∙ own-total row p ∙ low-share 0 p (row p) (omega (arith, divided-low (row p) d)) in
+      rw (a, z)
+
+  -- any other resource has all the fields of its places
+  own-places : (p : ℕ) → p < n → divides (row p) ≡ false → o p ≡ 0 → together (recordAt (o p) row p 0) ≡ total (o p) row p
+  unfolding pieceFields
+  own-places p l d e =
+      ap together (own-record (o p) row p 0 e)
+      ∙ one-channel p (pieceFields (row p))
+      ∙ rw d (sym (rw e (own-total row p ∙ share-fields 0 p (row p) (subst (λ (x : ℕ). Fits x p (row p)) e (s .fits p (omega arith) l)) d)))
+
+  all-places : (p q : ℕ) → p < n → divides (row p) ≡ false → Place (o p) p q → together (recordAt (o p) row q 0) ≡ total (o p) row p
+  all-places p q l d m =
+      ⊎-elim
+      (λ e.
+      let z : q ≡ p = itself-place p q (subst (λ (x : ℕ). Place x p q) e m) in
+      rw z (own-places p l d e))
+      (λ e. ap together (larger-record (o p) row q 0 e) ∙ total-place (o p) row p q (m .0))
+      (equal-or (o p) 0)
+
+  place-shared : (i p k q : ℕ) → p < n → k < fieldsOf (row p) → divides (row p) ≡ false → Place (o p) p q → q ≡ lowest (o p) p → i ≡ number o row q 0
+      → leb 2 (together (rec i)) ≡ shared o row p
+  place-shared i p k q l h d m g f =
+      let w : o q ≡ o p = s .entire p q (omega arith) l m .2 in
+      let t : Located o row n (number o row q 0) q 0 = rw g (home-whole o row n s p l (omega arith) d) in
+      let r : rec i ≡ recordAt (o p) row q 0 =
+      ap rec f ∙ located-record o row n (number o row q 0) q 0 t ∙ ap (λ (x : ℕ). recordAt x row q 0) w in
+      ap (leb 2) (ap together r ∙ all-places p q l d m)
+
+  -- where the field comes from, and that it is shared there exactly where its owner has two or more
+  pub as-owned : (i c j : ℕ) → Owns o row n i c j → (p : ℕ) × (k : ℕ) × ComesFrom row n c j p k × (leb 2 (together (rec i)) ≡ shared o row p)
+  as-owned i c j (of-piece p k w e l f) =
+      (p, k, w, piece-alone i p k (w .inside) (w .kth) e (some-pieces (row p) k l) f)
+  as-owned i c j (of-place p k q w e h g f) =
+      (p, k, w, place-shared i p k q (w .inside) (w .kth) (no-pieces-left (row p) e) h (lowest-only (o p) p q h g) f)
+
+-- ---- the words of a frame
+format : (x : Record) (f v : ℕ) (t : Bool) → leb 2 (together x) ≡ t → v ≡ userWord t f → WordOn x f v
+format x f v t e g = record {
+  alone = λ l. g ∙ ap (λ (u : Bool). userWord u f) (sym e ∙ lt-leb 2 (together x) l);
+  shared = λ l. g ∙ ap (λ (u : Bool). userWord u f) (sym e ∙ le-leb 2 (together x) l);
+}
+
+module _ (bw : ℕ) (a b : List ℕ) (l : bw ≤ 4) (o : ℕ → ℕ) (s : Signals o (at (row bw a b)) 0 (length (row bw a b))) where
+  abbrev r : List ℕ
+  r = row bw a b
+
+  -- the reader's own plan is this one
+  reader-plan : (p : ℕ) → p < length r → shared o (at r) p ≡ sharedAt r p
+  reader-plan p h = ap (λ (x : ℕ). leb 2 (total x (at r) p)) (only-plan r o s p h)
+
+  -- of channel c, from 0, whose bytes are d
+  owned-word : (c : ℕ) (d : List ℕ) → ((j p k : ℕ) → ComesFrom (at r) (length r) c j p k → positionOf (c + 1) (giver bw (c + 1) d j) ≡ p)
+      → (i j : ℕ) → OwnsIn o r i c j → WordOn (getD (recordsOf o r) i blank) (field d (userAt bw j) 22) (userWordAt bw r (c + 1) d j)
+  unfolding userWordAt
+  owned-word c d given i j w =
+      let g = as-owned o (at r) (length r) s i c j w in
+      let p = g .0 in
+      format (getD (recordsOf o r) i blank) (field d (userAt bw j) 22) (userWordAt bw r (c + 1) d j) (sharedAt r p)
+      (g .3 ∙ reader-plan p (g .2 .inside))
+      (ap (λ (q : ℕ). userWord (sharedAt r q) (field d (userAt bw j) 22)) (given j p (g .1) (g .2)))
+
+  -- an owned field is one of its channel's
+  owned-below : (i c j : ℕ) → OwnsIn o r i c j → j < fieldsBefore c (at r) (length r)
+  owned-below i c j w =
+      let g = as-owned o (at r) (length r) s i c j w in
+      let p = g .0 in
+      let v = fieldsOf (at r p) in
+      omega (
+        arith,
+        g .2 .kth,
+        g .2 .follows,
+        in-own c p v (g .2 .channel),
+        before-next c (at r) p,
+        before-rise c (at r) (p + 1) (length r) (omega (arith, g .2 .inside)),
+      )
+
+  has-one : (c j : ℕ) → j < fieldsBefore c (at r) (length r) → OneOwner o r c j
+  has-one c j h =
+      let w = owner-owns o (at r) (length r) s c j h in
+      (ownerOf o (at r) c (length r) j, owner-listed o (at r) (length r) s c j h, w, λ i′ v. one-owner o (at r) (length r) i′ (ownerOf o (at r) c (length r) j) c j v w)
+
+  -- w has the frame's words at its front
+  pub formatted : (w : List ℕ) → ((k : ℕ) → k < wordCount bw a b → at w k ≡ at (wordsOf bw a b) k) → Formatted bw a b w o
+  unfolding wordCount
+  formatted w same = record {
+    one-1 = λ j h. has-one 0 j (omega (arith, row-count-1 bw a b l));
+    one-2 = λ j h. has-one 1 j (omega (arith, row-count-2 bw a b l));
+    word-1 = λ i j v.
+        let h : j < count bw 1 a = omega (arith, owned-below i 0 j v, row-count-1 bw a b l) in
+        rw (same (10 + j) (omega arith) ∙ word-1 bw a b j h) (owned-word 0 a (given-1 bw a b l) i j v);
+    word-2 = λ i j v.
+        let h : j < count bw 2 b = omega (arith, owned-below i 1 j v, row-count-2 bw a b l) in
+        rw (same (10 + count bw 1 a + j) (omega arith) ∙ word-2 bw a b j h) (owned-word 1 b (given-2 bw a b l) i j v);
+  }
+
+-- ---- of any result that the contract of `reader::read` allows
+
+-- the frame's words stand at the front of the lent ones
+front-words : (bw : ℕ) (a b w : List ℕ) → readOutcome bw a b (length w) ≡ Pass → (k : ℕ) → k < wordCount bw a b → at (wordsAfter bw a b w) k ≡ at (wordsOf bw a b) k
+unfolding wordsAfter
+front-words bw a b w e k h =
+    rw e (List·getD-append (wordsOf bw a b) (drop (wordCount bw a b) w) 0 k (omega (arith, words-length bw a b)))
+
+the-layout : (bw : ℕ) (a b : List ℕ) → outcome11 bw a b ≡ Pass → planOutcome (row bw a b) ≡ Pass
+the-layout bw a b e =
+    pass-right (outcome6 bw a b) (planOutcome (row bw a b)) (pass-left _ (outcome9to11 bw a b) (sym (outcome11-stages bw a b) ∙ e))
+
+pub frame-words : (bw : ℕ) (a b w : List ℕ) → readOutcome bw a b (length w) ≡ Pass → UserWords bw a b (wordsAfter bw a b w)
+frame-words bw a b w e =
+    let r = row bw a b in
+    let f : outcome11 bw a b ≡ Pass = pass-left _ (check12 bw a b (length w)) (sym (reading-stages bw a b (length w)) ∙ e) in
+    record {
+      a-plan = accepted-plan r (subst (Laid r) (the-layout bw a b f) (outcome-laid r));
+      each-plan = λ o s.
+          formatted bw a b (reading-pass bw a b (length w) e .common .known) o s (wordsAfter bw a b w) (front-words bw a b w e);
+    }
+
+pub user-words : (κs : _) (a : _) (x : _) (s : _) → read.Post κs a x s → x .number ≡ 0
+    → UserWords (a .0) (now (a .1 .0)) (now (a .1 .1 .0)) (now (s .1 .1 .1 .0))
+user-words κs a x s p z =
+    let w = now (a .1 .1 .1 .0) in
+    let n = ap (λ (y : Answer). y .number) (sym (p .0)) ∙ z in
+    rw (p .1) (frame-words (a .0) (now (a .1 .0)) (now (a .1 .1 .0)) w (accepted-exactly (a .0) (now (a .1 .0)) (now (a .1 .1 .0)) (length w) n))

@@ -1,0 +1,82 @@
+-- All values of a frame's row are carried exactly where both channels pass 6.
+use mathlib.Core.Path.{_≡_, refl, sym, _∙_, ap}
+use mathlib.Core.Bool.{Bool, true, false, _&&_}
+use mathlib.Core.List.{List}
+use Prim.Native.Nat.{ℕ, zero, suc, _+_, _*_, _/_, _%_, _≤_, _<_}
+use native.Mathlib.Decide.{decLt, ℕ-discrete}
+use native.Mathlib.Numerals.{add-one}
+use native.Mathlib.Omega.{arith}
+use lib.ListN.{length}
+use Rattle.answer.proofs.Order.{pass-left, pass-right, or-pass}
+use Rattle.answer.specs.declared.Outcome.the-variants.{Pass}
+use Rattle.resource.specs.Values.{carried}
+use Rattle.answer.specs.Lists.{at}
+use Rattle.channel.specs.Layout.{positions, subfieldsIn, row}
+use Rattle.channel.proofs.Laws.{place-1, place-2, row-length, row-even, row-odd, position-subfield}
+use Rattle.faults.proofs.Passing.{notCarried-pass, pass-notCarried}
+use Rattle.halves.specs.Table.{check6}
+use Rattle.halves.specs.Engine.{every, allCarried}
+
+pub every-next : (t : ℕ → Bool) (n : ℕ) → every t n && t n ≡ every t (n + 1)
+every-next t n = rw add-one refl
+
+both-left : (x y : Bool) → x && y ≡ true → x ≡ true
+both-left true y e = refl
+both-left false y e = e
+
+both-right : (x y : Bool) → x && y ≡ true → y ≡ true
+both-right true y e = e
+both-right false true e = refl
+both-right false false e = e
+
+both : (x y : Bool) → x ≡ true → y ≡ true → x && y ≡ true
+both x y e f = rw (e, f)
+
+every-at : (t : ℕ → Bool) (n : ℕ) → every t n ≡ true → (k : ℕ) → k < n → t k ≡ true
+every-at t zero e k l = absurd (omega arith)
+every-at t (suc n) e k l = go (every-at t n (both-left (every t n) (t n) e) k) (decLt k n)
+  where
+    top : (k : ℕ) → k ≡ n → t k ≡ true
+    top k d = rw d (both-right (every t n) (t n) e)
+
+    go : (k < n → t k ≡ true) → Dec (k < n) → t k ≡ true
+    go h (yes m) = h m
+    go h (no m) = top k (omega arith)
+
+all-every : (t : ℕ → Bool) (n : ℕ) → ((k : ℕ) → k < n → t k ≡ true) → every t n ≡ true
+all-every t zero h = refl
+all-every t (suc n) h = both (every t n) (t n) (all-every t n (λ k l. h k (omega arith))) (h n (omega arith))
+
+module _ (bw : ℕ) (a b : List ℕ) (l : bw ≤ 4) where
+  -- each channel's values are the row's
+  pub carried-passes : allCarried (row bw a b) ≡ true → check6 bw a b ≡ Pass
+  unfolding allCarried check6
+  carried-passes e =
+      let h : (p : ℕ) → p < positions bw → carried (at (row bw a b) p) ≡ true =
+      λ p m. every-at (λ p. carried (at (row bw a b) p)) (length (row bw a b)) e p (omega (arith, row-length bw a b)) in
+      or-pass _ _
+      (pass-notCarried bw 1 a (λ k m. ap carried (sym (row-even bw a b k (place-1 bw k l m))) ∙ h (2 * k) (place-1 bw k l m)))
+      (pass-notCarried bw 2 b (λ k m. ap carried (sym (row-odd bw a b k (place-2 bw k l m))) ∙ h (2 * k + 1) (place-2 bw k l m)))
+
+  -- and the row's values are the channels'
+  pub passes-carried : check6 bw a b ≡ Pass → allCarried (row bw a b) ≡ true
+  unfolding allCarried check6
+  passes-carried e = all-every (λ p. carried (at (row bw a b) p)) (length (row bw a b)) (λ p m. at-position p (omega (arith, row-length bw a b)))
+    where
+      even : (k : ℕ) → k < subfieldsIn bw 1 → carried (at (row bw a b) (2 * k)) ≡ true
+      even k m = ap carried (row-even bw a b k (place-1 bw k l m)) ∙ notCarried-pass bw 1 a (pass-left _ _ e) k m
+
+      odd : (k : ℕ) → k < subfieldsIn bw 2 → carried (at (row bw a b) (2 * k + 1)) ≡ true
+      odd k m = ap carried (row-odd bw a b k (place-2 bw k l m)) ∙ notCarried-pass bw 2 b (pass-right _ _ e) k m
+
+      at-position : (p : ℕ) → p < positions bw → carried (at (row bw a b) p) ≡ true
+      at-position p m = go (ℕ-discrete (p % 2) 0) (position-subfield bw p l m)
+        where
+          go : Dec (p % 2 ≡ 0) → p / 2 < subfieldsIn bw (1 + p % 2) → carried (at (row bw a b) p) ≡ true
+          go (yes z) s =
+              let i : 2 * (p / 2) ≡ p = omega arith in
+              ap (λ (q : ℕ). carried (at (row bw a b) q)) (sym i) ∙ even (p / 2) (rw z at s)
+          go (no z) s =
+              let i : 2 * (p / 2) + 1 ≡ p = omega arith in
+              let o : p % 2 ≡ 1 = omega arith in
+              ap (λ (q : ℕ). carried (at (row bw a b) q)) (sym i) ∙ odd (p / 2) (rw o at s)

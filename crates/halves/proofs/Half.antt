@@ -1,0 +1,108 @@
+-- What the first half says of a frame.
+use mathlib.Core.Path.{_≡_, refl, sym, _∙_, ap}
+use mathlib.Core.List.{List}
+use Prim.Native.Nat.{ℕ, _/_, _%_, _^_, _≤_, _<_}
+use lib.Dec.{eqb}
+use lib.ListN.{length}
+use Rattle.answer.specs.Answer.{_or_}
+use Rattle.answer.proofs.Order.{pass-left, pass-right, or-refuse, or-next, or-pass}
+use Rattle.answer.specs.declared.Answer.{Answer}
+use Rattle.answer.specs.declared.Outcome.{Outcome}
+use Rattle.answer.specs.declared.Outcome.the-variants.{Pass, Refuse}
+use Rattle.plan.specs.declared.Plan.{Plan}
+use Rattle.answer.specs.Lists.{at}
+use Rattle.plan.specs.Fields as F
+use Rattle.plan.specs.Engine.{onlyPlan, planOutcome, kindsOf, planOf}
+use Rattle.plan.specs.Fields.{fieldsTo}
+use Rattle.plan.proofs.Value.{shared-bit}
+use Rattle.channel.specs.Layout.{positions, row, rowIn16, count}
+use Rattle.channel.proofs.Laws.{row-length, count-le}
+use Rattle.halves.specs.declared.Planned.{Planned}
+use Rattle.halves.specs.Engine.{outcome5, outcome9to11, noPlan, withPlan, plannedAt, plannedOf}
+use Rattle.halves.proofs.Stages.{common-five, common-pass, outcome11-stages}
+use Rattle.halves.specs.Table.{outcome6, check6, outcome11}
+use Rattle.halves.proofs.Counts.{count-1, count-2}
+
+-- of a frame that the first half passes
+pub record Made (bw : ℕ) (a b : List ℕ) (p : Planned) : Type 0 where
+  pub common : outcome6 bw a b ≡ Pass
+  pub laid : planOutcome (row bw a b) ≡ Pass
+  pub the-row : p .row ≡ rowIn16 bw a b
+  pub the-kinds : p .kinds ≡ kindsOf (row bw a b)
+  pub count1 : p .fields1 ≡ count bw 1 a
+  pub count2 : p .fields2 ≡ count bw 2 b
+  pub most1 : p .fields1 ≤ 72
+  pub most2 : p .fields2 ≤ 72
+  pub formats : (q : ℕ) → q < positions bw → eqb (p .shared / 2 ^ q % 2) 1 ≡ F.shared (onlyPlan (at (row bw a b))) (at (row bw a b)) q
+
+-- the outcome of a result that is another
+pub out-is : {p q : Planned} {o : Outcome} → p ≡ q → p .outcome ≡ o → q .outcome ≡ o
+out-is e f = sym (ap (λ (p : Planned). p .outcome) e) ∙ f
+
+module _ (bw : ℕ) (a b : List ℕ) where
+  -- the three ways through it: stopped by 1 to 5, stopped by 6, planned
+  pub stopped-five : (o : Outcome) (x : Answer) → o ≡ outcome5 bw a b → o ≡ Refuse x → noPlan o ≡ plannedOf bw a b
+  unfolding plannedOf
+  stopped-five o x e f =
+      let c : outcome6 bw a b ≡ Refuse x = common-five bw a b ∙ or-refuse _ (check6 bw a b) x (sym e ∙ f) in
+      rw (c, f)
+
+  pub stopped-six : (o : Outcome) (x : Answer) → outcome5 bw a b ≡ Pass → o ≡ check6 bw a b → o ≡ Refuse x → noPlan o ≡ plannedOf bw a b
+  unfolding plannedOf
+  stopped-six o x p e f =
+      let c : outcome6 bw a b ≡ Refuse x = common-five bw a b ∙ or-next _ (check6 bw a b) p ∙ sym e ∙ f in
+      rw (c, f)
+
+  pub planned-six : (r : List ℕ) (p : Plan) → outcome5 bw a b ≡ Pass → check6 bw a b ≡ Pass → r ≡ rowIn16 bw a b → p ≡ planOf (row bw a b)
+      → withPlan r p ≡ plannedOf bw a b
+  unfolding plannedOf
+  planned-six r p e f er ep =
+      let c : outcome6 bw a b ≡ Pass = common-five bw a b ∙ or-pass _ _ e f in
+      rw (c, er, ep)
+
+  -- the first refusal of 1 to 8
+  pub planned-out : plannedOf bw a b .outcome ≡ outcome6 bw a b or planOutcome (row bw a b)
+  unfolding plannedOf noPlan withPlan planOf _or_
+  planned-out = go (outcome6 bw a b)
+    where
+      go : (o : Outcome) → plannedAt o (rowIn16 bw a b) (planOf (row bw a b)) .outcome ≡ o or planOutcome (row bw a b)
+      go Pass = refl
+      go (Refuse x) = refl
+
+  made : outcome6 bw a b ≡ Pass → planOutcome (row bw a b) ≡ Pass → Made bw a b (withPlan (rowIn16 bw a b) (planOf (row bw a b)))
+  unfolding withPlan planOf
+  made c d =
+      let l : bw ≤ 4 = common-pass bw a b c .known in
+      let m : length (row bw a b) ≡ positions bw = row-length bw a b in
+      let n : fieldsTo 0 (at (row bw a b)) (length (row bw a b)) ≡ count bw 1 a = ap (fieldsTo 0 (at (row bw a b))) m ∙ sym (count-1 bw a b l) in
+      let k : fieldsTo 1 (at (row bw a b)) (length (row bw a b)) ≡ count bw 2 b = ap (fieldsTo 1 (at (row bw a b))) m ∙ sym (count-2 bw a b l) in
+      record {
+        common = c;
+        laid = d;
+        the-row = refl;
+        the-kinds = refl;
+        count1 = n;
+        count2 = k;
+        most1 = rw n (count-le bw 1 a);
+        most2 = rw k (count-le bw 2 b);
+        formats = λ q k. shared-bit (row bw a b) d q (rw m k);
+      }
+
+  pub planned-pass : plannedOf bw a b .outcome ≡ Pass → Made bw a b (plannedOf bw a b)
+  unfolding plannedOf
+  planned-pass e =
+      let f = sym planned-out ∙ e in
+      let c : outcome6 bw a b ≡ Pass = pass-left _ (planOutcome (row bw a b)) f in
+      rw c (made c (pass-right (outcome6 bw a b) _ f))
+
+  -- the first half's refusals are the whole's ..
+  pub planned-refuse : (x : Answer) → plannedOf bw a b .outcome ≡ Refuse x → outcome11 bw a b ≡ Refuse x
+  planned-refuse x e = outcome11-stages bw a b ∙ or-refuse _ (outcome9to11 bw a b) x (sym planned-out ∙ e)
+
+  -- .. and where it passes, the second half's
+  pub planned-rest : plannedOf bw a b .outcome ≡ Pass → outcome11 bw a b ≡ outcome9to11 bw a b
+  planned-rest e = outcome11-stages bw a b ∙ or-next _ (outcome9to11 bw a b) (sym planned-out ∙ e)
+
+  -- what a result of the first half that passes is
+  pub planned-made : (p : Planned) → p ≡ plannedOf bw a b → p .outcome ≡ Pass → Made bw a b p
+  planned-made p e f = rw e (planned-pass (out-is e f))

@@ -1,0 +1,7 @@
+pub mod Rows
+pub mod Counts
+pub mod Carried
+pub mod Half
+pub mod Agree
+pub mod Exactly
+pub mod Stages

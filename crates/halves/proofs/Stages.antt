@@ -1,0 +1,83 @@
+-- The table's checks in the groups in which the code runs them, and what passing a group says.
+use mathlib.Core.Path.{_≡_, refl, sym, _∙_, ap}
+use mathlib.Core.Bool.{Bool, true, false, _||_}
+use mathlib.Core.List.{List, [], _∷_}
+use Prim.Native.Nat.{ℕ, _≤_}
+use lib.Dec.{ltb}
+use lib.ListN.{length}
+use borrow.Author.Tests.{ltb-false}
+use Rattle.answer.specs.Answer.{_or_}
+use Rattle.answer.specs.declared.Outcome.{Outcome}
+use Rattle.answer.specs.declared.Outcome.the-variants.{Pass}
+use Rattle.answer.proofs.Order.{first-chain, pass-left, pass-right, pass-if, or-assoc}
+use Rattle.plan.specs.Engine.{planOutcome}
+use Rattle.channel.specs.Layout.{row}
+use Rattle.faults.specs.Checks.{tooLong}
+use Rattle.halves.specs.Table.{check1, check2, check3, check4, check5, check6, check7, check8, check9, check10, check11, outcome11, outcome6}
+use Rattle.halves.specs.Engine.{outcome5, outcome9to11, AtMost512}
+
+pub outcome11-stages : (bw : ℕ) (a b : List ℕ) → outcome11 bw a b ≡ outcome6 bw a b or planOutcome (row bw a b) or outcome9to11 bw a b
+unfolding outcome11 outcome6 outcome9to11 planOutcome check7 check8
+outcome11-stages bw a b =
+    first-chain (check1 bw)
+    (check2 bw a b
+    ∷ check3 bw a b
+    ∷ check4 bw a b
+    ∷ check5 bw a b
+    ∷ check6 bw a b
+    ∷ check7 bw a b
+    ∷ check8 bw a b
+    ∷ check9 bw a b
+    ∷ check10 bw a b
+    ∷ check11 bw a b
+    ∷ [])
+    ∙ simp or-assoc
+
+or-false : (s t : Bool) → s || t ≡ false → s ≡ false
+or-false true t e = e
+or-false false t e = refl
+
+not-long : (bw c : ℕ) (s : List ℕ) → tooLong bw c s ≡ Pass → length s ≤ 512
+unfolding tooLong
+not-long bw c s e = ltb-false 512 (length s) (or-false (ltb 512 (length s)) _ (pass-if _ _ e))
+
+pub at-most-512 : (bw : ℕ) (a b : List ℕ) → check1 bw or check2 bw a b ≡ Pass → AtMost512 a b
+unfolding check2
+at-most-512 bw a b e =
+    let f = pass-right (check1 bw) _ e in
+    record {
+      first = not-long bw 1 a (pass-left _ (tooLong bw 2 b) f);
+      second = not-long bw 2 b (pass-right (tooLong bw 1 a) _ f);
+    }
+
+pub record Common (bw : ℕ) (a b : List ℕ) : Type 0 where
+  pub known : bw ≤ 4
+  pub short : AtMost512 a b
+
+-- 1 to 6 are 1 to 5 and 6
+pub common-five : (bw : ℕ) (a b : List ℕ) → outcome6 bw a b ≡ outcome5 bw a b or check6 bw a b
+unfolding outcome6 outcome5
+common-five bw a b = refl
+
+-- so much is known where 1 to 5 pass
+pub five-pass : (bw : ℕ) (a b : List ℕ) → outcome5 bw a b ≡ Pass → Common bw a b
+unfolding outcome5
+five-pass bw a b e =
+    let f = pass-left _ (check3 bw a b) (pass-left _ (check4 bw a b) (pass-left _ (check5 bw a b) e)) in
+    record {
+      known = unfold check1 in ltb-false 4 bw (pass-if _ _ (pass-left _ (check2 bw a b) f));
+      short = at-most-512 bw a b f;
+    }
+
+pub common-pass : (bw : ℕ) (a b : List ℕ) → outcome6 bw a b ≡ Pass → Common bw a b
+common-pass bw a b e = five-pass bw a b (pass-left _ (check6 bw a b) (sym (common-five bw a b) ∙ e))
+
+-- a check that runs only where the earlier ones pass
+pub pass-next : {p q r : Outcome} → p ≡ Pass → r ≡ q → r ≡ (p or q)
+unfolding _or_
+pass-next e f = rw e f
+
+-- the stages that are left where the common checks pass
+pub outcome11-rest : (bw : ℕ) (a b : List ℕ) → outcome6 bw a b ≡ Pass → outcome11 bw a b ≡ planOutcome (row bw a b) or outcome9to11 bw a b
+outcome11-rest bw a b e =
+    outcome11-stages bw a b ∙ ap (λ (o : Outcome). o or planOutcome (row bw a b) or outcome9to11 bw a b) e ∙ unfold _or_ in refl

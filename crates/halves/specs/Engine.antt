@@ -1,0 +1,63 @@
+-- Engine: the groups in which the code runs the checks, what its halves ask of their callers, and what they hand on. The contracts of the code
+-- cite it; nobody has to believe it: `proofs/Stages.antt`, `proofs/Half.antt`.
+use mathlib.Core.Path.{_≡_}
+use mathlib.Core.Bool.{Bool, true, _&&_}
+use mathlib.Core.List.{List}
+use Prim.Native.Nat.{ℕ, _≤_, zero, suc}
+use lib.ListN.{length, replicate}
+use Rattle.answer.specs.Answer.{_or_}
+use Rattle.answer.specs.declared.Outcome.{Outcome}
+use Rattle.answer.specs.declared.Outcome.the-variants.{Pass, Refuse}
+use Rattle.resource.specs.Values.{carried}
+use Rattle.plan.specs.declared.Plan.{Plan}
+use Rattle.answer.specs.Lists.{at}
+use Rattle.plan.specs.Engine.{planOf}
+use Rattle.channel.specs.Layout.{row, rowIn16}
+use Rattle.halves.specs.Table.{check1, check2, check3, check4, check5, check9, check10, check11, outcome6}
+use Rattle.halves.specs.declared.Planned.{Planned}
+
+-- 1 to 5
+unfoldable pub outcome5 : ℕ → List ℕ → List ℕ → Outcome
+outcome5 bw a b = check1 bw or check2 bw a b or check3 bw a b or check4 bw a b or check5 bw a b
+
+-- 9 to 11
+unfoldable pub outcome9to11 : ℕ → List ℕ → List ℕ → Outcome
+outcome9to11 bw a b = check9 bw a b or check10 bw a b or check11 bw a b
+
+-- ---- what passing says
+
+-- neither channel is over 512 bytes
+pub record AtMost512 (a b : List ℕ) : Type 0 where
+  pub first : length a ≤ 512
+  pub second : length b ≤ 512
+
+-- channels whose every check and tail is right: all that 4 and 10 ask
+pub record Sealed (bw : ℕ) (a b : List ℕ) : Type 0 where
+  pub common-sealed : check4 bw a b ≡ Pass
+  pub users-sealed : check10 bw a b ≡ Pass
+
+-- all below n pass
+abbrev pub every : (ℕ → Bool) → ℕ → Bool
+every t zero = true
+every t (suc n) = every t n && t n
+
+-- every value of the row is one that 01 lists
+unfoldable pub allCarried : List ℕ → Bool
+allCarried row = every (λ p. carried (at row p)) (length row)
+
+-- an outcome with no plan
+unfoldable pub noPlan : Outcome → Planned
+noPlan o = record { outcome = o; row = replicate 16 0; kinds = replicate 16 0; shared = 0; fields1 = 0; fields2 = 0 }
+
+-- the plan of a row in room for sixteen, whose outcome is 7 and 8
+unfoldable pub withPlan : List ℕ → Plan → Planned
+withPlan row p =
+    record { outcome = p .outcome; row = row; kinds = p .kinds; shared = p .shared; fields1 = p .fields1; fields2 = p .fields2 }
+
+-- a refusal of 1 to 6 has no plan
+abbrev pub plannedAt : Outcome → List ℕ → Plan → Planned
+plannedAt Pass row p = withPlan row p
+plannedAt (Refuse x) row p = noPlan (Refuse x)
+
+unfoldable pub plannedOf : ℕ → List ℕ → List ℕ → Planned
+plannedOf bw a b = plannedAt (outcome6 bw a b) (rowIn16 bw a b) (planOf (row bw a b))

@@ -1,0 +1,203 @@
+// 01's table up to 11: what a frame is refused for, whatever the room.
+use answer::Outcome;
+ghost use mathlib.Core.Path.{_≡_};
+ghost use mathlib.Core.Bool.{true};
+ghost use Prim.Native.Nat.{_≤_};
+ghost use Rattle.answer.specs.Answer.{_or_};
+ghost use Rattle.channel.specs.Layout.{row, count};
+ghost use Rattle.halves.specs.Table.{check1, check2, check3, check4, check5, check6, check10, check11};
+ghost use Rattle.halves.specs.Engine.{AtMost512, Sealed, outcome5, outcome9to11};
+ghost use Rattle.halves.specs.Engine.{allCarried, noPlan, plannedOf};
+
+// ---- the checks, each run only where the earlier ones pass; 4 and 10 not where the channels are known to be sealed
+
+fn first_checks(bw: u32, a: &[u8], b: &[u8]) -> Outcome
+    ensures { λ r. ⌜ r ≡ (check1 bw or check2 bw (now (a .entry)) (now (b .entry))) ⌝ }
+{
+    answer::or_else(
+        answer::refuse_if(4 < bw, 1, 0, 0),
+        answer::or_else(faults::too_long(bw, 1, a), faults::too_long(bw, 2, b)),
+    )
+}
+
+fn then_cut_common(prev: Outcome, bw: u32, a: &[u8], b: &[u8]) -> Outcome
+    requires { ⌜ (prev ≡ Outcome.Pass → AtMost512 (now a) (now b)) ⌝ }
+    ensures { λ r. ⌜ r ≡ (prev or check3 bw (now (a .entry)) (now (b .entry))) ⌝ }
+{
+    if let Outcome::Refuse(_) = prev {
+        return prev;
+    }
+    answer::or_else(faults::cut_common(bw, 1, a), faults::cut_common(bw, 2, b))
+}
+
+fn then_wrong_common(prev: Outcome, bw: u32, a: &[u8], b: &[u8], sealed: bool) -> Outcome
+    requires { ⌜ (sealed ≡ true → Sealed bw (now a) (now b)) ⌝ }
+    ensures { λ r. ⌜ r ≡ (prev or check4 bw (now (a .entry)) (now (b .entry))) ⌝ }
+{
+    if let Outcome::Refuse(_) = prev {
+        return prev;
+    }
+    if sealed {
+        return prev;
+    }
+    answer::or_else(
+        faults::wrong_common(bw, 1, a),
+        faults::wrong_common(bw, 2, b),
+    )
+}
+
+fn then_overflow(prev: Outcome, bw: u32, a: &[u8], b: &[u8]) -> Outcome
+    ensures { λ r. ⌜ r ≡ (prev or check5 bw (now (a .entry)) (now (b .entry))) ⌝ }
+{
+    if let Outcome::Refuse(_) = prev {
+        return prev;
+    }
+    faults::overflow_differs(bw, a, b)
+}
+
+// 1 to 5.
+fn first_five(bw: u32, a: &[u8], b: &[u8], sealed: bool) -> Outcome
+    requires { ⌜ (sealed ≡ true → Sealed bw (now a) (now b)) ⌝ }
+    ensures { λ r. ⌜ r ≡ outcome5 bw (now (a .entry)) (now (b .entry)) ⌝ }
+{
+    let r = first_checks(bw, a, b);
+    let r = then_cut_common(r, bw, a, b);
+    let r = then_wrong_common(r, bw, a, b, sealed);
+    then_overflow(r, bw, a, b)
+}
+
+// ---- the first half: 1 to 8, and the plan of a frame that passes them
+
+// Whether every value of the row is carried. It looks at all of them, so that the loop has one way out.
+fn all_carried(row: &[u16]) -> bool
+    ensures { λ r. ⌜ r ≡ allCarried (now (row .entry)) ⌝ }
+{
+    let mut all = true;
+    let mut p: usize = 0;
+    while p < row.len() {
+        all = all & resource::is_carried(row[p]);
+        p += 1;
+    }
+    all
+}
+
+// 6, of a frame that has this row. The place of a value that is not carried is looked for only where there is one.
+fn not_carried(bw: u32, a: &[u8], b: &[u8], values: &[u16]) -> Outcome
+    requires { ⌜ (bw ≤ 4) × (now values ≡ row bw (now a) (now b)) ⌝ }
+    ensures { λ r. ⌜ r ≡ check6 bw (now (a .entry)) (now (b .entry)) ⌝ }
+{
+    if all_carried(values) {
+        return Outcome::Pass;
+    }
+    answer::or_else(faults::not_carried(bw, 1, a), faults::not_carried(bw, 2, b))
+}
+
+// What the first half tells of a frame: the outcome of 1 to 8 and, where it passes, its row, 0 past it, and the row's plan.
+pub struct Planned {
+    pub outcome: Outcome,
+    pub row: [u16; 16],
+    pub kinds: [u16; 16],
+    pub shared: u32,
+    pub fields1: usize,
+    pub fields2: usize,
+}
+
+fn refused(outcome: Outcome) -> Planned
+    ensures { λ r. ⌜ r ≡ noPlan outcome ⌝ }
+{
+    Planned {
+        outcome,
+        row: [0u16; 16],
+        kinds: [0u16; 16],
+        shared: 0,
+        fields1: 0,
+        fields2: 0,
+    }
+}
+
+// The row is filled once, and its plan made once.
+pub fn plan_frame(bw: u32, a: &[u8], b: &[u8], sealed: bool) -> Planned
+    requires { ⌜ (sealed ≡ true → Sealed bw (now a) (now b)) ⌝ }
+    ensures { λ r. ⌜ r ≡ plannedOf bw (now (a .entry)) (now (b .entry)) ⌝ }
+{
+    let five = first_five(bw, a, b, sealed);
+    if let Outcome::Refuse(_) = five {
+        return refused(five);
+    }
+    let row = channel::fill_row(bw, a, b);
+    let p = channel::positions_of(bw);
+    let six = not_carried(bw, a, b, &row[..p]);
+    if let Outcome::Refuse(_) = six {
+        return refused(six);
+    }
+    let plan = plan::plan_of(&row[..p]);
+    let outcome = plan.outcome;
+    let kinds = plan.kinds;
+    Planned {
+        outcome,
+        row,
+        kinds,
+        shared: plan.shared,
+        fields1: plan.fields1,
+        fields2: plan.fields2,
+    }
+}
+
+// ---- the second half, whatever the room: 9 to 11, of n fields in channel 1 and m in channel 2
+
+fn then_wrong_users(
+    prev: Outcome,
+    bw: u32,
+    a: &[u8],
+    b: &[u8],
+    n: usize,
+    m: usize,
+    sealed: bool,
+) -> Outcome
+    requires { ⌜ (sealed ≡ true → Sealed bw (now a) (now b)) × (n ≤ 72) × (m ≤ 72) × (n ≡ count bw 1 (now a)) × (m ≡ count bw 2 (now b)) ⌝ }
+    ensures { λ r. ⌜ r ≡ (prev or check10 bw (now (a .entry)) (now (b .entry))) ⌝ }
+{
+    if let Outcome::Refuse(_) = prev {
+        return prev;
+    }
+    if sealed {
+        return prev;
+    }
+    answer::or_else(
+        faults::wrong_users(bw, 1, a, n),
+        faults::wrong_users(bw, 2, b, m),
+    )
+}
+
+fn then_twice(prev: Outcome, bw: u32, a: &[u8], b: &[u8], n: usize, m: usize) -> Outcome
+    requires { ⌜ (n ≤ 72) × (m ≤ 72) × (n ≡ count bw 1 (now a)) × (m ≡ count bw 2 (now b)) ⌝ }
+    ensures { λ r. ⌜ r ≡ (prev or check11 bw (now (a .entry)) (now (b .entry))) ⌝ }
+{
+    if let Outcome::Refuse(_) = prev {
+        return prev;
+    }
+    stations::station_twice(bw, a, b, n, m)
+}
+
+pub fn then_users(
+    prev: Outcome,
+    bw: u32,
+    a: &[u8],
+    b: &[u8],
+    n: usize,
+    m: usize,
+    sealed: bool,
+) -> Outcome
+    requires { ⌜ (sealed ≡ true → Sealed bw (now a) (now b)) × AtMost512 (now a) (now b) × (n ≤ 72) × (m ≤ 72) × (n ≡ count bw 1 (now a)) × (m ≡ count bw 2 (now b)) ⌝ }
+    ensures { λ r. ⌜ r ≡ (prev or outcome9to11 bw (now (a .entry)) (now (b .entry))) ⌝ }
+{
+    if let Outcome::Refuse(_) = prev {
+        return prev;
+    }
+    let r = answer::or_else(
+        faults::cut_users(bw, 1, a, n),
+        faults::cut_users(bw, 2, b, m),
+    );
+    let r = then_wrong_users(r, bw, a, b, n, m, sealed);
+    then_twice(r, bw, a, b, n, m)
+}

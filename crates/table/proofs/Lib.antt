@@ -1,6 +1,0 @@
-pub mod Rows
-pub mod Counts
-pub mod Carried
-pub mod Half
-pub mod Agree
-pub mod Exactly

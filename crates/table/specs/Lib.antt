@@ -1,4 +1,0 @@
-pub mod Table
-pub mod Stages
-pub mod Half
-pub mod Judged

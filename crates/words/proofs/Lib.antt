@@ -1,0 +1,2 @@
+pub mod Pack
+pub mod Laws
