@@ -14,7 +14,9 @@ use Rattle.answer.specs.declared.Outcome.the-variants.{Pass, Refuse}
 use Rattle.answer.proofs.Order.{or-refuse, or-next, or-pass, if-pass, pass-not-refuse}
 use Rattle.bits.specs.Bits.{Small}
 use Rattle.plan.specs.Answers.{segments, SomePlanOfEight, SegmentPlan, SegmentPlanOfEight, Laid, accepted, no-plan, over-eight}
-use Rattle.plan.specs.Engine.{outcome7, outcome8, planOutcome}
+use Rattle.plan.specs.Engine.{planOutcome}
+use Rattle.plan.specs.Worked.{outcome7, outcome8}
+use Rattle.plan.proofs.Worked.{outcome-is}
 use Rattle.plan.proofs.Laid.{outcome-laid, part-signals}
 use Rattle.plan.proofs.Demand.{plan-accepted, plan-parts}
 use Rattle.channel.specs.Layout.{row}
@@ -53,16 +55,17 @@ module _ (bw : ℕ) (r a b : List ℕ) (room : ℕ) (h : CarryRow bw r a b) wher
 
   -- and 7 and 8 are the layout's
   of-7 : x .number ≡ 7 → planOutcome r ≡ Refuse x
-  unfolding check7 planOutcome
+  unfolding check7
   of-7 e =
       let p = refused-exactly bw a b room 6 (omega arith) e in
-      or-refuse (outcome7 r) (outcome8 r) x (ap outcome7 (sym (h .the-row)) ∙ p .refuses)
+      outcome-is r ∙ or-refuse (outcome7 r) (outcome8 r) x (ap outcome7 (sym (h .the-row)) ∙ p .refuses)
 
   of-8 : x .number ≡ 8 → planOutcome r ≡ Refuse x
-  unfolding check7 check8 planOutcome
+  unfolding check7 check8
   of-8 e =
       let p = refused-exactly bw a b room 7 (omega arith) e in
-      or-next (outcome7 r) (outcome8 r) (ap outcome7 (sym (h .the-row)) ∙ p .nothing-earlier 6 (omega arith))
+      outcome-is r
+      ∙ or-next (outcome7 r) (outcome8 r) (ap outcome7 (sym (h .the-row)) ∙ p .nothing-earlier 6 (omega arith))
       ∙ ap outcome8 (sym (h .the-row))
       ∙ p .refuses
 

@@ -12,7 +12,7 @@ use Rattle.answer.specs.Lists.{build, at}
 use Rattle.bits.specs.Bits.{field}
 use Rattle.resource.specs.Values.{fieldsOf}
 use Rattle.plan.specs.Fields.{shared}
-use Rattle.plan.specs.Engine.{onlyPlan}
+use Rattle.plan.specs.Worked.{thePlan}
 use Rattle.channel.specs.Layout.{overflow, firstBits, secondAt, secondBits, subfieldsIn, value, row, total, count, userAt}
 use Rattle.words.specs.Words.{header, userWord}
 
@@ -28,10 +28,10 @@ giver bw c s j = least (λ k. ltb j (before bw s (k + 1))) (subfieldsIn bw c)
 abbrev pub positionOf : ℕ → ℕ → ℕ
 positionOf c k = 2 * k + (c - 1)
 
--- whether the fields of a position share their resource, "over both channels together", in the row's only plan; for an
--- accepted frame it is so of the resource that owns the field in any plan (`carried/proofs/Formats.antt`: `user-words`)
+-- whether the fields of a position share their resource, "over both channels together", in the row's plan; for an accepted
+-- frame it is so of the resource that owns the field in any plan (`claims/specs/Formats.antt`)
 abbrev pub sharedAt : List ℕ → ℕ → Bool
-sharedAt r p = shared (onlyPlan (at r)) (at r) p
+sharedAt r p = shared (thePlan r) (at r) p
 
 -- the word of User field j of channel c, whose bytes are s, in a frame whose row is r
 unfoldable pub userWordAt : ℕ → List ℕ → ℕ → List ℕ → ℕ → ℕ

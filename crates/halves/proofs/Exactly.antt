@@ -9,7 +9,8 @@ use Rattle.answer.specs.Answer.{no}
 use Rattle.answer.proofs.Order.{Only, only-if, only-or, Gives, none, more, refuse-if}
 use Rattle.answer.specs.declared.Answer.{Answer}
 use Rattle.answer.specs.declared.Outcome.{Outcome}
-use Rattle.plan.specs.Engine.{firstWrong, firstOver, outcome7, outcome8}
+use Rattle.plan.specs.Answers.{segments}
+use Rattle.plan.specs.Worked.{hasPlan, hasPlanOfEight, lowestWithout, outcome7, outcome8}
 use Rattle.channel.specs.Layout.{row, count, userAt}
 use Rattle.faults.proofs.Passing.{tooLong-only, cutCommon-only, wrongCommon-only, overflowDiffers-only, notCarried-only, cutUsers-only, wrongUsers-only}
 use Rattle.stations.specs.Stations.{stationTwice, stationPlace, firstRepeated}
@@ -58,11 +59,11 @@ module _ (bw : ℕ) (a b : List ℕ) where
 
   only-7 : Only 7 (check7 bw a b)
   unfolding check7 outcome7
-  only-7 = only-if (ltb (firstWrong (row bw a b)) (length (row bw a b))) 7 0 (firstWrong (row bw a b) / 4)
+  only-7 = only-if _ 7 0 (lowestWithout (hasPlan (row bw a b)) (segments (row bw a b)))
 
   only-8 : Only 8 (check8 bw a b)
   unfolding check8 outcome8
-  only-8 = only-if (ltb (firstOver (row bw a b)) (length (row bw a b))) 8 0 (firstOver (row bw a b) / 4)
+  only-8 = only-if _ 8 0 (lowestWithout (hasPlanOfEight (row bw a b)) (segments (row bw a b)))
 
   only-9 : Only 9 (check9 bw a b)
   unfolding check9

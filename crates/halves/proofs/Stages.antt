@@ -11,13 +11,14 @@ use Rattle.answer.specs.declared.Outcome.{Outcome}
 use Rattle.answer.specs.declared.Outcome.the-variants.{Pass}
 use Rattle.answer.proofs.Order.{first-chain, pass-left, pass-right, pass-if, or-assoc}
 use Rattle.plan.specs.Engine.{planOutcome}
+use Rattle.plan.proofs.Worked.{outcome-is}
 use Rattle.channel.specs.Layout.{row}
 use Rattle.faults.specs.Checks.{tooLong}
 use Rattle.halves.specs.Table.{check1, check2, check3, check4, check5, check6, check7, check8, check9, check10, check11, outcome11, outcome6}
 use Rattle.halves.specs.Engine.{outcome5, outcome9to11, AtMost512}
 
 pub outcome11-stages : (bw : ℕ) (a b : List ℕ) → outcome11 bw a b ≡ outcome6 bw a b or planOutcome (row bw a b) or outcome9to11 bw a b
-unfolding outcome11 outcome6 outcome9to11 planOutcome check7 check8
+unfolding outcome11 outcome6 outcome9to11 check7 check8
 outcome11-stages bw a b =
     first-chain (check1 bw)
     (check2 bw a b
@@ -32,6 +33,7 @@ outcome11-stages bw a b =
     ∷ check11 bw a b
     ∷ [])
     ∙ simp or-assoc
+    ∙ ap (λ (o : Outcome). outcome6 bw a b or o or outcome9to11 bw a b) (sym (outcome-is (row bw a b)))
 
 or-false : (s t : Bool) → s || t ≡ false → s ≡ false
 or-false true t e = e

@@ -1,15 +1,15 @@
 -- 01's table, "What comes back", up to 11.
 --
 -- "Checks run in number order"; "inside one, channel 1 first, lowest bit first". The tests of 2 to 6, 9 and 10 are
--- `faults`', that of 11 is `stations`'. Those of 7 and 8 are `plan`'s: it works out the answer that 01's plan allows, and
--- no other (`plan/proofs/Laid.antt`: `layout-laid`, `laid-is`). a and b are the bytes of channel 1 and channel 2.
+-- `faults`', that of 11 is `stations`'. Those of 7 and 8 are `plan`'s, beside which stands that they are what a plan that
+-- signals the row allows (`plan/specs/Worked.antt`). a and b are the bytes of channel 1 and channel 2.
 use mathlib.Core.List.{List, [], _∷_}
 use Prim.Native.Nat.{ℕ}
 use lib.Dec.{ltb}
 use Rattle.answer.specs.Answer.{no, refuseIf, _or_}
 use Rattle.answer.specs.Order.{firstOf}
 use Rattle.answer.specs.declared.Outcome.{Outcome}
-use Rattle.plan.specs.Engine.{outcome7, outcome8}
+use Rattle.plan.specs.Worked.{outcome7, outcome8}
 use Rattle.channel.specs.Layout.{row, count}
 use Rattle.faults.specs.Checks.{tooLong, cutCommon, wrongCommon, overflowDiffers, notCarried, cutUsers, wrongUsers}
 use Rattle.stations.specs.Stations.{stationTwice}

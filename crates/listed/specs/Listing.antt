@@ -11,10 +11,10 @@ use Rattle.answer.specs.declared.Answer.{Answer}
 use Rattle.answer.specs.declared.Outcome.{Outcome}
 use Rattle.answer.specs.declared.Outcome.the-variants.{Pass, Refuse}
 use Rattle.answer.specs.Lists.{at}
-use Rattle.plan.specs.Engine.{onlyPlan}
+use Rattle.plan.specs.Worked.{thePlan}
 use Rattle.records.specs.declared.Record.{Record}
 use Rattle.records.specs.Records.{listAt, recordsOf, blank}
-use Rattle.records.specs.Engine.{ownerOf}
+use Rattle.records.specs.Worked.{theOwner}
 use Rattle.channel.specs.Layout.{row, count}
 use Rattle.stations.specs.Stations.{stationOf}
 use Rattle.halves.specs.Table.{outcome11, checks11}
@@ -36,7 +36,7 @@ listedAt r c p = listAt c (at r) p
 
 -- the plan's resources, "by lowest position, then frequency"
 abbrev pub resources : List ℕ → List Record
-resources r = recordsOf (onlyPlan (at r)) r
+resources r = recordsOf (thePlan r) r
 
 -- a `ru=` line for each
 unfoldable pub ruLines : ℕ → List Record → List ℕ
@@ -44,7 +44,7 @@ ruLines n rs = upto (λ i. recordLine n (getD rs i blank)) (length rs)
 
 -- the resource that owns User field i over both channels, m of which are channel 1's
 unfoldable pub ownerIn : List ℕ → ℕ → ℕ → ℕ
-ownerIn r m i = cond (ltb i m) (ownerOf (onlyPlan (at r)) (at r) 0 (length r) i) (ownerOf (onlyPlan (at r)) (at r) 1 (length r) (i - m))
+ownerIn r m i = cond (ltb i m) (theOwner r 0 i) (theOwner r 1 (i - m))
 
 -- "sta= lines follow the User words": channel 1's fields first; `resource=` counts from 1 over the whole listing
 unfoldable pub staLineAt : ℕ → List ℕ → List ℕ → List ℕ → ℕ → ℕ → List ℕ

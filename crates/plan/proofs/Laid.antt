@@ -17,7 +17,7 @@ use Rattle.answer.specs.Lists.{at}
 use Rattle.plan.specs.Signals.{Place, Fits, Signals}
 use Rattle.plan.specs.Fields.{total}
 use Rattle.plan.specs.Answers.{segments, segmentEnd, SomePlan, SomePlanOfEight, SegmentPlan, SegmentPlanOfEight, Laid, accepted, no-plan, over-eight}
-use Rattle.plan.specs.Engine.{onlyPlan, fitting, rightAt, wrongAt, overAt, firstWrong, firstOver, outcome7, outcome8, planOutcome}
+use Rattle.plan.specs.Engine.{onlyPlan, fitting, rightAt, wrongAt, overAt, firstWrong, firstOver, planOutcome}
 use Rattle.plan.proofs.Tests.{Tested, ltb-decides}
 use Rattle.plan.proofs.Table.{not-both, place-segment, within-yes, yes-within}
 use Rattle.plan.proofs.Only.{Ends, signalled, only-known}
@@ -76,7 +76,7 @@ module _ (row : List ℕ) (s : ℕ) (h : s < segments row) where
       let e = place-segment (onlyPlan (at row) p) p q (only-known (at row) p) w in
       omega arith)
 
-  segment-total : (w : SegmentPlanOfEight row s) (p : ℕ) → 4 * s ≤ p → p < segmentEnd row s → total (onlyPlan (at row) p) (at row) p ≤ 8
+  pub segment-total : (w : SegmentPlanOfEight row s) (p : ℕ) → 4 * s ≤ p → p < segmentEnd row s → total (onlyPlan (at row) p) (at row) p ≤ 8
   segment-total w p l u =
       rw (← signalled (w .0) (at row) (4 * s) (segmentEnd row s) (segment-ends row s h) (w .1) p l u) (w .2 p l u)
 
@@ -96,7 +96,7 @@ part-signals row s o w =
 pub part-plan : (row : List ℕ) → SomePlan row 0 (length row) → (s : ℕ) → SegmentPlan row s
 part-plan row w s = (w .0, part-signals row s (w .0) (w .1))
 
-part-eight : (row : List ℕ) → SomePlanOfEight row 0 (length row) → (s : ℕ) → SegmentPlanOfEight row s
+pub part-eight : (row : List ℕ) → SomePlanOfEight row 0 (length row) → (s : ℕ) → SegmentPlanOfEight row s
 part-eight row w s = (w .0, part-signals row s (w .0) (w .1), λ p l u. w .2 p (omega arith) (omega arith))
 
 -- and the only plan signals the row where every position is right
@@ -130,7 +130,7 @@ module _ (row : List ℕ) where
   over-most = least-le (overAt row) (length row)
 
   pub outcome-laid : Laid row (planOutcome row)
-  unfolding planOutcome outcome7 outcome8 _or_
+  unfolding planOutcome _or_
   outcome-laid = go (ltb (firstWrong row) (length row)) (ltb (firstOver row) (length row)) refl refl
     where
       go : (a b : Bool) → ltb (firstWrong row) (length row) ≡ a → ltb (firstOver row) (length row) ≡ b
@@ -179,7 +179,7 @@ laid-is row x w = laid-same row x (planOutcome row) w (outcome-laid row)
 
 -- a row that is accepted has no resource over eight
 pub none-over : (row : List ℕ) → planOutcome row ≡ Pass → firstOver row ≡ length row
-unfolding planOutcome outcome8
+unfolding planOutcome
 none-over row e =
-    let l : length row ≤ firstOver row = ltb-false (firstOver row) (length row) (pass-if _ _ (pass-right (outcome7 row) _ e)) in
+    let l : length row ≤ firstOver row = ltb-false (firstOver row) (length row) (pass-if _ _ (pass-right _ _ e)) in
     omega (arith, over-most row)

@@ -6,7 +6,7 @@ pub mod Only
 pub mod Found
 pub mod Parts
 pub mod Laid
+pub mod Worked
 pub mod Value
 pub mod Demand
 pub mod Agree
-pub mod Decides

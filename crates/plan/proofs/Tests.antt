@@ -6,7 +6,7 @@ use Prim.Native.Nat.{ℕ, _≤_, _<_}
 use native.Mathlib.Omega.{arith}
 use lib.Dec.{ltb, leb, eqb}
 use borrow.Author.Tests.{ltb-true, ltb-false, eqb-true, eqb-false, leb-true, leb-false}
-use Rattle.plan.proofs.Decides.{Decides}
+use Rattle.plan.specs.Decides.{Decides}
 
 -- what a test's outcome says
 abbrev pub Tested : Bool → Type 0 → Type 0

@@ -20,7 +20,7 @@ use Rattle.resource.specs.Values.{fieldsOf}
 use Rattle.resource.proofs.Fields.{fields-most as most-fields}
 use Rattle.answer.specs.Lists.{at}
 use Rattle.plan.specs.Fields.{total, shared, fieldsTo}
-use Rattle.plan.specs.Engine.{firstNamed, choose, onlyPlan, fitting, within, rightAt, wrongAt, overAt, firstWrong, firstOver, outcome7, outcome8, planOutcome, sharedTo, kindsOf, planOf}
+use Rattle.plan.specs.Engine.{firstNamed, choose, onlyPlan, fitting, within, rightAt, wrongAt, overAt, firstWrong, firstOver, planOutcome, sharedTo, kindsOf, planOf}
 use Rattle.plan.proofs.Table.{equal-or}
 use Rattle.plan.proofs.Only.{only-known}
 use Rattle.plan.proofs.Laid.{none-over}
@@ -149,7 +149,7 @@ module _ (c : ℕ) (row : ℕ → ℕ) where
 -- ---- the value
 pub out-is : (row : List ℕ) (w v : ℕ) (a b r : Outcome) → w ≡ firstWrong row → v ≡ firstOver row → a ≡ refuseIf (ltb w (length row)) (no 7 0 (w / 4))
     → b ≡ refuseIf (ltb v (length row)) (no 8 0 (v / 4)) → r ≡ (a or b) → r ≡ planOutcome row
-unfolding planOutcome outcome7 outcome8
+unfolding planOutcome
 out-is row w v a b r ew ev ea eb er = er ∙ rw (ea, eb, ew, ev)
 
 pub plan-is : (row kinds : List ℕ) (o : Outcome) (s f g : ℕ) → o ≡ planOutcome row → kinds ≡ kindsOf row → s ≡ sharedTo row (firstOver row)

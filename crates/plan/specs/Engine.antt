@@ -1,5 +1,5 @@
 -- Engine: the only plan that can signal a row, worked out from the row, and the plan as the value that the code makes. The contracts of the code
--- cite it; nobody has to believe it: `Answers.antt` says what it is, and `proofs/` shows it.
+-- cite it; nobody has to believe it: `Worked.antt` says what it is, and `proofs/Worked.antt` shows it.
 use mathlib.Core.Bool.{Bool, cond, not, _||_, _&&_}
 use mathlib.Core.List.{List}
 use Prim.Native.Nat.{ℕ, zero, suc, _+_, _-_, _*_, _/_, _%_, _^_}
@@ -12,6 +12,7 @@ use Rattle.answer.specs.Lists.{filled, at}
 use Rattle.resource.specs.Values.{smallerAt}
 use Rattle.plan.specs.Kinds.{none, family, span, mask, takes, blankAt, mustName}
 use Rattle.plan.specs.Fields.{total, shared, fieldsTo}
+use Rattle.plan.specs.Answers.{segmentEnd}
 use Rattle.plan.specs.declared.Plan.{Plan}
 
 -- the kind that has the family f
@@ -68,16 +69,22 @@ firstWrong row = least (wrongAt row) (length row)
 unfoldable pub firstOver : List ℕ → ℕ
 firstOver row = least (overAt row) (length row)
 
--- "7 | no plan, even with any number of fields | 0, lowest such segment"
-unfoldable pub outcome7 : List ℕ → Outcome
-outcome7 row = refuseIf (ltb (firstWrong row) (length row)) (no 7 0 (firstWrong row / 4))
-
--- "8 | plan, but a resource over eight fields | 0, lowest such segment"
-unfoldable pub outcome8 : List ℕ → Outcome
-outcome8 row = refuseIf (ltb (firstOver row) (length row)) (no 8 0 (firstOver row / 4))
-
+-- 7 and 8, by positions: the answer of `Worked.antt` (`proofs/Worked.antt`: `outcome-is`)
 unfoldable pub planOutcome : List ℕ → Outcome
-planOutcome row = outcome7 row or outcome8 row
+planOutcome row =
+    refuseIf (ltb (firstWrong row) (length row)) (no 7 0 (firstWrong row / 4))
+    or refuseIf (ltb (firstOver row) (length row)) (no 8 0 (firstOver row / 4))
+
+-- none of the positions from a up to b fails the test
+unfoldable pub everyFrom : (ℕ → Bool) → ℕ → ℕ → Bool
+everyFrom fails a b = eqb (least (λ j. fails (a + j)) (b - a)) (b - a)
+
+-- what the only plan gives is right in all of segment s; no resource of it is over eight
+unfoldable pub segmentRight : List ℕ → ℕ → Bool
+segmentRight row s = everyFrom (wrongAt row) (4 * s) (segmentEnd row s)
+
+unfoldable pub segmentWithin : List ℕ → ℕ → Bool
+segmentWithin row s = everyFrom (overAt row) (4 * s) (segmentEnd row s)
 
 -- the bit of each of the first n positions is set whose User fields share their resource
 unfoldable pub sharedTo : List ℕ → ℕ → ℕ

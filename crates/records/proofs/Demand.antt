@@ -10,6 +10,7 @@ use Rattle.plan.specs.Engine.{onlyPlan}
 use Rattle.plan.proofs.Demand.{only-plan, one-plan}
 use Rattle.records.specs.Demand.{Width, Sound, Shared}
 use Rattle.records.specs.Records.{recordsFrom, recordsOf}
+use Rattle.records.specs.Engine.{ownerOf}
 use Rattle.records.proofs.Listing.{same-records}
 use Rattle.records.proofs.Owners.{one-owner, owner-owns}
 use Rattle.records.proofs.Subcarriers.{no-shared, inside-channel, none-punctured}
@@ -28,7 +29,7 @@ sound o row n w =
 
 pub shared : (o row : ℕ → ℕ) (n : ℕ) → Signals o row 0 n → Shared o row n (recordsFrom o row n)
 shared o row n s = record {
-  owned = λ c j h. (owner-listed o row n s c j h, owner-owns o row n s c j h);
+  owned = λ c j h. (ownerOf o row c n j, owner-listed o row n s c j h, owner-owns o row n s c j h);
   only = one-owner o row n;
   shares = owns-share o row n s;
   complete = shares-all o row n s;

@@ -9,3 +9,4 @@ pub mod Subcarriers
 pub mod Shares
 pub mod Sizes
 pub mod Demand
+pub mod Worked

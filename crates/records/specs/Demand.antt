@@ -8,7 +8,6 @@ use lib.ListN.{length, getD}
 use Rattle.records.specs.declared.Record.{Record}
 use Rattle.records.specs.Records.{blank, HasTone, Punctured, RightRecord}
 use Rattle.records.specs.Owns.{fieldsBefore, Owns, Counts, shareOf, allShares}
-use Rattle.records.specs.Engine.{ownerOf}
 
 -- 01's numbers of positions
 abbrev pub Width : ℕ → Type 0
@@ -31,8 +30,8 @@ pub record Sound (n : ℕ) (row : ℕ → ℕ) (rs : List Record) : Type 0 where
 
 -- ---- whose field is whose, in a row of any length
 pub record Shared (o row : ℕ → ℕ) (n : ℕ) (rs : List Record) : Type 0 where
-  -- "each User field in either channel has exactly one resource": the one that the program finds
-  pub owned : (c j : ℕ) → j < fieldsBefore c row n → (ownerOf o row c n j < length rs) × Owns o row n (ownerOf o row c n j) c j
+  -- "each User field in either channel has exactly one resource"
+  pub owned : (c j : ℕ) → j < fieldsBefore c row n → (i : ℕ) × (i < length rs) × Owns o row n i c j
   pub only : (i i′ c j : ℕ) → Owns o row n i c j → Owns o row n i′ c j → i ≡ i′
   -- a resource owns as many of each channel's as its share says ..
   pub shares : (i c : ℕ) → i < length rs → c < 2 → Counts (Owns o row n i c) (fieldsBefore c row n) (shareOf c (resourceIn rs i))

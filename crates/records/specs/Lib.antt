@@ -1,4 +1,5 @@
 pub mod Records
 pub mod Owns
 pub mod Engine
+pub mod Worked
 pub mod Demand
