@@ -17,7 +17,9 @@ use Rattle.frame.specs.Words.{wordsOf}
 use Rattle.frame.proofs.Determine.{words-length}
 use Rattle.frame.proofs.Counted.{word-count-le}
 use Rattle.candidate.specs.Engine.{candidate}
-use Rattle.writer.specs.Result.{sameWords, readsTo, notRead, check13, check14, writeOutcome}
+use Rattle.writer.specs.Engine.{sameWords, readsTo}
+use Rattle.writer.specs.Worked.{someRead}
+use Rattle.writer.specs.Result.{check13, check14, writeOutcome}
 use Rattle.octets.specs.Octets.{wordAt, wordsIn}
 use Rattle.brachymel.specs.Bytes.{ragged, bytesOutcome}
 use Rattle.brachymel.specs.Engine.{early}
@@ -33,7 +35,7 @@ not-so-many bw a b w l =
     go false = refl
 
 pub too-many : (bw : ℕ) (w : List ℕ) → 154 < length w → check13 bw w ≡ Refuse (no 13 0 0)
-unfolding check13 notRead
+unfolding check13 someRead
 too-many bw w l = rw (not-so-many bw (candidate bw w 1) (candidate bw w 2) w l)
 
 -- the refusal that comes early is the text's

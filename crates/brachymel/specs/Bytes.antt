@@ -15,7 +15,7 @@ use Rattle.halves.specs.Table.{check1}
 use Rattle.frame.specs.Words.{wordCount, wordsOf}
 use Rattle.reader.specs.Table.{readOutcome}
 use Rattle.reader.specs.Result.{answerOf}
-use Rattle.candidate.specs.Engine.{needed, candidate}
+use Rattle.writer.specs.Worked.{theChannel, theBytes}
 use Rattle.writer.specs.Result.{writeOutcome, front, check13, check14}
 use Rattle.octets.specs.Octets.{byteAt, wordsIn}
 
@@ -38,11 +38,11 @@ unfoldable pub bytesOutcome : ℕ → List ℕ → ℕ → ℕ → Outcome
 bytesOutcome bw t n m = check1 bw or ragged t or writeOutcome bw (wordsIn t) n m
 
 unfoldable pub writeAnswer : ℕ → List ℕ → ℕ → ℕ → Answer
-writeAnswer bw t n m = answerAt (bytesOutcome bw t n m) (needed bw (wordsIn t))
+writeAnswer bw t n m = answerAt (bytesOutcome bw t n m) (theBytes bw (wordsIn t))
 
 -- channel c afterwards, which was d
 unfoldable pub writeChannel : ℕ → List ℕ → ℕ → ℕ → ℕ → List ℕ → List ℕ
-writeChannel bw t n m c d = after (bytesOutcome bw t n m) (front (candidate bw (wordsIn t) c) d) d
+writeChannel bw t n m c d = after (bytesOutcome bw t n m) (front (theChannel bw (wordsIn t) c) d) d
 
 -- the writer's rows, of a text: what is no whole words is 13 too
 abbrev pub bytesChecks : ℕ → List ℕ → ℕ → ℕ → List Outcome

@@ -15,7 +15,7 @@ use Rattle.answer.specs.Order.{Judged}
 use Rattle.frame.specs.Words.{wordCount}
 use Rattle.reader.specs.Table.{readNumbers, readChecks}
 use Rattle.reader.proofs.read.Reads as read
-use Rattle.candidate.specs.Engine.{needed}
+use Rattle.writer.specs.Worked.{theBytes}
 use Rattle.writer.specs.Result.{writeNumbers, writeChecks}
 use Rattle.writer.proofs.write.Reads as write
 use Rattle.listed.specs.Listing.{listing, listNumbers, listChecks}
@@ -33,14 +33,14 @@ pub record First : Type 1 where
   pub read-ends : (κs : _) (a : _) (r : _) (s : _) → read.Post κs a r s
       → Judged readNumbers (readChecks (a .0) (now (a .1 .0)) (now (a .1 .1 .0)) (length (now (a .1 .1 .1 .0)))) (wordCount (a .0) (now (a .1 .0)) (now (a .1 .1 .0))) r
   pub write-ends : (κs : _) (a : _) (r : _) (s : _) → write.Post κs a r s
-      → Judged writeNumbers (writeChecks (a .0) (now (a .1 .0)) (length (now (a .1 .1 .0))) (length (now (a .1 .1 .1 .0)))) (needed (a .0) (now (a .1 .0))) r
+      → Judged writeNumbers (writeChecks (a .0) (now (a .1 .0)) (length (now (a .1 .1 .0))) (length (now (a .1 .1 .1 .0)))) (theBytes (a .0) (now (a .1 .0))) r
   pub list-ends : (κs : _) (a : _) (r : _) (s : _) → list.Post κs a r s
       → Judged listNumbers (listChecks (a .0) (now (a .1 .0)) (now (a .1 .1 .0)) (length (now (a .1 .1 .1 .0)))) (length (listing (a .0) (now (a .1 .0)) (now (a .1 .1 .0)))) r
   -- from C: room in whole words, and 13 where the words' bytes are not whole words
   pub c-read-ends : (κs : _) (a : _) (r : _) (s : _) → c-read.Post κs a r s
       → Judged readNumbers (readChecks (a .0) (now (a .1 .0)) (now (a .1 .1 .0)) (length (now (a .1 .1 .1 .0)) / 4)) (wordCount (a .0) (now (a .1 .0)) (now (a .1 .1 .0))) r
   pub c-write-ends : (κs : _) (a : _) (r : _) (s : _) → c-write.Post κs a r s
-      → Judged writeNumbers (bytesChecks (a .0) (now (a .1 .0)) (length (now (a .1 .1 .0))) (length (now (a .1 .1 .1 .0)))) (needed (a .0) (wordsIn (now (a .1 .0)))) r
+      → Judged writeNumbers (bytesChecks (a .0) (now (a .1 .0)) (length (now (a .1 .1 .0))) (length (now (a .1 .1 .1 .0)))) (theBytes (a .0) (wordsIn (now (a .1 .0)))) r
   pub c-list-ends : (κs : _) (a : _) (r : _) (s : _) → c-list.Post κs a r s
       → Judged listNumbers (listChecks (a .0) (now (a .1 .0)) (now (a .1 .1 .0)) (length (now (a .1 .1 .1 .0)))) (length (listing (a .0) (now (a .1 .0)) (now (a .1 .1 .0)))) r
   -- "No caller checks anything first."

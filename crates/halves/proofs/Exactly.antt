@@ -59,11 +59,11 @@ module _ (bw : ℕ) (a b : List ℕ) where
 
   only-7 : Only 7 (check7 bw a b)
   unfolding check7 outcome7
-  only-7 = only-if _ 7 0 (lowestWithout (hasPlan (row bw a b)) (segments (row bw a b)))
+  only-7 = only-if (ltb (lowestWithout (hasPlan (row bw a b)) (segments (row bw a b))) (segments (row bw a b))) 7 0 (lowestWithout (hasPlan (row bw a b)) (segments (row bw a b)))
 
   only-8 : Only 8 (check8 bw a b)
   unfolding check8 outcome8
-  only-8 = only-if _ 8 0 (lowestWithout (hasPlanOfEight (row bw a b)) (segments (row bw a b)))
+  only-8 = only-if (ltb (lowestWithout (hasPlanOfEight (row bw a b)) (segments (row bw a b))) (segments (row bw a b))) 8 0 (lowestWithout (hasPlanOfEight (row bw a b)) (segments (row bw a b)))
 
   only-9 : Only 9 (check9 bw a b)
   unfolding check9

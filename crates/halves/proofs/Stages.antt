@@ -11,6 +11,7 @@ use Rattle.answer.specs.declared.Outcome.{Outcome}
 use Rattle.answer.specs.declared.Outcome.the-variants.{Pass}
 use Rattle.answer.proofs.Order.{first-chain, pass-left, pass-right, pass-if, or-assoc}
 use Rattle.plan.specs.Engine.{planOutcome}
+use Rattle.plan.specs.Worked.{outcome7, outcome8}
 use Rattle.plan.proofs.Worked.{outcome-is}
 use Rattle.channel.specs.Layout.{row}
 use Rattle.faults.specs.Checks.{tooLong}
@@ -20,20 +21,24 @@ use Rattle.halves.specs.Engine.{outcome5, outcome9to11, AtMost512}
 pub outcome11-stages : (bw : ℕ) (a b : List ℕ) → outcome11 bw a b ≡ outcome6 bw a b or planOutcome (row bw a b) or outcome9to11 bw a b
 unfolding outcome11 outcome6 outcome9to11 check7 check8
 outcome11-stages bw a b =
-    first-chain (check1 bw)
-    (check2 bw a b
-    ∷ check3 bw a b
-    ∷ check4 bw a b
-    ∷ check5 bw a b
-    ∷ check6 bw a b
-    ∷ check7 bw a b
-    ∷ check8 bw a b
-    ∷ check9 bw a b
-    ∷ check10 bw a b
-    ∷ check11 bw a b
-    ∷ [])
-    ∙ simp or-assoc
+    in-order
     ∙ ap (λ (o : Outcome). outcome6 bw a b or o or outcome9to11 bw a b) (sym (outcome-is (row bw a b)))
+  where
+    in-order : outcome11 bw a b ≡ outcome6 bw a b or (outcome7 (row bw a b) or outcome8 (row bw a b)) or outcome9to11 bw a b
+    in-order =
+        first-chain (check1 bw)
+        (check2 bw a b
+        ∷ check3 bw a b
+        ∷ check4 bw a b
+        ∷ check5 bw a b
+        ∷ check6 bw a b
+        ∷ check7 bw a b
+        ∷ check8 bw a b
+        ∷ check9 bw a b
+        ∷ check10 bw a b
+        ∷ check11 bw a b
+        ∷ [])
+        ∙ simp or-assoc
 
 or-false : (s t : Bool) → s || t ≡ false → s ≡ false
 or-false true t e = e

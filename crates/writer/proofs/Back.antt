@@ -19,7 +19,7 @@ use Rattle.reader.proofs.Stages.{reading-stages}
 use Rattle.frame.proofs.Determine.{words-length}
 use Rattle.reader.specs.Result.{answerOf, wordsAfter}
 use Rattle.reader.proofs.Exactly.{accepted-exactly}
-use Rattle.writer.specs.Result.{readsTo}
+use Rattle.writer.specs.Engine.{readsTo}
 use Rattle.writer.proofs.Steps.{reads-no}
 
 module _ (bw : ℕ) (a b : List ℕ) (room : ℕ) (l : 154 ≤ room) where

@@ -34,7 +34,8 @@ use Rattle.candidate.specs.Engine.{overflowIn, valueIn, countIn, firstIn, field
 use Rattle.candidate.specs.Length.{bytesFor}
 use Rattle.candidate.proofs.Contents.{determined}
 use Rattle.candidate.proofs.Held.{needed-1, needed-2, needed-le, present-length, absent-length, Holds, ContentsSaid, all-subfields, candidate-carries, candidate-zero, holds-1, holds-2}
-use Rattle.writer.specs.Result.{unlike, sameWords, readsTo}
+use Rattle.writer.specs.Worked.{ReadsTo}
+use Rattle.writer.specs.Engine.{unlike, sameWords, readsTo}
 
 -- ---- channels that the words speak of
 
@@ -210,11 +211,6 @@ says-same-words v u e =
     rw (eq-eqb (length v) (length u) (ap length e), eq-eqb (least (unlike v u) (length v)) (length v) l)
 
 -- ---- 13's question
-
--- channels that are accepted and read to exactly these words
-pub record ReadsTo (bw : ℕ) (a b w : List ℕ) : Type 0 where
-  pub accepted : outcome11 bw a b ≡ Pass
-  pub the-words : wordsOf bw a b ≡ w
 
 pub reads-to-says : (bw : ℕ) (a b w : List ℕ) → readsTo bw a b w ≡ true → ReadsTo bw a b w
 unfolding readsTo

@@ -15,7 +15,8 @@ use Rattle.answer.proofs.Order.{Only, only-if, only-or, Gives, none, more, dist
 use Rattle.channel.specs.Layout.{present}
 use Rattle.halves.specs.Table.{check1}
 use Rattle.candidate.specs.Engine.{needed, candidate}
-use Rattle.writer.specs.Result.{readsTo, notRead, check13, noChannelRoom, check14, writeOutcome, answerOf, writeNumbers, writeChecks}
+use Rattle.writer.specs.Worked.{someRead}
+use Rattle.writer.specs.Result.{check13, noChannelRoom, check14, writeOutcome, answerOf, writeNumbers, writeChecks}
 
 pub writing-rows : (bw : ℕ) (w : List ℕ) (n m : ℕ) → firstOf (writeChecks bw w n m) ≡ writeOutcome bw w n m
 unfolding writeOutcome
@@ -27,8 +28,8 @@ module _ (bw : ℕ) (w : List ℕ) (n m : ℕ) where
   only-1 = only-if (ltb 4 bw) 1 0 0
 
   pub only-13 : Only 13 (check13 bw w)
-  unfolding check13 notRead
-  only-13 = only-if (not (readsTo bw (candidate bw w 1) (candidate bw w 2) w)) 13 0 0
+  unfolding check13
+  only-13 = only-if (not (someRead bw w)) 13 0 0
 
   pub only-14 : Only 14 (check14 bw w n m)
   unfolding check14 noChannelRoom

@@ -30,12 +30,14 @@ use Rattle.reader.specs.Result as R
 use Rattle.reader.proofs.Stages.{reading-stages}
 use Rattle.reader.proofs.Exactly as E
 use Rattle.reader.proofs.read.Reads as read
-use Rattle.candidate.specs.Engine.{countIn, channelIn, needed, candidate}
+use Rattle.candidate.specs.Engine.{needed, candidate}
 use Rattle.candidate.specs.Length.{bytesFor}
-use Rattle.candidate.proofs.Built.{sealed-small}
 use Rattle.candidate.proofs.Held.{present-length, absent-length}
-use Rattle.writer.specs.Result.{readsTo, notRead, check13, noChannelRoom, check14, writeOutcome, writeChecks, front, answerOf, channelAfter}
-use Rattle.writer.proofs.Candidate.{ReadsTo, reads-to-says, says-reads-to, candidate-reads, accepted-known, same-1, same-2, zero-1, zero-2, reach-1, reach-2, needed-of}
+use Rattle.writer.specs.Engine.{readsTo}
+use Rattle.writer.specs.Worked.{ReadsTo, someRead}
+use Rattle.writer.specs.Result.{check13, noChannelRoom, check14, writeOutcome, writeChecks, front, answerOf, channelAfter}
+use Rattle.writer.proofs.Candidate.{reads-to-says, says-reads-to, candidate-reads, accepted-known, same-1, same-2, zero-1, zero-2, reach-1, reach-2, needed-of}
+use Rattle.writer.proofs.Worked.{candidate-small}
 use Rattle.writer.proofs.Exactly as W
 use Rattle.writer.proofs.write.Reads as write
 use Rattle.writer.specs.Inverse.{Accepts, Given, GivenBack}
@@ -80,7 +82,7 @@ reads-accepts bw a b w₀ w h l =
 
 writing-pass : (bw : ℕ) (w : List ℕ) (n m : ℕ) → bw ≤ 4 → ReadsTo bw (candidate bw w 1) (candidate bw w 2) w
     → needed bw w ≤ n → (present bw 2 ≡ true → needed bw w ≤ m) → writeOutcome bw w n m ≡ Pass
-unfolding writeOutcome check1 check13 notRead check14 noChannelRoom
+unfolding writeOutcome check1 check13 someRead check14 noChannelRoom
 writing-pass bw w n m l h p q =
     or-pass _ _
     (or-pass _ _
@@ -99,7 +101,7 @@ not-true true e = refl
 not-true false e = sym e
 
 pass-reads : (bw : ℕ) (w : List ℕ) (n m : ℕ) → writeOutcome bw w n m ≡ Pass → ReadsTo bw (candidate bw w 1) (candidate bw w 2) w
-unfolding writeOutcome check13 notRead
+unfolding writeOutcome check13 someRead
 pass-reads bw w n m e =
     let f = pass-right (check1 bw) _ (pass-left _ (check14 bw w n m) e) in
     reads-to-says bw (candidate bw w 1) (candidate bw w 2) w (not-true _ (pass-if _ _ f))
@@ -245,7 +247,7 @@ read-after-write κs a r s κs' a' r' s' p q z eb e1 e2 l =
 -- 13 is given: then no channels, of any lengths and with any room, are read to exactly these words
 pub thirteen-none : (κs : _) (a : _) (r : _) (s : _) → write.Post κs a r s → r .number ≡ 13
     → (x y w₀ : List ℕ) → Accepts (a .0) x y w₀ (now (a .1 .0)) → ⊥
-unfolding check13 notRead
+unfolding check13 someRead
 thirteen-none κs a r s p z x y w₀ h =
     let bw = a .0 in
     let w = now (a .1 .0) in
@@ -260,7 +262,7 @@ unfolding check1
 first-passes bw l = if-pass _ _ (le-ltb 4 bw l)
 
 second-refuses : (bw : ℕ) (w : List ℕ) → (ReadsTo bw (candidate bw w 1) (candidate bw w 2) w → ⊥) → check13 bw w ≡ Refuse (A.no 13 0 0)
-unfolding check13 notRead
+unfolding check13 someRead
 second-refuses bw w h = go (readsTo bw (candidate bw w 1) (candidate bw w 2) w) refl
   where
     go : (t : Bool) → readsTo bw (candidate bw w 1) (candidate bw w 2) w ≡ t → refuseIf (not t) (A.no 13 0 0) ≡ Refuse (A.no 13 0 0)
@@ -273,10 +275,6 @@ thirteen-applies bw w n m l h = record { refuses = second-refuses bw w h; nothin
   where
     go : (j : ℕ) → j < 1 → getD (writeChecks bw w n m) j Pass ≡ Pass
     go j k = let z : j ≡ 0 = omega arith in rw z (first-passes bw l)
-
-candidate-small : (bw : ℕ) (w : List ℕ) (c : ℕ) → Small (candidate bw w c)
-unfolding candidate channelIn
-candidate-small bw w c = sealed-small bw (countIn bw w c) _
 
 -- and it is given where there are none, for every bandwidth code up to 4
 pub none-thirteen : (κs : _) (a : _) (r : _) (s : _) → write.Post κs a r s → a .0 ≤ 4

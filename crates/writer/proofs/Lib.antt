@@ -3,5 +3,6 @@ pub mod Exactly
 pub mod Agree
 pub mod Inverse
 pub mod Candidate
+pub mod Worked
 pub mod Steps
 pub mod Sealed

@@ -24,7 +24,9 @@ use Rattle.frame.proofs.Determine.{words-length}
 use Rattle.candidate.specs.Engine.{countIn, needed, bytesIn, channelIn, candidate}
 use Rattle.candidate.specs.Length.{bytesFor}
 use Rattle.candidate.proofs.Held.{present-length, absent-length}
-use Rattle.writer.specs.Result.{unlike, sameWords, readsTo, notRead, check13, noChannelRoom, check14, writeOutcome, front}
+use Rattle.writer.specs.Worked.{someRead}
+use Rattle.writer.specs.Engine.{unlike, sameWords, readsTo, notRead}
+use Rattle.writer.specs.Result.{check13, noChannelRoom, check14, writeOutcome, front}
 
 -- a channel's bytes at the front of the lent ones, one by one
 pub front-filled : (s d : List ℕ) → filled (at s) (length s) d ≡ front s d
@@ -62,7 +64,7 @@ candidate-is bw w c d r e f = rw e at f
 pub writing-is : (bw : ℕ) (w : List ℕ) (n m need : ℕ) (a b : List ℕ) (o : Outcome)
     → a ≡ candidate bw w 1 → b ≡ candidate bw w 2 → need ≡ needed bw w
     → o ≡ (check1 bw or notRead bw a b w or noChannelRoom bw need n m) → writeOutcome bw w n m ≡ o
-unfolding writeOutcome check13 check14
+unfolding writeOutcome check13 someRead notRead check14
 writing-is bw w n m need a b o ea eb en eo = sym (eo ∙ rw (ea, eb, en))
 
 pub record Room (bw : ℕ) (w : List ℕ) (n m : ℕ) : Type 0 where

@@ -1,2 +1,4 @@
+pub mod Engine
+pub mod Worked
 pub mod Result
 pub mod Inverse

@@ -12,7 +12,8 @@ ghost use Rattle.channel.specs.Layout.{present};
 ghost use Rattle.halves.specs.Table.{check1};
 ghost use Rattle.halves.specs.Engine.{Sealed};
 ghost use Rattle.candidate.specs.Engine.{countIn, needed, bytesIn};
-ghost use Rattle.writer.specs.Result.{unlike, sameWords, readsTo, notRead, noChannelRoom, front, answerOf, channelAfter};
+ghost use Rattle.writer.specs.Engine.{unlike, sameWords, readsTo, notRead};
+ghost use Rattle.writer.specs.Result.{noChannelRoom, front, answerOf, channelAfter};
 
 // ---- whether the channels that were built read back
 

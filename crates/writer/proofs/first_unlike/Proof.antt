@@ -1,6 +1,6 @@
 -- `writer::first_unlike` meets its contract.
 use Rattle.writer.proofs.Steps.{unlike-yes, unlike-no}
-use Rattle.writer.specs.Result.{unlike}
+use Rattle.writer.specs.Engine.{unlike}
 use Rattle.answer.specs.Least.{least}
 use Rattle.answer.proofs.Least.{least-start, least-step, least-stop, least-end}
 use lib.ListN.{length}

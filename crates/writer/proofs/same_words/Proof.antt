@@ -1,5 +1,5 @@
 -- `writer::same_words` meets its contract.
-use Rattle.writer.specs.Result.{sameWords}
+use Rattle.writer.specs.Engine.{sameWords}
 use borrow.Author.Tests.{eq-eqb, ne-eqb}
 use lib.ListN.{length}
 use mathlib.Core.Path.{sym}

@@ -1,5 +1,5 @@
 -- `writer::then_not_read` meets its contract.
-use Rattle.writer.specs.Result.{notRead}
+use Rattle.writer.specs.Engine.{notRead}
 use Rattle.answer.specs.Answer.{_or_}
 use mathlib.Core.Path.{_∙_}
 use borrow.Author.Needs.{needs}
