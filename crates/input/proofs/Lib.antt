@@ -1,3 +1,4 @@
 pub mod Exact
+pub mod Worked
 pub mod Agree
 pub mod Turns

@@ -19,7 +19,8 @@ use Rattle.resource.specs.Runs.{offset26, offset52, offset106, wide, narrow, na
 use Rattle.resource.proofs.Test.{both-left, both-right, at-each}
 use Rattle.plan.specs.Fields.{gives, share, fieldsIn}
 use Rattle.plan.specs.Kinds.{kinds, kindAt, family, span, mask, takes, takesBlock, blankAt, mustName}
-use Rattle.plan.specs.Engine.{kindOf, nameOf, orElse, tells, choose, onlyPlan, fitting, within, rightAt, firstOver, outcome7, outcome8, firstWrong as firstNotRight}
+use Rattle.plan.specs.Engine.{kindOf, nameOf, orElse, tells, choose, onlyPlan, fitting, within, rightAt, everyFrom, segmentRight, segmentWithin}
+use Rattle.plan.specs.Worked.{hasPlan, hasPlanOfEight, lowestWithout, outcome7, outcome8}
 use Rattle.records.specs.Records.{lead, listAt}
 use Rattle.records.specs.Engine.{lowest, ownerAt, ownerOf}
 use Rattle.channel.specs.Layout.{positions, present, firsts, seconds, firstBits, secondAt, secondBits, hasSecond, common, subfields, subfieldsIn, valueAt, value, rowAt, row, total, count, userAt, blockAt, blocks, covered, endOf}
@@ -56,7 +57,7 @@ second : ℕ → List ℕ
 second bw = cond (ltb 0 bw) (channel bw) []
 
 is-accepted : (bw : ℕ) → bw < 5 → outcome11 bw (channel bw) (second bw) ≡ Pass
-unfolding times channel second count total present subfieldsIn subfields fieldsOf pieces carried positions row build rowAt value valueAt firsts seconds secondAt firstBits secondBits field bit wrongUsers wrongUsersOf firstWrong wrongBlock least blocks blockAt covered common hasSecond right check sent register step outcome11 check1 check2 check3 check4 check5 check6 check7 check8 check9 check10 check11 tooLong cutCommon wrongFirst wrongSecond wrongCommon overflowDiffers differs uncarried firstUncarried notCarried cutUsers endOf userAt firstRepeated stationTwice outcome7 outcome8 firstNotRight firstOver rightAt within fitting smallerAt onlyPlan choose tells orElse nameOf kindOf mustName blankAt takesBlock takes mask span family kindAt kinds gives share fieldsIn firstOf _or_
+unfolding times channel second count total present subfieldsIn subfields fieldsOf pieces carried positions row build rowAt value valueAt firsts seconds secondAt firstBits secondBits field bit wrongUsers wrongUsersOf firstWrong wrongBlock least blocks blockAt covered common hasSecond right check sent register step outcome11 check1 check2 check3 check4 check5 check6 check7 check8 check9 check10 check11 tooLong cutCommon wrongFirst wrongSecond wrongCommon overflowDiffers differs uncarried firstUncarried notCarried cutUsers endOf userAt firstRepeated stationTwice outcome7 outcome8 lowestWithout hasPlan hasPlanOfEight segmentRight segmentWithin everyFrom rightAt within fitting smallerAt onlyPlan choose tells orElse nameOf kindOf mustName blankAt takesBlock takes mask span family kindAt kinds gives share fieldsIn firstOf _or_
 is-accepted zero l = refl
 is-accepted (suc zero) l = refl
 is-accepted (suc (suc zero)) l = refl

@@ -46,12 +46,10 @@ use Rattle.stations.specs.Stations.{stationAt}
 use Rattle.halves.specs.Table.{outcome11}
 use Rattle.text.specs.Text.{dec, signed, upto, Wrote}
 use Rattle.text.proofs.Laws.{count as written, dec-short, dec-fit, upto-short}
-use Rattle.input.specs.declared.Parsed.{Parsed}
-use Rattle.input.specs.declared.Parsed.the-variants.{Wrong, Lines}
-use Rattle.input.specs.Engine.{parsed, bytesAt, secondAt}
+use Rattle.input.specs.Worked.{Said, wrong, frame, said}
 use Rattle.lines.specs.Lines.{nameText, comma, spanText, tonesText, ruHead, ruLine, staLine, refusalText, headText}
 use Rattle.lines.proofs.LineLaws.{span-short}
-use Rattle.listed.specs.Listing.{recordLine, resources, ruLines, ownerIn, staLineAt, staLines, listingOf, listing, outcomeText, frameText, parsedText, programText}
+use Rattle.listed.specs.Listing.{recordLine, resources, ruLines, ownerIn, staLineAt, staLines, listingOf, listing, outcomeText, frameText, saidText, programText}
 use Rattle.listed.proofs.Owner.{at-small}
 use Rattle.listed.proofs.Accepted.{known-code, accepted-signals}
 use Rattle.listed.proofs.Stations.{fields-1, fields-2}
@@ -384,11 +382,11 @@ frame-most bw a b = go (outcome11 bw a b) refl
 
 pub program-most : (s : List ℕ) → length (programText s) ≤ 10131
 unfolding programText
-program-most s = go (parsed s)
+program-most s = go (said s)
   where
-    go : (x : Parsed) → length (parsedText s x) ≤ 10131
-    go (Wrong k) = omega (arith, refusal-short 22 0 k)
-    go (Lines bw n m) = frame-most bw (bytesAt s 9 n) (bytesAt s (secondAt n) m)
+    go : (x : Said) → length (saidText x) ≤ 10131
+    go (wrong k) = omega (arith, refusal-short 22 0 k)
+    go (frame bw a b) = frame-most bw a b
 
 -- which is how many bytes `listing::respond` says it wrote
 pub respond-most : {d e : List ℕ} {r : ℕ} (s : List ℕ) → Wrote d 0 (programText s) e r → r ≤ 10131

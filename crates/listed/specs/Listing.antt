@@ -19,9 +19,7 @@ use Rattle.channel.specs.Layout.{row, count}
 use Rattle.stations.specs.Stations.{stationOf}
 use Rattle.halves.specs.Table.{outcome11, checks11}
 use Rattle.text.specs.Text.{upto}
-use Rattle.input.specs.declared.Parsed.{Parsed}
-use Rattle.input.specs.declared.Parsed.the-variants.{Wrong, Lines}
-use Rattle.input.specs.Engine.{parsed, bytesAt, secondAt}
+use Rattle.input.specs.Worked.{Said, wrong, frame, said}
 use Rattle.lines.specs.Lines.{ruLine, staLine, refusalText, headText}
 
 -- ---- the listing of a row r
@@ -93,13 +91,13 @@ unfoldable pub frameText : ℕ → List ℕ → List ℕ → List ℕ
 frameText bw a b = outcomeText (outcome11 bw a b) (listing bw a b)
 
 -- "22 is first of all"
-abbrev pub parsedText : List ℕ → Parsed → List ℕ
-parsedText s (Wrong k) = refusalOf (no 22 0 k)
-parsedText s (Lines bw n m) = frameText bw (bytesAt s 9 n) (bytesAt s (secondAt n) m)
+abbrev pub saidText : Said → List ℕ
+saidText (wrong k) = refusalOf (no 22 0 k)
+saidText (frame bw a b) = frameText bw a b
 
 -- what the program writes for the text s
 unfoldable pub programText : List ℕ → List ℕ
-programText s = parsedText s (parsed s)
+programText s = saidText (said s)
 
 abbrev pub listNumbers : List ℕ
 listNumbers = 1 ∷ 2 ∷ 3 ∷ 4 ∷ 5 ∷ 6 ∷ 7 ∷ 8 ∷ 9 ∷ 10 ∷ 11 ∷ 23 ∷ []

@@ -24,6 +24,7 @@ use Rattle.frame.proofs.Counted.{word-count-le}
 use Rattle.reader.proofs.Stages.{reading-stages}
 use Rattle.reader.specs.Result.{answerOf}
 use Rattle.input.specs.Engine.{parsed}
+use Rattle.input.specs.Worked.{said}
 use Rattle.lines.specs.Lines.{headText}
 use Rattle.listed.specs.Listing.{recordLine, resources, ruLines, staLineAt, staLines, listingOf, listing, check23, listOutcome, listAnswer, listAfter, programText}
 use Rattle.listing.proofs.list.Reads as list
@@ -77,7 +78,7 @@ listing-lines bw a b = refl
 
 -- ---- the program hands over at most 8,193 bytes, and that suffices to tell
 pub enough : (s : List ℕ) → programText (take 8193 s) ≡ programText s
-unfolding programText parsed
+unfolding programText said parsed
 enough s = go (ltb 8193 (length s)) refl
   where
     go : (t : Bool) → ltb 8193 (length s) ≡ t → programText (take 8193 s) ≡ programText s

@@ -33,7 +33,6 @@ module _ (o o′ row : ℕ → ℕ) (n : ℕ) (s : Signals o row 0 n) (e : (p : 
 
 pub worked : (o : ℕ → ℕ) (row : List ℕ) → Signals o (at row) 0 (length row)
     → (c j : ℕ) → j < fieldsBefore c (at row) (length row) → Worked o row c j
-unfolding theOwner
 worked o row s c j h =
     let t : Signals (thePlan row) (at row) 0 (length row) = whole-signals row (λ g l. part-plan row (o, s) g) in
     let e : (p : ℕ) → p < length row → o p ≡ thePlan row p = only-plan row o s in

@@ -11,7 +11,7 @@ use Rattle.records.specs.Owns.{fieldsBefore, Owns}
 use Rattle.records.specs.Engine.{ownerOf}
 
 -- the number, from 0, of the resource of the row's plan that owns field j of channel c
-unfoldable pub theOwner : List ℕ → ℕ → ℕ → ℕ
+abbrev pub theOwner : List ℕ → ℕ → ℕ → ℕ
 theOwner row c j = ownerOf (thePlan row) (at row) c (length row) j
 
 -- of a plan o that signals the row: it is a resource of the plan that owns the field, and any that owns it is this one

@@ -1,6 +1,7 @@
 -- `listing::respond` meets its contract.
 use native.Mathlib.Omega.{arith}
 use mathlib.Core.Path.{sym, _∙_}
+use Rattle.input.specs.Worked.{said}
 use Rattle.input.proofs.Exact.{few}
 use Rattle.listed.specs.Listing.{programText}
 use borrow.Author.Needs.{needs}
@@ -28,7 +29,7 @@ same-length : tie.Need-same-length
 same-length c = search needs
 
 returns : tie.Need-returns
-unfolding programText
+unfolding programText said
 returns c =
     let e = sym (c .before .before .before .before .before .before .before .parse .ensures) ∙ c .before .before .before .before .before .parsed .given .1 in
     rw e (c .before .before .put-refusal .ensures .0)
@@ -37,7 +38,7 @@ same-length-2 : tie.Need-same-length-2
 same-length-2 c = search needs
 
 returns-2 : tie.Need-returns-2
-unfolding programText
+unfolding programText said
 returns-2 c =
     let e = sym (c .before .before .before .before .before .before .before .parse .ensures) ∙ c .before .before .before .before .before .parsed2 .given .1 in
     rw e (c .before .before .put-lines .ensures)
