@@ -18,7 +18,7 @@ use Rattle.plan.specs.Kinds.{kinds, kindAt, family, span, mask, takes, takesBlo
 use Rattle.answer.specs.Lists.{at}
 use Rattle.plan.specs.Fields.{gives, share, fieldsIn}
 use Rattle.plan.specs.Answers.{SomePlan, Laid, accepted, no-plan, over-eight}
-use Rattle.plan.specs.Engine.{nameOf as kindNamed, kindOf, orElse, tells, choose, onlyPlan, fitting, within, rightAt, firstWrong, firstOver, outcome7, outcome8, planOutcome}
+use Rattle.plan.specs.Engine.{nameOf as kindNamed, kindOf, orElse, tells, choose, onlyPlan, fitting, within, rightAt, firstWrong, firstOver, planOutcome}
 use Rattle.plan.proofs.Laid.{outcome-laid}
 use Rattle.plan.proofs.Demand.{accepted-plan, plan-accepted, only-plan, plan-parts, parts-plan}
 use Rattle.records.specs.Records.{lead, resourceColumn, larger, listAt, recordsOf}
@@ -81,7 +81,7 @@ all-hold [] e = tt
 all-hold (c ∷ cs) e = (holds c (e .0), all-hold cs (e .1))
 
 computed : AllComputed bench
-unfolding planOutcome outcome7 outcome8 firstWrong firstOver least rightAt within fitting onlyPlan choose tells orElse kindNamed kindOf mustName blankAt takesBlock takes mask span family kindAt kinds gives share fieldsIn _or_ listAt lead resourceColumn larger pieceFields divides pieces fieldsOf ownPieces smallerAt indexOf resourceAt carried bit step register sent check
+unfolding planOutcome firstWrong firstOver least rightAt within fitting onlyPlan choose tells orElse kindNamed kindOf mustName blankAt takesBlock takes mask span family kindAt kinds gives share fieldsIn _or_ listAt lead resourceColumn larger pieceFields divides pieces fieldsOf ownPieces smallerAt indexOf resourceAt carried bit step register sent check
 computed = (
   (refl, refl),
   (

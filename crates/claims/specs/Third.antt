@@ -5,7 +5,7 @@
 -- plan no two resources share a subcarrier, none has one in a punctured 20 MHz, and each User field in either channel has exactly one
 -- resource."
 --
--- A plan is `plan`'s `Signals`; its resources are `records`' `recordsOf`; what `plan::layout` answers is what its contract says, `Laid`; what
+-- A plan is `plan`'s `Signals`; its resources are `records`' `recordsOf`; what 01 answers for its layout is `Laid`; what
 -- `reader::read` answers to channels that carry the row is what its contract says, `read.Post`.
 use mathlib.Core.Path.{_≡_}
 use mathlib.Core.Logic.{_≢_, _⊎_}
