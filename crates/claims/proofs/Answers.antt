@@ -29,7 +29,7 @@ use Rattle.reader.specs.Table.{check12, noRoom, readOutcome}
 use Rattle.reader.specs.Result.{answerOf}
 use Rattle.reader.proofs.Stages.{reading-stages}
 use Rattle.reader.proofs.Exactly.{refused-exactly}
-use Rattle.reader.proofs.read.Reads as read
+use Rattle.claims.specs.Calls.{Call, Reads, reads}
 use Rattle.claims.specs.Rows.{CarriedRow, CarryRow, Lowest, ForLayout, ReadAccepts}
 use Rattle.claims.proofs.Channels.{some-channels}
 
@@ -140,9 +140,8 @@ module _ (bw : ℕ) (r a b : List ℕ) (room : ℕ) (h : CarryRow bw r a b) wher
   }
 
 -- of any answer that the contract of `reader::read` allows, and any words lent
-pub all-channels : (r : List ℕ) (κs : _) (a : _) (x : _) (s : _) → read.Post κs a x s
-    → CarryRow (a .0) r (now (a .1 .0)) (now (a .1 .1 .0)) → ForLayout r x
-all-channels r κs a x s p h = rw (p .0) (for-layout (a .0) r (now (a .1 .0)) (now (a .1 .1 .0)) (length (now (a .1 .1 .1 .0))) h)
+pub all-channels : (r : List ℕ) (c : Call) → Reads c → CarryRow (c .bandwidth) r (c .channel-1) (c .channel-2) → ForLayout r (c .answer)
+all-channels r c (reads κs a x s p) h = rw (p .0) (for-layout (a .0) r (now (a .1 .0)) (now (a .1 .1 .0)) (length (now (a .1 .1 .1 .0))) h)
 
 -- ---- a row that has a plan is read
 accepted-answer : (bw : ℕ) (a b : List ℕ) (room : ℕ) → outcome11 bw a b ≡ Pass → wordCount bw a b ≤ room → answerOf bw a b room ≡ no 0 0 (wordCount bw a b)
@@ -167,7 +166,7 @@ some-accepted bw r w p =
     )
 
 accepts : (bw : ℕ) (x y : List ℕ) → outcome11 bw x y ≡ Pass → ReadAccepts bw x y
-accepts bw x y e κs a q s h f g i l =
+accepts bw x y e c (reads κs a q s h) f g i l =
     let room = length (now (a .1 .1 .1 .0)) in
     let z : answerOf (a .0) (now (a .1 .0)) (now (a .1 .1 .0)) room ≡ no 0 0 (wordCount bw x y) =
     rw (f, g, i) (accepted-answer bw x y room e (omega (arith, word-count-le bw x y))) in

@@ -1,3 +1,4 @@
+pub mod Calls
 pub mod First
 pub mod Second
 pub mod Third

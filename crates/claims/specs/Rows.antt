@@ -7,7 +7,6 @@ use mathlib.Core.Bool.{true}
 use mathlib.Core.List.{List}
 use Prim.Native.Nat.{ℕ, _≤_, _<_}
 use lib.ListN.{length}
-use denote.Ref.{now}
 use Rattle.answer.specs.Answer.{no}
 use Rattle.answer.specs.declared.Answer.{Answer}
 use Rattle.answer.specs.declared.Outcome.the-variants.{Pass}
@@ -16,7 +15,7 @@ use Rattle.answer.specs.Lists.{at}
 use Rattle.plan.specs.Answers.{segments, SomePlanOfEight, SegmentPlan, SegmentPlanOfEight}
 use Rattle.channel.specs.Layout.{positions, row}
 use Rattle.halves.specs.Table.{outcome6}
-use Rattle.reader.proofs.read.Reads as read
+use Rattle.claims.specs.Calls.{Call, Reads}
 
 -- "any bandwidth and any row of carried RU Allocation values of the number it needs" (the third demand)
 pub record CarriedRow (bw : ℕ) (r : List ℕ) : Type 0 where
@@ -53,5 +52,4 @@ pub record ForLayout (r : List ℕ) (x : Answer) : Type 0 where
 -- all that the contract of `reader::read` allows, for these channels and room for 154 words, is an acceptance
 abbrev pub ReadAccepts : ℕ → List ℕ → List ℕ → Type 0
 ReadAccepts bw x y =
-    (κs : _) (a : _) (q : _) (s : _) → read.Post κs a q s → a .0 ≡ bw → now (a .1 .0) ≡ x → now (a .1 .1 .0) ≡ y
-    → 154 ≤ length (now (a .1 .1 .1 .0)) → q .number ≡ 0
+    (c : Call) → Reads c → c .bandwidth ≡ bw → c .channel-1 ≡ x → c .channel-2 ≡ y → 154 ≤ length (c .lent) → c .answer .number ≡ 0

@@ -12,7 +12,6 @@ use mathlib.Core.Logic.{_≢_, _⊎_}
 use mathlib.Core.List.{List}
 use Prim.Native.Nat.{ℕ, _<_}
 use lib.ListN.{length, getD}
-use denote.Ref.{now}
 use Rattle.answer.specs.Answer.{no}
 use Rattle.answer.specs.declared.Outcome.{Outcome}
 use Rattle.answer.specs.declared.Outcome.the-variants.{Pass, Refuse}
@@ -22,7 +21,7 @@ use Rattle.plan.specs.Signals.{Signals}
 use Rattle.plan.specs.Answers.{SomePlanOfEight, Laid}
 use Rattle.records.specs.Records.{recordsFrom, recordsOf, HasTone, Punctured, blank, RightRecord}
 use Rattle.records.specs.Owns.{Owns, fieldsBefore}
-use Rattle.reader.proofs.read.Reads as read
+use Rattle.claims.specs.Calls.{Call, Reads}
 use Rattle.claims.specs.Rows.{CarriedRow, CarryRow, ForLayout, ReadAccepts}
 
 -- the resources of the plan o at the first n positions, and u a subcarrier of resource i, counted from the lower edge of the channel
@@ -66,7 +65,7 @@ pub record Third (b : ℕ) (row : List ℕ) : Type 1 where
   pub row-is-carried : CarriedRow b row → (x : List ℕ) × (y : List ℕ) × CarryRow b row x y × Small x × Small y
   -- "the row is accepted .. Otherwise it is refused, for its layout": all channels that carry it and pass 1 to 6 get 7 or 8 exactly when no
   -- plan signals it with at most eight on each resource, with the segment that 01's table says
-  pub row-is-answered : (κs : _) (a : _) (x : _) (s : _) → read.Post κs a x s → CarryRow (a .0) row (now (a .1 .0)) (now (a .1 .1 .0)) → ForLayout row x
+  pub row-is-answered : (c : Call) → Reads c → CarryRow (c .bandwidth) row (c .channel-1) (c .channel-2) → ForLayout row (c .answer)
   -- "A reader that always refuses falls to the third demand, as the row's plan exists." (01, "What nobody may get away with")
   pub plan-is-read : CarriedRow b row → SomePlanOfEight row 0 (length row)
       → (x : List ℕ) × (y : List ℕ) × CarryRow b row x y × Small x × Small y × ReadAccepts b x y

@@ -1,0 +1,70 @@
+-- Calls: names for what a function is given and what it gives.
+--
+-- What a call may give is what its contract says: `Post`, of the arguments a, the result r and the arguments s at exit. Here alone they are taken
+-- by their places; the claims speak of calls.
+use mathlib.Core.List.{List}
+use Prim.Native.Nat.{ℕ}
+use denote.Ref.{now}
+use Rattle.answer.specs.declared.Answer.{Answer}
+use Rattle.reader.proofs.read.Reads as read
+use Rattle.writer.proofs.write.Reads as write
+use Rattle.listing.proofs.list.Reads as list
+use Rattle.brachymel.proofs.brachymel_read.Reads as c-read
+use Rattle.brachymel.proofs.brachymel_write.Reads as c-write
+use Rattle.brachymel.proofs.brachymel_list.Reads as c-list
+
+-- a call that reads or lists: the bandwidth code, both channels' bytes, the lent buffer, and then the answer and what the buffer holds
+pub record Call : Type 0 where
+  pub bandwidth : ℕ
+  pub channel-1 : List ℕ
+  pub channel-2 : List ℕ
+  pub lent : List ℕ
+  pub answer : Answer
+  pub after : List ℕ
+
+-- a call that writes: the bandwidth code, the words, both lent channels, and then the answer and what the channels hold
+pub record WriteCall : Type 0 where
+  pub bandwidth : ℕ
+  pub words : List ℕ
+  pub lent-1 : List ℕ
+  pub lent-2 : List ℕ
+  pub answer : Answer
+  pub after-1 : List ℕ
+  pub after-2 : List ℕ
+
+abbrev call : ℕ → List ℕ → List ℕ → List ℕ → Answer → List ℕ → Call
+call bw a b d r e = record { bandwidth = bw; channel-1 = a; channel-2 = b; lent = d; answer = r; after = e }
+
+abbrev write-call : ℕ → List ℕ → List ℕ → List ℕ → Answer → List ℕ → List ℕ → WriteCall
+write-call bw w a b r x y =
+    record { bandwidth = bw; words = w; lent-1 = a; lent-2 = b; answer = r; after-1 = x; after-2 = y }
+
+-- ---- the calls that each contract allows
+
+-- `reader::read`, with lent words
+pub data Reads : Call → Type 0 where
+  reads : (κs : _) (a : _) (r : _) (s : _) → read.Post κs a r s
+      → Reads (call (a .0) (now (a .1 .0)) (now (a .1 .1 .0)) (now (a .1 .1 .1 .0)) r (now (s .1 .1 .1 .0)))
+
+-- `listing::list`, with lent bytes
+pub data Lists : Call → Type 0 where
+  lists : (κs : _) (a : _) (r : _) (s : _) → list.Post κs a r s
+      → Lists (call (a .0) (now (a .1 .0)) (now (a .1 .1 .0)) (now (a .1 .1 .1 .0)) r (now (s .1 .1 .1 .0)))
+
+-- `writer::write`
+pub data Writes : WriteCall → Type 0 where
+  writes : (κs : _) (a : _) (r : _) (s : _) → write.Post κs a r s
+      → Writes (write-call (a .0) (now (a .1 .0)) (now (a .1 .1 .0)) (now (a .1 .1 .1 .0)) r (now (s .1 .1 .0)) (now (s .1 .1 .1 .0)))
+
+-- from C: `brachymel_read`, `brachymel_list` and `brachymel_write`, with lent bytes and the words as bytes
+pub data C-reads : Call → Type 0 where
+  c-reads : (κs : _) (a : _) (r : _) (s : _) → c-read.Post κs a r s
+      → C-reads (call (a .0) (now (a .1 .0)) (now (a .1 .1 .0)) (now (a .1 .1 .1 .0)) r (now (s .1 .1 .1 .0)))
+
+pub data C-lists : Call → Type 0 where
+  c-lists : (κs : _) (a : _) (r : _) (s : _) → c-list.Post κs a r s
+      → C-lists (call (a .0) (now (a .1 .0)) (now (a .1 .1 .0)) (now (a .1 .1 .1 .0)) r (now (s .1 .1 .1 .0)))
+
+pub data C-writes : WriteCall → Type 0 where
+  c-writes : (κs : _) (a : _) (r : _) (s : _) → c-write.Post κs a r s
+      → C-writes (write-call (a .0) (now (a .1 .0)) (now (a .1 .1 .0)) (now (a .1 .1 .1 .0)) r (now (s .1 .1 .0)) (now (s .1 .1 .1 .0)))
