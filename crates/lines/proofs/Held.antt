@@ -1,16 +1,31 @@
--- The runs that the program holds have the text of the resource's.
-use mathlib.Core.Path.{_≡_, ap}
-use Prim.Native.Nat.{ℕ}
-use lib.ListN.{length}
+-- The text of the runs that the program holds is that of their spans.
+use mathlib.Core.Path.{_≡_, refl, sym, ap, _∙_}
+use mathlib.Core.List.{List, [], _∷_, map}
+use Prim.Native.Nat.{ℕ, zero, suc, _≤_, _<_}
+use native.Mathlib.Omega.{arith}
+use lib.ListN.{length, take, getD, length-map}
+use lib.Seq.{length-take-le}
+use Rattle.text.specs.Text.{upto}
 use Rattle.text.proofs.Laws.{upto-cong}
-use Rattle.resource.specs.declared.Resource.{Resource}
 use Rattle.resource.specs.declared.Run.{Run}
-use Rattle.resource.specs.Runs.{spanOf, runsOf, held}
-use Rattle.resource.proofs.Held.{runs-few, held-at}
-use Rattle.lines.specs.Lines.{spanText, tonesText, heldText}
+use Rattle.resource.specs.declared.Tones.{Tones}
+use Rattle.resource.specs.Tones.{Span, none}
+use Rattle.resource.specs.Engine.{spanOf, noRun}
+use Rattle.lines.specs.Lines.{spanText, tonesText}
+use Rattle.lines.specs.Engine.{heldSpans}
 
-pub held-text : (n g : ℕ) (r : Resource) → heldText n (held (runsOf n g r)) ≡ tonesText n (runsOf n g r)
-unfolding heldText tonesText held
-held-text n g r =
-    upto-cong _ _ (length (runsOf n g r))
-    (λ i h. ap (λ (x : Run). spanText i (spanOf n x)) (held-at (runsOf n g r) i (runs-few n g r) h))
+nth-span : (n c i : ℕ) (rs : List Run) → i < c → c ≤ length rs → getD (map (spanOf n) (take c rs)) i none ≡ spanOf n (getD rs i noRun)
+nth-span n zero i rs h l = absurd (omega arith)
+nth-span n (suc c) i [] h l = absurd (omega arith)
+nth-span n (suc c) zero (r ∷ rs) h l = refl
+nth-span n (suc c) (suc i) (r ∷ rs) h l = nth-span n c i rs (omega arith) (omega arith)
+
+pub held-text : (n : ℕ) (t : Tones) → t .count ≤ length (t .runs)
+    → upto (λ i. spanText i (spanOf n (getD (t .runs) i noRun))) (t .count) ≡ tonesText (heldSpans n t)
+unfolding tonesText heldSpans
+held-text n t l =
+    let e : length (map (spanOf n) (take (t .count) (t .runs))) ≡ t .count =
+    length-map (take (t .count) (t .runs)) (spanOf n) ∙ length-take-le (t .count) (t .runs) l in
+    rw e
+    (upto-cong (λ i. spanText i (spanOf n (getD (t .runs) i noRun))) (λ i. spanText i (getD (map (spanOf n) (take (t .count) (t .runs))) i none)) (t .count)
+    (λ i h. ap (spanText i) (sym (nth-span n (t .count) i (t .runs) h l))))

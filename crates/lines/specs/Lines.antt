@@ -11,11 +11,8 @@ use Rattle.resource.specs.declared.Pairing.{Pairing}
 use Rattle.resource.specs.declared.Pairing.the-variants.{P106And26, P484And242}
 use Rattle.resource.specs.declared.Resource.{Resource}
 use Rattle.resource.specs.declared.Resource.the-variants.{Single, Joined}
-use Rattle.resource.specs.declared.Run.{Run}
-use Rattle.resource.specs.declared.Tones.{Tones}
 use Rattle.resource.specs.Names.{numberOf}
-use Rattle.resource.specs.Tones.{Span}
-use Rattle.resource.specs.Runs.{spanOf, runsOf, noRun}
+use Rattle.resource.specs.Tones.{Span, none}
 
 -- a fixed key and a number
 abbrev pub keyed : List ℕ → ℕ → List ℕ
@@ -50,13 +47,9 @@ comma i = cond (eqb i 0) [] (codes ",")
 abbrev pub spanText : ℕ → Span → List ℕ
 spanText i s = comma i ++ signed (s .lo) ++ codes ":" ++ signed (s .hi)
 
--- "Tones are maximal runs, rising", as signed subcarriers of a channel of n positions
-unfoldable pub tonesText : ℕ → List Run → List ℕ
-tonesText n rs = upto (λ i. spanText i (spanOf n (getD rs i noRun))) (length rs)
-
--- the same of the runs as the program holds them
-unfoldable pub heldText : ℕ → Tones → List ℕ
-heldText n t = upto (λ i. spanText i (spanOf n (getD (t .runs) i noRun))) (t .count)
+-- "Tones are maximal runs, rising"
+unfoldable pub tonesText : List Span → List ℕ
+tonesText ss = upto (λ i. spanText i (getD ss i none)) (length ss)
 
 -- "ru=106+26 index=2 segment=0 users=1": resource r of segment g with u User fields
 unfoldable pub ruHead : ℕ → Resource → ℕ → List ℕ
@@ -67,9 +60,9 @@ ruHead g r u =
     ++ keyed (codes " segment=") g
     ++ keyed (codes " users=") u
 
--- and its subcarriers, in a channel of n positions
-unfoldable pub ruLine : ℕ → ℕ → Resource → ℕ → List ℕ
-ruLine n g r u = ruHead g r u ++ codes " tones=" ++ tonesText n (runsOf n g r) ++ codes "\n"
+-- and its subcarriers
+unfoldable pub ruLine : ℕ → Resource → ℕ → List Span → List ℕ
+ruLine g r u ss = ruHead g r u ++ codes " tones=" ++ tonesText ss ++ codes "\n"
 
 -- "sta=11 resource=1"
 unfoldable pub staLine : ℕ → ℕ → List ℕ

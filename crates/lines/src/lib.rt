@@ -9,8 +9,10 @@ ghost use Prim.Native.Nat.{_+_, _*_, _≤_, _<_};
 ghost use lib.ListN.{length};
 ghost use Rattle.text.specs.Text.{Wrote};
 ghost use Rattle.resource.specs.Names.{numberOf};
-ghost use Rattle.resource.specs.Runs.{spanOf, runsOf, held};
-ghost use Rattle.lines.specs.Lines.{keyed, line, sizeText, pairingText, nameText, comma, spanText, heldText, ruHead, ruLine, staLine, refusalText, headText};
+ghost use Rattle.resource.specs.Engine.{spanOf};
+ghost use Rattle.lines.specs.Lines.{keyed, line, sizeText, pairingText, nameText, comma, spanText, tonesText, ruHead, ruLine};
+ghost use Rattle.lines.specs.Lines.{staLine, refusalText, headText};
+ghost use Rattle.lines.specs.Engine.{heldSpans};
 
 // A fixed key and a number.
 pub fn put_key(out: &mut [u8], at: usize, key: &[u8], n: u64) -> usize
@@ -105,7 +107,7 @@ fn put_run(out: &mut [u8], at: usize, i: usize, run: Run, n: u16) -> usize
 // The runs of a resource.
 fn put_tones(out: &mut [u8], at: usize, t: Tones, n: u16) -> usize
     requires { ⌜ (at ≤ 60000) × (t .count ≤ 3) × (length (t .runs) ≡ 3) ⌝ }
-    ensures { λ r. ⌜ Wrote (now (out .entry)) at (heldText n t) (now (out .exit)) r ⌝ }
+    ensures { λ r. ⌜ Wrote (now (out .entry)) at (tonesText (heldSpans n t)) (now (out .exit)) r ⌝ }
     ensures bounded { λ r. ⌜ r ≤ at + 132 ⌝ }
 {
     let count = t.count as usize;
@@ -141,8 +143,8 @@ pub fn put_ru(
     users: u64,
     tones: Tones,
 ) -> usize
-    requires { ⌜ (at ≤ 59000) × (tones ≡ held (runsOf n g r)) ⌝ }
-    ensures { λ e. ⌜ Wrote (now (out .entry)) at (ruLine n g r users) (now (out .exit)) e ⌝ }
+    requires { ⌜ (at ≤ 59000) × (tones .count ≤ 3) × (length (tones .runs) ≡ 3) ⌝ }
+    ensures { λ e. ⌜ Wrote (now (out .entry)) at (ruLine g r users (heldSpans n tones)) (now (out .exit)) e ⌝ }
     ensures bounded { λ e. ⌜ e ≤ at + 240 ⌝ }
 {
     let a = put_ru_head(out, at, g, r, users);

@@ -15,7 +15,7 @@ use Rattle.bits.specs.Bits.{bit, field, differs, Small}
 use Rattle.block.specs.Check.{step, register, sent, check, right}
 use Rattle.resource.specs.Values.{carried, pieces, fieldsOf, divides, pieceFields, ownPieces, smallerAt}
 use Rattle.resource.specs.Index.{indexOf, resourceAt, positionOf, placeOf}
-use Rattle.resource.specs.Runs.{offset26, offset52, offset106, wide, narrow, narrow26, narrow52, narrow106, runsOf}
+use Rattle.resource.specs.Engine.{offset26, offset52, offset106, wide, narrow, narrow26, narrow52, narrow106, runsOf}
 use Rattle.resource.proofs.Test.{both-left, both-right, at-each}
 use Rattle.plan.specs.Fields.{gives, share, fieldsIn}
 use Rattle.plan.specs.Kinds.{kinds, kindAt, family, span, mask, takes, takesBlock, blankAt, mustName}

@@ -24,7 +24,7 @@ use Rattle.resource.specs.declared.Resource.the-variants.{Single, Joined}
 use Rattle.resource.specs.Names.{numberOf}
 use Rattle.resource.specs.declared.Piece.the-variants.{Part}
 use Rattle.resource.specs.Index.{indexOf, resourceAt, positionOf, placeOf}
-use Rattle.resource.specs.Runs.{spanOf, noRun, offset26, offset52, offset106, wide, wideWith26, narrow, narrow26, narrow52, narrow106, narrowWith26, runsOf}
+use Rattle.resource.specs.Engine.{spanOf, noRun, offset26, offset52, offset106, wide, wideWith26, narrow, narrow26, narrow52, narrow106, narrowWith26, runsOf}
 use Rattle.resource.specs.Values.{within, carried, pieces, fieldsOf, divides, pieceFields, ownPieces}
 use Rattle.resource.proofs.Held.{runs-few}
 use Rattle.resource.proofs.Test.{both-left, both-right, wherever, met, below, every-below}

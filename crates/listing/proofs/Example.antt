@@ -9,7 +9,7 @@ use Rattle.plan.specs.Kinds.{kinds, kindAt, family, span, mask, takes, takesBlo
 use Rattle.plan.specs.Engine.{kindOf, nameOf, orElse, tells, choose, onlyPlan}
 use Rattle.resource.specs.Values.{carried, pieces, fieldsOf, divides, pieceFields, ownPieces}
 use Rattle.resource.specs.Index.{indexOf, resourceAt, positionOf, placeOf}
-use Rattle.resource.specs.Runs.{offset106, wide, wideWith26, runsOf}
+use Rattle.resource.specs.Engine.{offset106, wide, wideWith26, runsOf}
 use Rattle.records.specs.Records.{lead, listAt}
 use Rattle.records.specs.Engine.{lowest, ownerAt, ownerOf}
 use Rattle.lines.specs.Lines.{nameText, comma, tonesText, ruHead, ruLine, staLine, headText}

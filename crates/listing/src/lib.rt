@@ -16,7 +16,7 @@ ghost use Rattle.text.specs.Text.{Wrote, upto};
 ghost use Rattle.input.specs.Engine.{bytesAt, secondAt};
 ghost use Rattle.resource.specs.Values.{ownPieces};
 ghost use Rattle.resource.specs.Engine.{pieceAt};
-ghost use Rattle.resource.specs.Runs.{runsOf, held};
+ghost use Rattle.resource.specs.Engine.{runsOf, held};
 ghost use Rattle.plan.specs.Engine.{kindsOf};
 ghost use Rattle.records.specs.Records.{pieceRecord, listAt};
 ghost use Rattle.records.specs.Engine.{numbersOf};

@@ -11,7 +11,7 @@ use Rattle.resource.specs.declared.Piece.{Piece}
 use Rattle.resource.specs.declared.Resource.the-variants.{Joined}
 use Rattle.resource.specs.Values.{set-at}
 use Rattle.resource.specs.Index.{indexOf, isPiece, fromPositions, exists, resourceAt, leavingOut, positionOf, placeOf}
-use Rattle.resource.specs.Runs.{In, placesRuns, runsOf, wide, narrow}
+use Rattle.resource.specs.Engine.{In, placesRuns, runsOf, wide, narrow}
 use Rattle.resource.specs.Tones.{tonesAt, tonesLeavingOut, tonesOf}
 use Rattle.resource.proofs.Test.{both-left, both-right, wherever, met, below, every-below}
 use Rattle.resource.proofs.Everywhere.{everywhere, at-position}

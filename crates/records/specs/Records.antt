@@ -13,7 +13,7 @@ use Rattle.resource.specs.declared.Resource.{Resource}
 use Rattle.resource.specs.declared.Resource.the-variants.{Single}
 use Rattle.resource.specs.Values.{pieceFields, ownPieces}
 use Rattle.resource.specs.Index.{resourceAt, leavingOut}
-use Rattle.resource.specs.Runs.{In, runsOf, Right}
+use Rattle.resource.specs.Engine.{In, runsOf, Right}
 use Rattle.resource.specs.Tones.{tonesOf}
 use Rattle.plan.specs.Kinds.{itself, span, takes}
 use Rattle.plan.specs.Fields.{fieldsIn}

@@ -14,7 +14,7 @@ ghost use Rattle.answer.specs.Lists.{at};
 ghost use Rattle.plan.specs.Engine.{onlyPlan};
 ghost use Rattle.plan.specs.Engine.{kindsOf};
 ghost use Rattle.resource.specs.Engine.{numberedOf};
-ghost use Rattle.resource.specs.Runs.{placesRuns, held};
+ghost use Rattle.resource.specs.Engine.{placesRuns, held};
 ghost use Rattle.records.specs.Records.{inChannel, pieceRecord, lead, larger, largerRecord, recordsOf};
 ghost use Rattle.records.specs.Engine.{placesOf, listed};
 ghost use Rattle.records.specs.Owns.{fieldsBefore};

@@ -1,25 +1,24 @@
--- Where subcarriers lie: a piece's inside its own position, a larger resource's inside its places; and no two pieces of a value share one.
---
+-- Where the subcarriers of a piece lie: inside its own position; and no two pieces of a value share one. Those of a larger resource lie inside
+-- its places: `Places.antt`.
 use mathlib.Core.Path.{_≡_, sym}
-use mathlib.Core.Logic.{_≢_, _⊎_, inl, inr, ⊎-elim}
-use mathlib.Core.Bool.{Bool, not, _&&_}
+use mathlib.Core.Logic.{_≢_, inl, inr, ⊎-elim}
+use mathlib.Core.Bool.{Bool, _&&_}
 use mathlib.Core.List.{List, [], _∷_, _++_}
-use Prim.Native.Nat.{ℕ, zero, suc, _+_, _-_, _*_, _/_, _%_, _^_, _≤_, _<_}
+use Prim.Native.Nat.{ℕ, zero, suc, _+_, _*_, _/_, _^_, _≤_, _<_}
 use native.Mathlib.Nat.{eq-or-lt-of-le}
 use native.Mathlib.Omega.{arith}
 use borrow.Author.Tests.{lt-leb, le-leb, le-ltb, ne-eqb}
-use lib.Dec.{T, T-not, leb, eqb, leb→le, le→leb, eqb→eq}
+use lib.Dec.{T, leb, leb→le, le→leb}
 use lib.ListN.{length, getD}
-use Rattle.resource.specs.declared.Size.the-variants.{S484, S996}
 use Rattle.resource.specs.declared.Piece.{Piece}
-use Rattle.resource.specs.declared.Piece.the-variants.{Part}
 use Rattle.resource.specs.declared.Run.{Run}
-use Rattle.resource.specs.Values.{set-at, pieces, ownPieces}
-use Rattle.resource.specs.Index.{indexOf, resourceAt, leavingOut, positionOf, placeOf}
-use Rattle.resource.specs.Runs.{In, placesRuns, runsOf, wide, wideWith26, narrow, narrowWith26, offset26, offset52, offset106, narrow26, narrow52, narrow106}
-use Rattle.resource.proofs.Test.{below-or, both-left, both-right, wherever, met, below, every-below}
+use Rattle.resource.specs.Values.{pieces, ownPieces}
+use Rattle.resource.specs.Index.{indexOf, resourceAt, positionOf, placeOf}
+use Rattle.resource.specs.Engine.{placesRuns, runsOf, wide, wideWith26, narrow, narrowWith26}
+use Rattle.resource.specs.Engine.{offset26, offset52, offset106, narrow26, narrow52, narrow106}
+use Rattle.resource.proofs.Edge.{In}
+use Rattle.resource.proofs.Test.{below-or, both-left, both-right, below, every-below}
 use Rattle.resource.proofs.Everywhere.{everywhere, at-position}
-use Rattle.resource.proofs.Places.{places-inside}
 
 -- ---- runs that rise from b on and end below e; one may touch the next
 abbrev pub ascending : ℕ → ℕ → List Run → Bool
@@ -137,41 +136,3 @@ module _ (b g p v : ℕ) (h : b < 5) (i : p < 4) (j : 4 * g + p < 2 ^ b) where
       (λ q. let z = r k l q e m o in omega arith)
       (λ q. ⊎-elim (λ f. n (sym f)) (λ f. let z = r l k f c o m in omega arith) (eq-or-lt-of-le q))
       (below-or k l)
-
--- ---- the larger resources: inside their places (`Places.antt`)
-pair-places : T (below (λ i. below (λ q. wherever (set-at q (3 * 4 ^ i)) (eqb (q / 2) i)) 4) 2)
-pair-places = tt
-
-pair-place : (i q : ℕ) → i < 2 → q < 4 → T (set-at q (3 * 4 ^ i)) → q / 2 ≡ i
-pair-place i q h l t =
-    eqb→eq (q / 2) i
-    (met (set-at q (3 * 4 ^ i)) (eqb (q / 2) i)
-    (every-below (λ q. wherever (set-at q (3 * 4 ^ i)) (eqb (q / 2) i)) 4
-    (every-below (λ i. below (λ q. wherever (set-at q (3 * 4 ^ i)) (eqb (q / 2) i)) 4) 2 pair-places i h) q l) t)
-
-three-places : T (below (λ k. not (set-at k (15 - 2 ^ k))) 4)
-three-places = tt
-
-module _ (n g : ℕ) where
-  -- a 484's in its pair
-  pub pair-inside : (p u : ℕ) → p < 4 → In u (runsOf n g (resourceAt p (Part S484 1))) → u / 256 / 2 ≡ (4 * g + p) / 2
-  unfolding runsOf resourceAt indexOf
-  pair-inside p u h i =
-      let e : p / 2 + 1 - 1 ≡ p / 2 = omega arith in
-      let f = places-inside g (3 * 4 ^ (p / 2)) u (rw e at i) in
-      let k = pair-place (p / 2) (u / 256 % 4) (omega arith) (omega arith) (f .1) in
-      omega (arith, f .0)
-
-  -- a 996's in its segment
-  pub whole-inside : (p u : ℕ) → In u (runsOf n g (resourceAt p (Part S996 1))) → u / 256 / 4 ≡ g
-  unfolding runsOf resourceAt indexOf
-  whole-inside p u i = places-inside g 15 u i .0
-
-  -- a 484+242's in its segment, and not in the position that it leaves out
-  pub three-inside : (k u : ℕ) → k < 4 → In u (runsOf n g (leavingOut k)) → (u / 256 / 4 ≡ g) × (u / 256 ≢ 4 * g + k)
-  unfolding runsOf
-  three-inside k u h i =
-      let e : k + 1 - 1 ≡ k = omega arith in
-      let f = places-inside g (15 - 2 ^ k) u (rw e at i) in
-      let out = T-not (set-at k (15 - 2 ^ k)) (every-below (λ k. not (set-at k (15 - 2 ^ k))) 4 three-places k h) in
-      (f .0, λ (d : u / 256 ≡ 4 * g + k). let q : u / 256 % 4 ≡ k = omega arith in out (rw q at (f .1)))

@@ -15,7 +15,7 @@ use Rattle.resource.specs.declared.Resource.the-variants.{Single, Joined
 use Rattle.resource.specs.declared.Run.{Run}
 use Rattle.resource.specs.declared.Tones.{Tones}
 use Rattle.resource.specs.Index.{positionOf, placeOf}
-use Rattle.resource.specs.Runs.{noRun, held, inPosition, runsOf, wide, wideWith26, narrow, narrowWith26}
+use Rattle.resource.specs.Engine.{noRun, held, inPosition, runsOf, wide, wideWith26, narrow, narrowWith26}
 use Rattle.resource.proofs.Places.{places-few}
 
 few : (t : Bool) (a b : List Run) → length a ≤ 3 → length b ≤ 3 → length (cond t a b) ≤ 3

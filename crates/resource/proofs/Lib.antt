@@ -2,6 +2,7 @@ pub mod Test
 pub mod Fields
 pub mod Everywhere
 pub mod Index
+pub mod Edge
 pub mod Agree
 pub mod Places
 pub mod Apart

@@ -15,7 +15,7 @@ use Rattle.resource.specs.declared.Run.{Run}
 use Rattle.resource.specs.Values.{pieces, fieldsOf, divides, ownPieces}
 use Rattle.resource.specs.Index.{resourceAt, isPiece, fromPositions}
 use Rattle.resource.specs.Engine.{noPiece, pieceAt, numberedOf}
-use Rattle.resource.specs.Runs.{narrow, narrowWith26, wide, wideWith26, runsOf}
+use Rattle.resource.specs.Engine.{narrow, narrowWith26, wide, wideWith26, runsOf}
 use Rattle.resource.proofs.Test.{below-or, both-left, both-right, below, every-below}
 use Rattle.resource.proofs.Apart.{not-divided, no-pieces}
 use Rattle.resource.proofs.Index.{position-back, place-back, position-back-26, place-back-26}

@@ -14,7 +14,8 @@ use Rattle.resource.specs.declared.Resource.the-variants.{Single}
 use Rattle.resource.specs.declared.Run.{Run}
 use Rattle.resource.specs.Values.{set-at}
 use Rattle.resource.specs.Index.{leavingOut, positionOf}
-use Rattle.resource.specs.Runs.{In, runOf, the242, the242If, placesRuns, wide, runsOf}
+use Rattle.resource.specs.Engine.{runOf, the242, the242If, placesRuns, wide, runsOf}
+use Rattle.resource.proofs.Edge.{In}
 use Rattle.resource.proofs.Test.{below-or, both-left, both-right}
 
 -- ---- 01's kinds

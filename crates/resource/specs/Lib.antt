@@ -2,5 +2,4 @@ pub mod Names
 pub mod Values
 pub mod Index
 pub mod Tones
-pub mod Runs
 pub mod Engine

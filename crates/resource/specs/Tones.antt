@@ -1,9 +1,12 @@
 -- The subcarriers of a resource, as 01 lists them ("Index and subcarriers"): signed numbers, 0 at the channel's centre.
-use mathlib.Core.Bool.{Bool, false, cond}
+use mathlib.Core.Path.{_≡_}
+use mathlib.Core.Logic.{_⊎_}
+use mathlib.Core.Bool.{Bool, true, false, cond, _&&_}
 use mathlib.Core.List.{List, [], _∷_, _++_}
 use Prim.Native.Nat.{ℕ, _+_, _-_, _*_, _/_, _%_}
-use lib.Dec.{eqb}
-use lib.IntN.{ℤ, pos, negsuc, negℤ, sucℤ, _+ℤ_}
+use lib.Dec.{eqb, T}
+use lib.IntN.{ℤ, pos, negsuc, negℤ, sucℤ, _+ℤ_, _-ℤ_}
+use lib.Signed.{leZ, ltZ, _≤ℤ_}
 use lib.ListN.{getD}
 use Rattle.resource.specs.declared.Size.{Size}
 use Rattle.resource.specs.declared.Size.the-variants.{S26, S52, S106, S242, S484, S996}
@@ -12,6 +15,7 @@ use Rattle.resource.specs.declared.Piece.the-variants.{Part, With26}
 use Rattle.resource.specs.declared.Pairing.the-variants.{P106And26, P484And242}
 use Rattle.resource.specs.declared.Resource.{Resource}
 use Rattle.resource.specs.declared.Resource.the-variants.{Single, Joined}
+use Rattle.resource.specs.Names.{nameOf}
 use Rattle.resource.specs.Index.{positionOf, placeOf}
 
 -- the subcarriers from lo to hi
@@ -167,3 +171,29 @@ unfoldable pub tonesOf : ℕ → ℕ → Resource → List Span
 tonesOf n g (Single s i) = tonesAt n g (positionOf s i) (Part s (placeOf s i + 1))
 tonesOf n g (Joined P106And26 i) = tonesAt n g ((i - 1) / 2) (With26 ((i - 1) % 2 + 1))
 tonesOf n g (Joined P484And242 i) = tonesLeavingOut n g (i - 1)
+
+-- ---- what is said of the subcarriers of some spans
+-- k is one of them
+abbrev pub Among : ℤ → List Span → Type 0
+Among k [] = ⊥
+Among k (s ∷ ss) = ((s .lo ≤ℤ k) × (k ≤ℤ s .hi)) ⊎ Among k ss
+
+-- how many they are
+abbrev pub count : List Span → ℤ
+count [] = pos 0
+count (s ∷ ss) = s .hi -ℤ s .lo +ℤ pos 1 +ℤ count ss
+
+-- the first of the spans, if there is one, begins above h and does not touch it
+abbrev pub above : ℤ → List Span → Bool
+above h [] = true
+above h (s ∷ ss) = ltZ (sucℤ h) (s .lo)
+
+-- "Tones are maximal runs, rising": none is empty, and each ends below the next, which it does not touch
+abbrev pub rising : List Span → Bool
+rising [] = true
+rising (s ∷ ss) = leZ (s .lo) (s .hi) && above (s .hi) ss && rising ss
+
+-- the spans of a resource: as many subcarriers as its name says, in rising maximal runs
+pub record Right (r : Resource) (ss : List Span) : Type 0 where
+  pub named : count ss ≡ pos (nameOf r)
+  pub rises : T (rising ss)

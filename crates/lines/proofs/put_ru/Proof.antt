@@ -1,11 +1,7 @@
 -- `lines::put_ru` meets its contract.
 use native.Mathlib.Omega.{arith}
-use mathlib.Core.Path.{_≡_, ap, _∙_}
 use Rattle.text.proofs.Laws.{after}
-use Rattle.resource.specs.Runs.{runsOf}
-use Rattle.resource.proofs.Held.{runs-few, held-few}
-use Rattle.lines.specs.Lines.{ruLine, tonesText, heldText}
-use Rattle.lines.proofs.Held.{held-text}
+use Rattle.lines.specs.Lines.{ruLine}
 use borrow.Author.Needs.{needs}
 use Rattle.lines.proofs.put_ru.Statement.{statement}
 use Rattle.lines.proofs.put_ru.Tie as tie
@@ -22,9 +18,7 @@ put-all-requires c κs = search needs
 put-tones-requires : tie.Need-put-tones-requires
 put-tones-requires c κs =
     let start = c .before .before .before .before .before .before .before .before .before .before .before in
-    let a = start .args in
-    let few = held-few (a .tones) (runsOf (a .n) (a .g) (a .r)) (start .pre .1) (runs-few (a .n) (a .g) (a .r)) in
-    (omega (arith, start .pre .0, c .before .before .before .put-all .ensures .next), few .0, few .1)
+    (omega (arith, start .pre .0, c .before .before .before .put-all .ensures .next), start .pre .1, start .pre .2)
 
 put-requires : tie.Need-put-requires
 put-requires c κs = search needs
@@ -36,10 +30,11 @@ returns : tie.Need-returns
 unfolding ruLine
 returns c =
     let start = c .before .before .before .before .before .before .before .before .before .before .before .before .before .before .before .before .before .before in
-    let a = start .args in
-    let rs = runsOf (a .n) (a .g) (a .r) in
-    let e : heldText (a .n) (a .tones) ≡ tonesText (a .n) rs = ap (heldText (a .n)) (start .pre .1) ∙ held-text (a .n) (a .g) (a .r) in
-    (after (after (after (c .before .before .before .before .before .before .before .before .before .before .before .before .before .before .before .put-ru-head .ensures .0) (c .before .before .before .before .before .before .before .before .before .before .put-all .ensures)) (rw e at (c .before .before .before .before .before .before .put-tones .ensures .0))) (c .before .before .put .ensures), omega (arith, start .pre .0, c .before .before .before .before .before .before .before .before .before .before .put-all .ensures .next, c .before .before .put .ensures .next))
+    let put = c .before .before .before .before .before .before .before .before .before .before in (
+      after (after (after (put .before .before .before .before .before .put-ru-head .ensures .0) (put .put-all .ensures))
+          (c .before .before .before .before .before .before .put-tones .ensures .0)) (c .before .before .put .ensures),
+      omega (arith, start .pre .0, put .put-all .ensures .next, c .before .before .put .ensures .next),
+    )
 
 pub put-ru-spec : {M : Type 1} → statement M
 put-ru-spec =

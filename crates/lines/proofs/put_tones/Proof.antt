@@ -6,8 +6,9 @@ use Prim.Native.Nat.{_+_, _-_, _*_, _≤_}
 use lib.ListN.{getD}
 use Rattle.text.specs.Text.{Wrote, upto}
 use Rattle.text.proofs.Laws.{no-item, item, kept}
-use Rattle.resource.specs.Runs.{spanOf, noRun}
-use Rattle.lines.specs.Lines.{spanText, heldText}
+use Rattle.resource.specs.Engine.{spanOf, noRun}
+use Rattle.lines.specs.Lines.{spanText}
+use Rattle.lines.proofs.Held.{held-text}
 use Rattle.lines.proofs.put_tones.Statement.{statement}
 use Rattle.lines.proofs.put_tones.Tie as tie
 
@@ -46,8 +47,11 @@ same-length : tie.Need-same-length Inv-loop μ-loop
 same-length c = kept (c .before .loop .inv .1)
 
 returns : tie.Need-returns Inv-loop μ-loop
-unfolding heldText
-returns c = let e : c .before .loop .i ≡ c .before .before .before .before .before .args .t .count = omega arith in (rw e at (c .before .loop .inv .1), omega arith)
+returns c =
+    let s = c .before .before .before .before .before in
+    let a = s .args in
+    let e : c .before .loop .i ≡ a .t .count = omega arith in
+    (rw (e, held-text (a .n) (a .t) (omega (arith, s .pre .1, s .pre .2))) at (c .before .loop .inv .1), omega arith)
 
 pub put-tones-spec : {M : Type 1} → statement M
 put-tones-spec =

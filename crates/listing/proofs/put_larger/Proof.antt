@@ -2,7 +2,7 @@
 use native.Mathlib.Omega.{arith}
 use mathlib.Core.Path.{sym, ap, _∙_}
 use lib.ListN.{length}
-use Rattle.resource.specs.Runs.{held}
+use Rattle.resource.specs.Engine.{held}
 use Rattle.answer.specs.Lists.{at as value}
 use Rattle.records.proofs.Larger.{larger-runs}
 use Rattle.listing.proofs.Held.{none-listed, one-listed, no-lines, one-line}

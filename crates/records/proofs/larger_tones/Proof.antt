@@ -3,7 +3,7 @@ use native.Mathlib.Omega.{arith}
 use native.Mathlib.Nat.{mod-eq-of-lt}
 use mathlib.Core.Path.{_≡_, ap, _∙_}
 use Prim.Native.Nat.{ℕ, zero, suc, _*_, _/_, _%_, _^_, _≤_, _<_}
-use Rattle.resource.specs.Runs.{placesRuns, held}
+use Rattle.resource.specs.Engine.{placesRuns, held}
 use Rattle.records.specs.Engine.{placesOf}
 use borrow.Author.Needs.{needs}
 use Rattle.records.proofs.larger_tones.Statement.{statement}

@@ -1,6 +1,6 @@
 -- `resource::narrow_106` meets its contract.
 use Rattle.resource.proofs.Test.{none-listed}
-use Rattle.resource.specs.Runs.{narrow106}
+use Rattle.resource.specs.Engine.{narrow106}
 use native.Mathlib.Omega.{arith}
 use mathlib.Core.List.{[], _∷_}
 use Rattle.resource.proofs.narrow_106.Statement.{statement}

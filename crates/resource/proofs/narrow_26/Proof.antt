@@ -1,6 +1,6 @@
 -- `resource::narrow_26` meets its contract.
 use Rattle.resource.proofs.Test.{none-listed}
-use Rattle.resource.specs.Runs.{narrow26}
+use Rattle.resource.specs.Engine.{narrow26}
 use native.Mathlib.Omega.{arith}
 use mathlib.Core.List.{[], _∷_}
 use Rattle.resource.proofs.narrow_26.Statement.{statement}

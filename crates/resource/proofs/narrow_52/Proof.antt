@@ -1,6 +1,6 @@
 -- `resource::narrow_52` meets its contract.
 use Rattle.resource.proofs.Test.{none-listed}
-use Rattle.resource.specs.Runs.{narrow52}
+use Rattle.resource.specs.Engine.{narrow52}
 use native.Mathlib.Omega.{arith}
 use mathlib.Core.List.{[], _∷_}
 use Rattle.resource.proofs.narrow_52.Statement.{statement}

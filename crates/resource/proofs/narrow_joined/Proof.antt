@@ -1,6 +1,6 @@
 -- `resource::narrow_joined` meets its contract.
 use borrow.Author.Tests.{ne-eqb}
-use Rattle.resource.specs.Runs.{narrowWith26}
+use Rattle.resource.specs.Engine.{narrowWith26}
 use mathlib.Core.Path.{_∙_}
 use borrow.Author.Needs.{needs}
 use Rattle.resource.proofs.narrow_joined.Statement.{statement}

@@ -1,6 +1,6 @@
 -- `resource::narrow_tones` meets its contract.
 use borrow.Author.Tests.{ne-eqb}
-use Rattle.resource.specs.Runs.{narrow}
+use Rattle.resource.specs.Engine.{narrow}
 use mathlib.Core.Path.{_∙_}
 use borrow.Author.Needs.{needs}
 use Rattle.resource.proofs.narrow_tones.Statement.{statement}

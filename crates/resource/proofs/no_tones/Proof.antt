@@ -1,5 +1,5 @@
 -- `resource::no_tones` meets its contract.
-use Rattle.resource.specs.Runs.{held}
+use Rattle.resource.specs.Engine.{held}
 use borrow.Author.Needs.{needs}
 use Rattle.resource.proofs.no_tones.Statement.{statement}
 use Rattle.resource.proofs.no_tones.Tie as tie

@@ -1,6 +1,6 @@
 -- `resource::offset_106` meets its contract.
 use Rattle.resource.proofs.Test.{none-listed}
-use Rattle.resource.specs.Runs.{offset106}
+use Rattle.resource.specs.Engine.{offset106}
 use native.Mathlib.Omega.{arith}
 use mathlib.Core.List.{[], _∷_}
 use Rattle.resource.proofs.offset_106.Statement.{statement}

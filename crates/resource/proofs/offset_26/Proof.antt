@@ -1,6 +1,6 @@
 -- `resource::offset_26` meets its contract.
 use Rattle.resource.proofs.Test.{none-listed}
-use Rattle.resource.specs.Runs.{offset26}
+use Rattle.resource.specs.Engine.{offset26}
 use native.Mathlib.Omega.{arith}
 use mathlib.Core.List.{[], _∷_}
 use Rattle.resource.proofs.offset_26.Statement.{statement}

@@ -1,6 +1,6 @@
 -- `resource::offset_52` meets its contract.
 use Rattle.resource.proofs.Test.{none-listed}
-use Rattle.resource.specs.Runs.{offset52}
+use Rattle.resource.specs.Engine.{offset52}
 use native.Mathlib.Omega.{arith}
 use mathlib.Core.List.{[], _∷_}
 use Rattle.resource.proofs.offset_52.Statement.{statement}

@@ -1,5 +1,5 @@
 -- `resource::one_run` meets its contract.
-use Rattle.resource.specs.Runs.{held}
+use Rattle.resource.specs.Engine.{held}
 use borrow.Author.Needs.{needs}
 use Rattle.resource.proofs.one_run.Statement.{statement}
 use Rattle.resource.proofs.one_run.Tie as tie

@@ -1,7 +1,7 @@
 -- `resource::piece_tones` meets its contract.
 use borrow.Author.Needs.{needs}
 use mathlib.Core.Path.{sym, ap, _∙_}
-use Rattle.resource.specs.Runs.{held}
+use Rattle.resource.specs.Engine.{held}
 use Rattle.resource.proofs.Pieces.{piece-from-one, piece-runs}
 use Rattle.resource.proofs.piece_tones.Statement.{statement}
 use Rattle.resource.proofs.piece_tones.Tie as tie

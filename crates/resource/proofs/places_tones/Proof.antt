@@ -4,7 +4,7 @@ use native.Mathlib.Omega.{arith}
 use mathlib.Core.Path.{_≡_, _∙_}
 use mathlib.Core.List.{[]}
 use Rattle.resource.specs.declared.Tones.{Tones}
-use Rattle.resource.specs.Runs.{held}
+use Rattle.resource.specs.Engine.{held}
 use Rattle.resource.proofs.Held.{held-count, held-three}
 use Rattle.resource.proofs.Places.{all-places, each-place}
 use Rattle.resource.proofs.places_tones.Statement.{statement}

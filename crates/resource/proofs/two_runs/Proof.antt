@@ -1,5 +1,5 @@
 -- `resource::two_runs` meets its contract.
-use Rattle.resource.specs.Runs.{held}
+use Rattle.resource.specs.Engine.{held}
 use borrow.Author.Needs.{needs}
 use Rattle.resource.proofs.two_runs.Statement.{statement}
 use Rattle.resource.proofs.two_runs.Tie as tie

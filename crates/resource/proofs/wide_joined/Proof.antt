@@ -1,6 +1,6 @@
 -- `resource::wide_joined` meets its contract.
 use borrow.Author.Tests.{ne-eqb}
-use Rattle.resource.specs.Runs.{wideWith26}
+use Rattle.resource.specs.Engine.{wideWith26}
 use mathlib.Core.Path.{_∙_}
 use borrow.Author.Needs.{needs}
 use Rattle.resource.proofs.wide_joined.Statement.{statement}

@@ -1,5 +1,5 @@
 -- `resource::wide_tones` meets its contract.
-use Rattle.resource.specs.Runs.{wide}
+use Rattle.resource.specs.Engine.{wide}
 use Rattle.resource.proofs.Places.{own-place}
 use mathlib.Core.Path.{_∙_}
 use borrow.Author.Needs.{needs}

@@ -2,7 +2,7 @@
 use borrow.Author.Needs.{needs}
 use native.Mathlib.Omega.{arith}
 use mathlib.Core.Path.{refl}
-use Rattle.resource.specs.Runs.{the242}
+use Rattle.resource.specs.Engine.{the242}
 use Rattle.resource.proofs.Held.{held-before}
 use Rattle.resource.proofs.with_242.Statement.{statement}
 use Rattle.resource.proofs.with_242.Tie as tie
