@@ -14,8 +14,7 @@ use Rattle.plan.proofs.Demand.{accepted-plan, one-plan, refused-layout}
 use Rattle.records.specs.Engine.{ownerOf}
 use Rattle.records.proofs.Listing.{same-records}
 use Rattle.records.proofs.Owners.{one-owner, owner-owns}
-use Rattle.records.proofs.Subcarriers.{no-shared, none-punctured}
-use Rattle.records.proofs.Sizes.{record-right}
+use Rattle.records.proofs.Tones.{no-shared, none-punctured, record-right}
 use Rattle.records.proofs.Shares.{owner-listed}
 use Rattle.claims.proofs.Channels.{some-channels}
 use Rattle.claims.proofs.Answers.{all-channels, no-reader-always-refuses}

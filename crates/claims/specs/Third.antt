@@ -11,6 +11,7 @@ use mathlib.Core.Path.{_≡_}
 use mathlib.Core.Logic.{_≢_, _⊎_}
 use mathlib.Core.List.{List}
 use Prim.Native.Nat.{ℕ, _<_}
+use lib.IntN.{ℤ}
 use lib.ListN.{length, getD}
 use Rattle.answer.specs.Answer.{no}
 use Rattle.answer.specs.declared.Outcome.{Outcome}
@@ -24,21 +25,21 @@ use Rattle.records.specs.Owns.{Owns, fieldsBefore}
 use Rattle.claims.specs.Calls.{Call, Reads}
 use Rattle.claims.specs.Rows.{CarriedRow, CarryRow, ForLayout, ReadAccepts}
 
--- the resources of the plan o at the first n positions, and u a subcarrier of resource i, counted from the lower edge of the channel
-abbrev pub Tone : (ℕ → ℕ) → (ℕ → ℕ) → ℕ → ℕ → ℕ → Type 0
-Tone o row n i u = HasTone n (getD (recordsFrom o row n) i blank) u
+-- the resources of the plan o at the first n positions, and k a subcarrier of resource i
+abbrev pub Tone : (ℕ → ℕ) → (ℕ → ℕ) → ℕ → ℕ → ℤ → Type 0
+Tone o row n i k = HasTone n (getD (recordsFrom o row n) i blank) k
 
 -- "no two resources share a subcarrier"
 abbrev pub Apart : (ℕ → ℕ) → (ℕ → ℕ) → ℕ → Type 0
 Apart o row n =
-    (i j u : ℕ) → i < length (recordsFrom o row n) → j < length (recordsFrom o row n) → i ≢ j → Tone o row n i u → Tone o row n j u → ⊥
+    (i j : ℕ) (k : ℤ) → i < length (recordsFrom o row n) → j < length (recordsFrom o row n) → i ≢ j → Tone o row n i k → Tone o row n j k → ⊥
 
 -- "none has one in a punctured 20 MHz"
 abbrev pub NotPunctured : (ℕ → ℕ) → (ℕ → ℕ) → ℕ → Type 0
 NotPunctured o row n =
-    (i q u : ℕ) → i < length (recordsFrom o row n) → q < n → row q ≡ 26 → Punctured n q u → Tone o row n i u → ⊥
+    (i q : ℕ) (k : ℤ) → i < length (recordsFrom o row n) → q < n → row q ≡ 26 → Punctured n q k → Tone o row n i k → ⊥
 
--- each has 01's subcarriers, as many as its name says, so none is apart for want of them
+-- each has as many subcarriers as its name says, so none is apart for want of them, in rising maximal runs
 abbrev pub RightTones : (ℕ → ℕ) → (ℕ → ℕ) → ℕ → Type 0
 RightTones o row n = (i : ℕ) → i < length (recordsFrom o row n) → RightRecord n (getD (recordsFrom o row n) i blank)
 

@@ -1,4 +1,4 @@
--- The text of the runs that the program holds is that of their spans.
+-- The runs that the program holds are the resource's, and their text is that of their spans.
 use mathlib.Core.Path.{_≡_, refl, sym, ap, _∙_}
 use mathlib.Core.List.{List, [], _∷_, map}
 use Prim.Native.Nat.{ℕ, zero, suc, _≤_, _<_}
@@ -7,10 +7,12 @@ use lib.ListN.{length, take, getD, length-map}
 use lib.Seq.{length-take-le}
 use Rattle.text.specs.Text.{upto}
 use Rattle.text.proofs.Laws.{upto-cong}
+use Rattle.resource.specs.declared.Resource.{Resource}
 use Rattle.resource.specs.declared.Run.{Run}
 use Rattle.resource.specs.declared.Tones.{Tones}
-use Rattle.resource.specs.Tones.{Span, none}
-use Rattle.resource.specs.Engine.{spanOf, noRun}
+use Rattle.resource.specs.Tones.{none}
+use Rattle.resource.specs.Engine.{spanOf, runsOf, noRun, held}
+use Rattle.resource.proofs.Held.{runs-few, held-runs}
 use Rattle.lines.specs.Lines.{spanText, tonesText}
 use Rattle.lines.specs.Engine.{heldSpans}
 
@@ -29,3 +31,7 @@ held-text n t l =
     rw e
     (upto-cong (λ i. spanText i (spanOf n (getD (t .runs) i noRun))) (λ i. spanText i (getD (map (spanOf n) (take (t .count) (t .runs))) i none)) (t .count)
     (λ i h. ap (spanText i) (sym (nth-span n (t .count) i (t .runs) h l))))
+
+pub held-spans : (n g : ℕ) (r : Resource) (t : Tones) → t ≡ held (runsOf n g r) → heldSpans n t ≡ map (spanOf n) (runsOf n g r)
+unfolding heldSpans
+held-spans n g r t e = rw e (ap (map (spanOf n)) (held-runs (runsOf n g r) (runs-few n g r)))

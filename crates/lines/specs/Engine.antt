@@ -1,5 +1,5 @@
 -- Engine: the subcarriers that the code is handed with a resource. The contracts of the code cite it; nobody has to believe it:
--- `listing/proofs/Shown.antt`.
+-- `proofs/Held.antt`.
 use mathlib.Core.List.{List, map}
 use Prim.Native.Nat.{ℕ}
 use lib.ListN.{take}

@@ -15,7 +15,7 @@ use Rattle.bits.specs.Bits.{bit, field, differs, Small}
 use Rattle.block.specs.Check.{step, register, sent, check, right}
 use Rattle.resource.specs.Values.{carried, pieces, fieldsOf, divides, pieceFields, ownPieces, smallerAt}
 use Rattle.resource.specs.Index.{indexOf, resourceAt, positionOf, placeOf}
-use Rattle.resource.specs.Engine.{offset26, offset52, offset106, wide, narrow, narrow26, narrow52, narrow106, runsOf}
+use Rattle.resource.specs.Tones.{tonesAt, tonesOf}
 use Rattle.resource.proofs.Test.{both-left, both-right, at-each}
 use Rattle.plan.specs.Fields.{gives, share, fieldsIn}
 use Rattle.plan.specs.Kinds.{kinds, kindAt, family, span, mask, takes, takesBlock, blankAt, mustName}
@@ -66,7 +66,11 @@ is-accepted (suc (suc (suc (suc zero)))) l = refl
 is-accepted (suc (suc (suc (suc (suc bw))))) l = absurd (omega arith)
 
 as-long : (bw : ℕ) → bw < 5 → length (listing bw (channel bw) (second bw)) ≡ longest (2 ^ bw)
-unfolding times channel second count total present subfieldsIn subfields fieldsOf pieces carried positions row build rowAt value valueAt firsts seconds secondAt firstBits secondBits field bit common hasSecond userAt onlyPlan choose tells orElse nameOf kindOf mustName blankAt takesBlock takes mask span family kindAt kinds least fieldsIn dec signed upto ownPieces indexOf resourceAt positionOf placeOf offset26 wide runsOf divides pieceFields lead listAt lowest ownerAt ownerOf nameText comma tonesText ruHead ruLine staLine headText ruLines ownerIn staLineAt staLines listingOf listing offset52 offset106 narrow narrow26 narrow52 narrow106 longest
+unfolding times channel second count total present subfieldsIn subfields fieldsOf pieces carried positions row build rowAt value valueAt
+    firsts seconds secondAt firstBits secondBits field bit common hasSecond userAt onlyPlan choose tells orElse nameOf kindOf mustName
+    blankAt takesBlock takes mask span family kindAt kinds least fieldsIn dec signed upto ownPieces indexOf resourceAt positionOf placeOf
+    tonesAt tonesOf divides pieceFields lead listAt lowest ownerAt ownerOf nameText comma tonesText ruHead ruLine staLine headText ruLines
+    ownerIn staLineAt staLines listingOf listing longest
 as-long zero l = refl
 as-long (suc zero) l = refl
 as-long (suc (suc zero)) l = refl

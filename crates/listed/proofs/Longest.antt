@@ -24,9 +24,9 @@ use Rattle.resource.specs.declared.Resource.the-variants.{Single, Joined}
 use Rattle.resource.specs.Names.{numberOf}
 use Rattle.resource.specs.declared.Piece.the-variants.{Part}
 use Rattle.resource.specs.Index.{indexOf, resourceAt, positionOf, placeOf}
-use Rattle.resource.specs.Engine.{spanOf, noRun, offset26, offset52, offset106, wide, wideWith26, narrow, narrow26, narrow52, narrow106, narrowWith26, runsOf}
+use Rattle.resource.specs.Tones.{Span, none, tonesAt, tonesLeavingOut, tonesOf}
 use Rattle.resource.specs.Values.{within, carried, pieces, fieldsOf, divides, pieceFields, ownPieces}
-use Rattle.resource.proofs.Held.{runs-few}
+use Rattle.resource.proofs.Few.{tones-few}
 use Rattle.resource.proofs.Test.{both-left, both-right, wherever, met, below, every-below}
 use Rattle.resource.proofs.Fields.{fields-most}
 use Rattle.resource.proofs.Pieces.{divided-low, none-left}
@@ -116,16 +116,19 @@ name-short (Single S996 i) = omega arith
 name-short (Joined P106And26 i) = omega arith
 name-short (Joined P484And242 i) = omega arith
 
-tones-short : (n g : ℕ) (r : Resource) → length (tonesText n (runsOf n g r)) ≤ 132
+tones-short : (n g : ℕ) (r : Resource) → length (tonesText (tonesOf n g r)) ≤ 176
 unfolding tonesText
 tones-short n g r =
-    let h = upto-short (λ i. spanText i (spanOf n (getD (runsOf n g r) i noRun))) 44 (length (runsOf n g r)) (λ i l. span-short i (spanOf n (getD (runsOf n g r) i noRun))) in
-    omega (arith, runs-few n g r)
+    let ss = tonesOf n g r in
+    let h = upto-short (λ i. spanText i (getD ss i none)) 44 (length ss) (λ i l. span-short i (getD ss i none)) in
+    omega (arith, tones-few n g r)
 
-ru-short : (n g : ℕ) (r : Resource) (u : ℕ) → length (ruLine n g r u) ≤ 240
+ru-short : (n : ℕ) (x : Record) → length (recordLine n x) ≤ 280
 unfolding ruLine ruHead
-ru-short n g r u =
-    simp length-append (omega (arith, name-short r, dec-short (numberOf r), dec-short g, dec-short u, tones-short n g r))
+ru-short n x =
+    let r = x .resource in
+    simp length-append
+    (omega (arith, name-short r, dec-short (numberOf r), dec-short (x .segment), dec-short (x .fields1 + x .fields2), tones-short n (x .segment) r))
 
 -- ---- the lines of the resources, by position
 abbrev sizes : ℕ → List Record → ℕ
@@ -144,9 +147,9 @@ sizes-append : (n : ℕ) (rs ss : List Record) → sizes n (rs ++ ss) ≡ sizes 
 sizes-append n [] ss = omega arith
 sizes-append n (x ∷ rs) ss = omega (arith, sizes-append n rs ss)
 
-sizes-short : (n : ℕ) (rs : List Record) → sizes n rs ≤ 240 * length rs
+sizes-short : (n : ℕ) (rs : List Record) → sizes n rs ≤ 280 * length rs
 sizes-short n [] = omega arith
-sizes-short n (x ∷ rs) = omega (arith, sizes-short n rs, ru-short n (x .segment) (x .resource) (x .fields1 + x .fields2))
+sizes-short n (x ∷ rs) = omega (arith, sizes-short n rs, ru-short n x)
 
 module _ (o row : ℕ → ℕ) where
   sizes-positions : (n m : ℕ) → sizes n (recordsFrom o row m) ≡ sumTo (λ p. sizes n (listAt (o p) row p)) m
@@ -197,26 +200,27 @@ both-channels g (suc n) = omega (arith, both-channels g n, each-channel n (g n))
 abbrev most : ℕ → ℕ → ℕ → ℕ
 most n p v = sizes n (map (pieceRecord (λ q. v) p) (ownPieces v)) + sumTo (λ k. 19 + digits (9 * p + k + 1)) (fieldsOf v)
 
--- no value has more than 0; one that divides nothing lists at most one resource, and gives it at most eight fields: 240 + 8 * 22 bytes
+-- no value has more than 0; one that divides nothing lists at most one resource, and gives it at most eight fields: 280 + 8 * 22 bytes
 abbrev position-test : ℕ → ℕ → Bool
-position-test n p = leb 416 (most n p 0) && below (λ v. wherever (divides v) (leb (most n p v) (most n p 0))) 51
+position-test n p = leb 456 (most n p 0) && below (λ v. wherever (divides v) (leb (most n p v) (most n p 0))) 51
 
 tested : T (below (λ b. below (position-test (2 ^ b)) (2 ^ b)) 5)
-unfolding dec signed upto carried pieces fieldsOf ownPieces indexOf resourceAt positionOf placeOf offset26 offset52 offset106 wide wideWith26 narrow narrow26 narrow52 narrow106 narrowWith26 runsOf divides pieceFields nameText comma tonesText ruHead ruLine
+unfolding dec signed upto carried pieces fieldsOf ownPieces indexOf resourceAt positionOf placeOf tonesAt tonesOf divides pieceFields
+    nameText comma tonesText ruHead ruLine
 tested = tt
 
 module _ (b p : ℕ) (h : b < 5) (l : p < 2 ^ b) where
   here : T (position-test (2 ^ b) p)
   here = every-below (position-test (2 ^ b)) (2 ^ b) (every-below (λ b. below (position-test (2 ^ b)) (2 ^ b)) 5 tested b h) p l
 
-  zero-least : 416 ≤ most (2 ^ b) p 0
-  zero-least = leb→le 416 (most (2 ^ b) p 0) (both-left (leb 416 (most (2 ^ b) p 0)) _ here)
+  zero-least : 456 ≤ most (2 ^ b) p 0
+  zero-least = leb→le 456 (most (2 ^ b) p 0) (both-left (leb 456 (most (2 ^ b) p 0)) _ here)
 
   zero-most : (v : ℕ) → divides v ≡ true → most (2 ^ b) p v ≤ most (2 ^ b) p 0
   zero-most v d =
       leb→le (most (2 ^ b) p v) (most (2 ^ b) p 0)
       (met (divides v) (leb (most (2 ^ b) p v) (most (2 ^ b) p 0))
-      (every-below (λ v. wherever (divides v) (leb (most (2 ^ b) p v) (most (2 ^ b) p 0))) 51 (both-right (leb 416 (most (2 ^ b) p 0)) _ here) v (divided-low v d))
+      (every-below (λ v. wherever (divides v) (leb (most (2 ^ b) p v) (most (2 ^ b) p 0))) 51 (both-right (leb 456 (most (2 ^ b) p 0)) _ here) v (divided-low v d))
       (rw d tt))
 
 one-listed : (c p v : ℕ) → divides v ≡ false → listed c p v ≤ 1
@@ -350,7 +354,8 @@ longest-most bw a b e =
     rw (← fields-1 bw a b l, ← fields-2 bw a b l, ← row-length bw a b) (row-most bw (row bw a b) a b (omega arith) (row-length bw a b) (accepted-signals bw a b e))
 
 pub longest-table : build (λ b. longest (2 ^ b)) 5 ≡ 649 ∷ 1267 ∷ 2513 ∷ 4990 ∷ 10131 ∷ []
-unfolding build longest dec signed upto carried pieces fieldsOf ownPieces indexOf resourceAt positionOf placeOf offset26 offset52 offset106 wide wideWith26 narrow narrow26 narrow52 narrow106 narrowWith26 runsOf divides pieceFields nameText comma tonesText ruHead ruLine
+unfolding build longest dec signed upto carried pieces fieldsOf ownPieces indexOf resourceAt positionOf placeOf tonesAt tonesOf divides
+    pieceFields nameText comma tonesText ruHead ruLine
 longest-table = refl
 
 pub longest-is : (bw : ℕ) → bw < 5 → longest (2 ^ bw) ≡ longestAt bw
@@ -362,7 +367,8 @@ listing-within bw a b e = omega (arith, longest-most bw a b e, longest-is bw (om
 
 -- so at most 10,131 bytes
 pub listing-most : (bw : ℕ) (a b : List ℕ) → outcome11 bw a b ≡ Pass → length (listing bw a b) ≤ 10131
-unfolding longest dec signed upto carried pieces fieldsOf ownPieces indexOf resourceAt positionOf placeOf offset26 offset52 offset106 wide wideWith26 narrow narrow26 narrow52 narrow106 narrowWith26 runsOf divides pieceFields nameText comma tonesText ruHead ruLine
+unfolding longest dec signed upto carried pieces fieldsOf ownPieces indexOf resourceAt positionOf placeOf tonesAt tonesOf divides
+    pieceFields nameText comma tonesText ruHead ruLine
 listing-most bw a b e =
     let h : longest (2 ^ bw) ≤ 10131 = leb→le (longest (2 ^ bw)) 10131 (every-below (λ b. leb (longest (2 ^ b)) 10131) 5 tt bw (omega (arith, known-code bw a b e))) in
     omega (arith, longest-most bw a b e)

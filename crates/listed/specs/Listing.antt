@@ -11,6 +11,7 @@ use Rattle.answer.specs.declared.Answer.{Answer}
 use Rattle.answer.specs.declared.Outcome.{Outcome}
 use Rattle.answer.specs.declared.Outcome.the-variants.{Pass, Refuse}
 use Rattle.answer.specs.Lists.{at}
+use Rattle.resource.specs.Tones.{tonesOf}
 use Rattle.plan.specs.Worked.{thePlan}
 use Rattle.records.specs.declared.Record.{Record}
 use Rattle.records.specs.Records.{listAt, recordsOf, blank}
@@ -26,7 +27,7 @@ use Rattle.lines.specs.Lines.{ruLine, staLine, refusalText, headText}
 
 -- the line of a record of the plan, in a channel of n positions; its users are its fields of both channels
 abbrev pub recordLine : ℕ → Record → List ℕ
-recordLine n x = ruLine n (x .segment) (x .resource) (x .fields1 + x .fields2)
+recordLine n x = ruLine (x .segment) (x .resource) (x .fields1 + x .fields2) (tonesOf n (x .segment) (x .resource))
 
 -- those whose lowest position is p, which is given to c
 abbrev pub listedAt : List ℕ → ℕ → ℕ → List Record

@@ -19,22 +19,27 @@ use Rattle.records.specs.declared.Record.{Record}
 use Rattle.records.specs.Records.{lead, largerRecord, listAt, recordsFrom, blank}
 use Rattle.records.specs.Engine.{listed}
 use Rattle.records.proofs.Listing.{records-most}
-use Rattle.listed.specs.Listing.{recordLine, resources, ruLines}
+use Rattle.listed.specs.Listing.{resources}
+use Rattle.listing.specs.Engine.{runsLine, runsLines}
 
 -- a row of sixteen positions has at most 144 resources
 pub resources-few : (r : List ℕ) → length r ≤ 16 → length (resources r) ≤ 144
 resources-few r l = omega (arith, records-most (onlyPlan (at r)) (at r) (length r))
 
 -- the lines of two lists of resources, one after the other
-pub lines-append : (n : ℕ) (xs ys : List Record) → ruLines n (xs ++ ys) ≡ ruLines n xs ++ ruLines n ys
-unfolding ruLines
+pub lines-append : (n : ℕ) (xs ys : List Record) → runsLines n (xs ++ ys) ≡ runsLines n xs ++ runsLines n ys
+unfolding runsLines
 lines-append n xs ys =
+    let f : ℕ → List ℕ = λ i. runsLine n (getD (xs ++ ys) i blank) in
     rw (length-append xs ys)
-    (upto-append (λ i. recordLine n (getD (xs ++ ys) i blank)) (length xs) (length ys)
-    ∙ rw (upto-cong (λ i. recordLine n (getD (xs ++ ys) i blank)) (λ i. recordLine n (getD xs i blank)) (length xs) (λ i l. ap (recordLine n) (List·getD-append xs ys blank i l)), upto-cong (λ i. recordLine n (getD (xs ++ ys) (length xs + i) blank)) (λ i. recordLine n (getD ys i blank)) (length ys) (λ i l. ap (recordLine n) (getD-append-add xs ys i blank))))
+    (upto-append f (length xs) (length ys)
+    ∙ rw (upto-cong f (λ i. runsLine n (getD xs i blank)) (length xs) (λ i l. ap (runsLine n) (List·getD-append xs ys blank i l)))
+    (ap (λ (t : List ℕ). upto (λ i. runsLine n (getD xs i blank)) (length xs) ++ t)
+    (upto-cong (λ i. f (length xs + i)) (λ i. runsLine n (getD ys i blank)) (length ys) (λ i l. ap (runsLine n) (getD-append-add xs ys i blank)))))
 
 -- one position more
-pub lines-next : (n : ℕ) (o row : ℕ → ℕ) (p : ℕ) → ruLines n (recordsFrom o row (p + 1)) ≡ ruLines n (recordsFrom o row p) ++ ruLines n (listAt (o p) row p)
+pub lines-next : (n : ℕ) (o row : ℕ → ℕ) (p : ℕ)
+    → runsLines n (recordsFrom o row (p + 1)) ≡ runsLines n (recordsFrom o row p) ++ runsLines n (listAt (o p) row p)
 lines-next n o row p = rw (add-one p) (lines-append n (recordsFrom o row p) (listAt (o p) row p))
 
 -- ---- a larger resource has a line where it is listed
@@ -55,10 +60,10 @@ module _ (c : ℕ) (row : ℕ → ℕ) (p : ℕ) (n : c ≢ 0) where
   unfolding listed listAt
   one-listed e = rw (ne-eqb c 0 n) (listed-if (eqb (p % span c) (lead c)) (largerRecord c row p) (rw (ne-eqb c 0 n) at e))
 
-pub no-lines : (n : ℕ) (d : List ℕ) (at : ℕ) → Wrote d at (ruLines n []) d at
-unfolding ruLines
+pub no-lines : (n : ℕ) (d : List ℕ) (at : ℕ) → Wrote d at (runsLines n []) d at
+unfolding runsLines
 no-lines n d at = no-item _ d at
 
-pub one-line : (n : ℕ) (r : Record) → ruLines n (r ∷ []) ≡ recordLine n r
-unfolding ruLines upto
+pub one-line : (n : ℕ) (r : Record) → runsLines n (r ∷ []) ≡ runsLine n r
+unfolding runsLines upto
 one-line n r = refl

@@ -1,18 +1,24 @@
--- Engine: what the listing's functions are handed by the first half of a reading. The contracts of the code cite it; nobody has to believe it.
+-- Engine: what the listing's functions are handed by the first half of a reading, and the listing with the subcarriers that they find. The
+-- contracts of the code cite it; nobody has to believe it: `proofs/Shown.antt`.
 use mathlib.Core.Path.{_≡_}
-use mathlib.Core.List.{List}
+use mathlib.Core.List.{List, _++_, map}
 use Prim.Native.Nat.{ℕ, _+_}
 use lib.ListN.{length, getD}
 use Rattle.answer.specs.declared.Outcome.{Outcome}
 use Rattle.answer.specs.Lists.{build, at}
 use Rattle.bits.specs.Bits.{field}
+use Rattle.resource.specs.Engine.{spanOf, runsOf}
 use Rattle.plan.specs.Engine.{kindsOf, onlyPlan}
+use Rattle.records.specs.declared.Record.{Record}
+use Rattle.records.specs.Records.{blank}
 use Rattle.records.specs.Engine.{ownerOf}
 use Rattle.channel.specs.Layout.{row, count, userAt}
 use Rattle.halves.specs.declared.Planned.{Planned}
 use Rattle.halves.specs.Table.{outcome11}
 use Rattle.halves.specs.Engine.{plannedOf}
-use Rattle.lines.specs.Lines.{staLine}
+use Rattle.text.specs.Text.{upto}
+use Rattle.lines.specs.Lines.{ruLine, staLine, headText}
+use Rattle.listed.specs.Listing.{resources, staLines}
 
 -- what the first half tells, with another outcome
 abbrev pub withOutcome : Outcome → Planned → Planned
@@ -37,3 +43,17 @@ ownedLine bw s owners i = staLine (field s (userAt bw i) 11) (getD owners i 0 + 
 -- the numbers of the owners of channel c's fields, from 0
 abbrev pub ownersIn : List ℕ → ℕ → List ℕ
 ownersIn r c = build (ownerOf (onlyPlan (at r)) (at r) c (length r)) 72
+
+-- ---- the listing with the runs that the program finds; it is the listing of an accepted frame
+-- the line of a record, in a channel of n positions
+abbrev pub runsLine : ℕ → Record → List ℕ
+runsLine n x =
+    ruLine (x .segment) (x .resource) (x .fields1 + x .fields2) (map (spanOf n) (runsOf n (x .segment) (x .resource)))
+
+unfoldable pub runsLines : ℕ → List Record → List ℕ
+runsLines n rs = upto (λ i. runsLine n (getD rs i blank)) (length rs)
+
+-- of the row r, with m fields in channel 1 and k in channel 2
+unfoldable pub runsListing : ℕ → List ℕ → List ℕ → List ℕ → ℕ → ℕ → List ℕ
+runsListing bw r a b m k =
+    headText bw (length (resources r)) m k ++ runsLines (length r) (resources r) ++ staLines bw r a b m (m + k)

@@ -15,22 +15,20 @@ ghost use lib.ListN.{length, getD};
 ghost use Rattle.text.specs.Text.{Wrote, upto};
 ghost use Rattle.input.specs.Engine.{bytesAt, secondAt};
 ghost use Rattle.resource.specs.Values.{ownPieces};
-ghost use Rattle.resource.specs.Engine.{pieceAt};
-ghost use Rattle.resource.specs.Engine.{runsOf, held};
+ghost use Rattle.resource.specs.Engine.{pieceAt, runsOf, held};
 ghost use Rattle.plan.specs.Engine.{kindsOf};
 ghost use Rattle.records.specs.Records.{pieceRecord, listAt};
 ghost use Rattle.records.specs.Engine.{numbersOf};
 ghost use Rattle.halves.specs.Table.{outcome11};
-ghost use Rattle.listing.specs.Engine.{ownedLine, ownersIn};
-ghost use Rattle.listing.specs.Engine.{Given, readablePlan};
+ghost use Rattle.listing.specs.Engine.{Given, readablePlan, ownedLine, ownersIn, runsLine, runsLines, runsListing};
 ghost use Rattle.listed.specs.Longest.{longestAt};
-ghost use Rattle.listed.specs.Listing.{recordLine, listedAt, resources, ruLines, staLines, listingOf, listing, listAnswer, listAfter, frameText, programText};
+ghost use Rattle.listed.specs.Listing.{listedAt, resources, staLines, listing, listAnswer, listAfter, frameText, programText};
 
 // ---- the listing of an accepted frame
 
 fn put_record(out: &mut [u8], at: usize, n: u16, x: Record, tones: Tones) -> usize
     requires { ⌜ (at ≤ 59000) × (tones ≡ held (runsOf n (x .segment) (x .resource))) ⌝ }
-    ensures { λ r. ⌜ Wrote (now (out .entry)) at (recordLine n x) (now (out .exit)) r ⌝ }
+    ensures { λ r. ⌜ Wrote (now (out .entry)) at (runsLine n x) (now (out .exit)) r ⌝ }
     ensures bounded { λ r. ⌜ r ≤ at + 240 ⌝ }
 {
     let users = x.fields1 as u64 + x.fields2 as u64;
@@ -41,7 +39,7 @@ fn put_record(out: &mut [u8], at: usize, n: u16, x: Record, tones: Tones) -> usi
 // The line of the k-th piece of position p, whose value is v, in a channel of n positions.
 fn put_piece(out: &mut [u8], at: usize, n: u16, v: u16, p: usize, k: u16) -> usize
     requires { ⌜ (at ≤ 59000) × (p < 4096) × (k < length (ownPieces v)) ⌝ }
-    ensures { λ r. ⌜ Wrote (now (out .entry)) at (recordLine n (pieceRecord (λ q. v) p (pieceAt v k))) (now (out .exit)) r ⌝ }
+    ensures { λ r. ⌜ Wrote (now (out .entry)) at (runsLine n (pieceRecord (λ q. v) p (pieceAt v k))) (now (out .exit)) r ⌝ }
     ensures bounded { λ r. ⌜ r ≤ at + 240 ⌝ }
 {
     let x = resource::piece_at(v, k);
@@ -52,7 +50,7 @@ fn put_piece(out: &mut [u8], at: usize, n: u16, v: u16, p: usize, k: u16) -> usi
 // A line for each piece of position p, which is given to itself.
 fn put_pieces(out: &mut [u8], at: usize, n: u16, v: u16, p: usize) -> usize
     requires { ⌜ (at ≤ 50000) × (p < 4096) ⌝ }
-    ensures { λ r. ⌜ Wrote (now (out .entry)) at (ruLines n (listAt 0 (λ q. v) p)) (now (out .exit)) r ⌝ }
+    ensures { λ r. ⌜ Wrote (now (out .entry)) at (runsLines n (listAt 0 (λ q. v) p)) (now (out .exit)) r ⌝ }
     ensures bounded { λ r. ⌜ r ≤ at + 240 * length (listAt 0 (λ q. v) p) ⌝ }
 {
     let here = resource::pieces_of(v);
@@ -68,7 +66,7 @@ fn put_pieces(out: &mut [u8], at: usize, n: u16, v: u16, p: usize) -> usize
 // The line of the larger resource of this kind, where p is its lowest position.
 fn put_larger(out: &mut [u8], at: usize, row: &[u16], kind: u16, p: usize) -> usize
     requires { ⌜ (at ≤ 50000) × (length (now row) ≤ 16) × (p < length (now row)) × (kind < 7) × (kind ≡ 0 → ⊥) ⌝ }
-    ensures { λ r. ⌜ Wrote (now (out .entry)) at (ruLines (length (now (row .entry))) (listedAt (now (row .entry)) kind p)) (now (out .exit)) r ⌝ }
+    ensures { λ r. ⌜ Wrote (now (out .entry)) at (runsLines (length (now (row .entry))) (listedAt (now (row .entry)) kind p)) (now (out .exit)) r ⌝ }
     ensures bounded { λ r. ⌜ r ≤ at + 240 * length (listedAt (now (row .entry)) kind p) ⌝ }
 {
     if records::listed_of(kind, p, row[p]) == 0 {
@@ -82,7 +80,7 @@ fn put_larger(out: &mut [u8], at: usize, row: &[u16], kind: u16, p: usize) -> us
 // A line for each of the resources whose lowest position is p, which is given to this kind.
 fn put_position(out: &mut [u8], at: usize, row: &[u16], kind: u16, p: usize) -> usize
     requires { ⌜ (at ≤ 50000) × (length (now row) ≤ 16) × (p < length (now row)) × (kind < 7) ⌝ }
-    ensures { λ r. ⌜ Wrote (now (out .entry)) at (ruLines (length (now (row .entry))) (listedAt (now (row .entry)) kind p)) (now (out .exit)) r ⌝ }
+    ensures { λ r. ⌜ Wrote (now (out .entry)) at (runsLines (length (now (row .entry))) (listedAt (now (row .entry)) kind p)) (now (out .exit)) r ⌝ }
     ensures bounded { λ r. ⌜ r ≤ at + 240 * length (listedAt (now (row .entry)) kind p) ⌝ }
 {
     if kind == 0 {
@@ -94,7 +92,7 @@ fn put_position(out: &mut [u8], at: usize, row: &[u16], kind: u16, p: usize) -> 
 // A line for each resource, by the row's table.
 fn put_records(out: &mut [u8], at: usize, row: &[u16], kinds: &[u16; 16]) -> usize
     requires { ⌜ (at ≤ 1000) × (length (now row) ≤ 16) × (now kinds ≡ kindsOf (now row)) ⌝ }
-    ensures { λ r. ⌜ Wrote (now (out .entry)) at (ruLines (length (now (row .entry))) (resources (now (row .entry)))) (now (out .exit)) r ⌝ }
+    ensures { λ r. ⌜ Wrote (now (out .entry)) at (runsLines (length (now (row .entry))) (resources (now (row .entry)))) (now (out .exit)) r ⌝ }
     ensures bounded { λ r. ⌜ r ≤ at + 240 * length (resources (now (row .entry))) ⌝ }
 {
     let n = row.len();
@@ -186,7 +184,7 @@ fn put_tabled(
     k: usize,
 ) -> usize
     requires { ⌜ (m ≤ 72) × (k ≤ 72) × (length (now row) ≤ 16) × (now kinds ≡ kindsOf (now row)) × (now before ≡ numbersOf (now row)) ⌝ }
-    ensures { λ r. ⌜ Wrote (now (out .entry)) 0 (listingOf bw (now (row .entry)) (now (a .entry)) (now (b .entry)) m k) (now (out .exit)) r ⌝ }
+    ensures { λ r. ⌜ Wrote (now (out .entry)) 0 (runsListing bw (now (row .entry)) (now (a .entry)) (now (b .entry)) m k) (now (out .exit)) r ⌝ }
 {
     let resources = records::count_in(before, row) as usize;
     let o = put_head(out, bw, resources, m, k);
@@ -194,7 +192,7 @@ fn put_tabled(
     put_stations(out, p, bw, a, b, row, kinds, before, m, k)
 }
 
-// The listing of a frame by its row, the kinds of its plan, and the m and k fields of its channels.
+// The listing of an accepted frame by its row, the kinds of its plan, and the m and k fields of its channels.
 fn put_listing(
     out: &mut [u8],
     bw: u32,
@@ -205,7 +203,7 @@ fn put_listing(
     m: usize,
     k: usize,
 ) -> usize
-    requires { ⌜ (bw ≤ 4) × Given bw (now a) (now b) (now row) (now kinds) m k ⌝ }
+    requires { ⌜ (outcome11 bw (now a) (now b) ≡ Outcome.Pass) × Given bw (now a) (now b) (now row) (now kinds) m k ⌝ }
     ensures { λ r. ⌜ Wrote (now (out .entry)) 0 (listing bw (now (a .entry)) (now (b .entry))) (now (out .exit)) r ⌝ }
 {
     let before = records::numbers_before(kinds, row);

@@ -13,9 +13,8 @@ use Rattle.records.specs.Records.{recordsFrom, recordsOf}
 use Rattle.records.specs.Engine.{ownerOf}
 use Rattle.records.proofs.Listing.{same-records}
 use Rattle.records.proofs.Owners.{one-owner, owner-owns}
-use Rattle.records.proofs.Subcarriers.{no-shared, inside-channel, none-punctured}
 use Rattle.records.proofs.Shares.{owner-listed, owns-share, shares-all}
-use Rattle.records.proofs.Sizes.{record-right}
+use Rattle.records.proofs.Tones.{no-shared, inside-channel, none-punctured, record-right}
 
 pub sound : (o row : ℕ → ℕ) (n : ℕ) → Width n → Signals o row 0 n → Sound n row (recordsFrom o row n)
 sound o row n w =

@@ -11,16 +11,17 @@ use Rattle.resource.specs.declared.Piece.{Piece}
 use Rattle.resource.specs.declared.Resource.the-variants.{Joined}
 use Rattle.resource.specs.Values.{set-at}
 use Rattle.resource.specs.Index.{indexOf, isPiece, fromPositions, exists, resourceAt, leavingOut, positionOf, placeOf}
-use Rattle.resource.specs.Engine.{In, placesRuns, runsOf, wide, narrow}
+use Rattle.resource.specs.Engine.{placesRuns, runsOf, wide, narrow}
 use Rattle.resource.specs.Tones.{tonesAt, tonesLeavingOut, tonesOf}
 use Rattle.resource.proofs.Test.{both-left, both-right, wherever, met, below, every-below}
 use Rattle.resource.proofs.Everywhere.{everywhere, at-position}
 use Rattle.resource.proofs.Places.{places-inside}
-use Rattle.resource.proofs.Agree.{right-test, tested-right, piece-right, tones-found}
+use Rattle.resource.proofs.Edge.{In}
+use Rattle.resource.proofs.Agree.{AgreesAt, agrees-test, tested-agrees, piece-agrees, tones-found}
 use Rattle.plan.specs.Kinds.{kinds, kindAt, span, mask, takes}
 use Rattle.plan.specs.Signals.{Place}
 use Rattle.plan.proofs.Table.{both, is-true, spans}
-use Rattle.records.specs.Records.{resourceColumn, larger, RightAt}
+use Rattle.records.specs.Records.{resourceColumn, larger}
 use Rattle.records.specs.Engine.{placesOf}
 
 -- ---- the resource
@@ -109,24 +110,24 @@ is-there n g p x h i j t =
     (both (ltb p 4) (ltb (4 * g + p) n) (lt→ltb p 4 h) (lt→ltb (4 * g + p) n i)) (le→leb (fromPositions x) n j)) t
 
 -- the resources of every line, in a channel that has room for their span
-abbrev right-line : ℕ → ℕ → ℕ → ℕ → Bool
-right-line n g q c = wherever (leb (span c) n) (right-test n g (larger c q))
+abbrev agrees-line : ℕ → ℕ → ℕ → ℕ → Bool
+agrees-line n g q c = wherever (leb (span c) n) (agrees-test n g (larger c q))
 
-abbrev right-lines : ℕ → ℕ → ℕ → Bool
-right-lines n g q = below (right-line n g q) 7
+abbrev agrees-lines : ℕ → ℕ → ℕ → Bool
+agrees-lines n g q = below (agrees-line n g q) 7
 
-rights-tested : T (everywhere right-lines)
+lines-tested : T (everywhere agrees-lines)
 unfolding larger resourceColumn resourceAt indexOf runsOf placesRuns wide narrow tonesOf tonesAt tonesLeavingOut positionOf placeOf span kindAt kinds
-rights-tested = tt
+lines-tested = tt
 
 module _ (b : ℕ) (h : b < 5) where
-  pub piece-there : (p : ℕ) (x : Piece) → p < 2 ^ b → fromPositions x ≤ 2 ^ b → T (isPiece x) → RightAt (2 ^ b) (p / 4) (resourceAt (p % 4) x)
+  pub piece-there : (p : ℕ) (x : Piece) → p < 2 ^ b → fromPositions x ≤ 2 ^ b → T (isPiece x) → AgreesAt (2 ^ b) (p / 4) (resourceAt (p % 4) x)
   piece-there p x l k t =
       rw (tones-found b (p / 4) (p % 4) x h (omega arith) (omega arith) k t)
-      (piece-right b (p / 4) (p % 4) x h (is-there (2 ^ b) (p / 4) (p % 4) x (omega arith) (omega arith) k t))
+      (piece-agrees b (p / 4) (p % 4) x h (is-there (2 ^ b) (p / 4) (p % 4) x (omega arith) (omega arith) k t))
 
-  pub larger-right : (c p : ℕ) → c < 7 → p < 2 ^ b → span c * (p / span c) + span c ≤ 2 ^ b → RightAt (2 ^ b) (p / 4) (larger c (p % 4))
-  larger-right c p i l r =
-      let f = at-position right-lines b (p / 4) (p % 4) rights-tested h (omega arith) (omega arith) in
-      tested-right (2 ^ b) (p / 4) (larger c (p % 4))
-      (met (leb (span c) (2 ^ b)) _ (every-below (right-line (2 ^ b) (p / 4) (p % 4)) 7 f c i) (le→leb (span c) (2 ^ b) (omega arith)))
+  pub larger-agrees : (c p : ℕ) → c < 7 → p < 2 ^ b → span c * (p / span c) + span c ≤ 2 ^ b → AgreesAt (2 ^ b) (p / 4) (larger c (p % 4))
+  larger-agrees c p i l r =
+      let f = at-position agrees-lines b (p / 4) (p % 4) lines-tested h (omega arith) (omega arith) in
+      tested-agrees (2 ^ b) (p / 4) (larger c (p % 4))
+      (met (leb (span c) (2 ^ b)) _ (every-below (agrees-line (2 ^ b) (p / 4) (p % 4)) 7 f c i) (le→leb (span c) (2 ^ b) (omega arith)))

@@ -8,5 +8,6 @@ pub mod Entering
 pub mod Subcarriers
 pub mod Shares
 pub mod Sizes
+pub mod Tones
 pub mod Demand
 pub mod Worked

@@ -1,5 +1,6 @@
--- No two resources of a plan share a subcarrier, none has one in a punctured position, and each lies inside the channel: for every
--- bandwidth and every plan that signals the row.
+-- The runs that the program finds, counted from the channel's lower edge: no two resources of a plan share a number, none has one in a
+-- punctured position, and each lies inside the channel, for every bandwidth and every plan that signals the row. `Tones.antt` says it of
+-- 01's subcarriers.
 use mathlib.Core.Path.{_≡_, refl, sym, _∙_, ap, subst}
 use mathlib.Core.Logic.{⊎-elim, _≢_}
 use Prim.Native.Nat.{ℕ, _+_, _*_, _/_, _%_, _^_, _≤_, _<_}
@@ -9,13 +10,26 @@ use lib.ListN.{length, getD}
 use Rattle.plan.specs.Kinds.{span}
 use Rattle.plan.specs.Signals.{Place, Fits, own, blank, smaller, Signals}
 use Rattle.plan.proofs.Table.{equal-or, known, takes-known, family-low, blank-least, full, place-mod}
+use Rattle.resource.specs.declared.Size.the-variants.{S242}
+use Rattle.resource.specs.declared.Piece.the-variants.{Part}
 use Rattle.resource.specs.Values.{pieces, ownPieces}
-use Rattle.resource.specs.Engine.{noPiece}
+use Rattle.resource.specs.Index.{resourceAt}
+use Rattle.resource.specs.Engine.{noPiece, runsOf}
+use Rattle.resource.proofs.Edge.{In}
 use Rattle.resource.proofs.Apart.{piece-inside, pieces-apart}
-use Rattle.records.specs.Records.{lead, listAt, recordsFrom, HasTone, Punctured, blank as noRecord}
+use Rattle.records.specs.declared.Record.{Record}
+use Rattle.records.specs.Records.{lead, listAt, recordsFrom, blank as noRecord}
 use Rattle.records.proofs.Lead.{itself-place, span-within}
 use Rattle.records.proofs.Larger.{larger-inside}
 use Rattle.records.proofs.Listing.{recordAt, Located, Somewhere, located, located-record, own-length, own-record, larger-record, larger-most, once-lead}
+
+-- u is one of the resource's
+abbrev pub HasRun : ℕ → Record → ℕ → Type 0
+HasRun n r u = In u (runsOf n (r .segment) (r .resource))
+
+-- u is one of the 242's at position q
+abbrev pub In242 : ℕ → ℕ → ℕ → Type 0
+In242 n q u = In u (runsOf n (q / 4) (resourceAt (q % 4) (Part S242 1)))
 
 -- a punctured position is given to itself
 alone-26 : (c q v : ℕ) → v ≡ 26 → Fits c q v → c ≡ 0
@@ -35,14 +49,14 @@ module _ (o row : ℕ → ℕ) (b : ℕ) (h : b < 5) (s : Signals o row 0 (2 ^ b
   whole-span p l = span-within (o p) p b (kind p l) h l (λ q w. entire-at p q l w .0)
 
   -- the subcarriers of a resource that is listed at p lie in its places
-  own-cells : (p m u : ℕ) → p < 2 ^ b → o p ≡ 0 → m < length (listAt (o p) row p) → HasTone (2 ^ b) (recordAt (o p) row p m) u → Place (o p) p (u / 256)
+  own-cells : (p m u : ℕ) → p < 2 ^ b → o p ≡ 0 → m < length (listAt (o p) row p) → HasRun (2 ^ b) (recordAt (o p) row p m) u → Place (o p) p (u / 256)
   own-cells p m u l e k t =
       let k : m < length (ownPieces (row p)) = omega (arith, own-length (o p) row p e) in
       let f = piece-inside b (p / 4) (p % 4) (row p) h (omega arith) (omega arith) noPiece m u k (rw (own-record (o p) row p m e) at t) in
       let g : u / 256 ≡ p = omega arith in
       rw (g, e) (refl, full 0 (omega arith) (p % span 0) (place-mod 0 p (omega arith)))
 
-  cells : (p m u : ℕ) → p < 2 ^ b → m < length (listAt (o p) row p) → HasTone (2 ^ b) (recordAt (o p) row p m) u → Place (o p) p (u / 256)
+  cells : (p m u : ℕ) → p < 2 ^ b → m < length (listAt (o p) row p) → HasRun (2 ^ b) (recordAt (o p) row p m) u → Place (o p) p (u / 256)
   cells p m u l k t =
       ⊎-elim
       (λ e. own-cells p m u l e k t)
@@ -50,7 +64,7 @@ module _ (o row : ℕ → ℕ) (b : ℕ) (h : b < 5) (s : Signals o row 0 (2 ^ b
       (equal-or (o p) 0)
 
   -- of resource i
-  placed : (i p m u : ℕ) → Located o row (2 ^ b) i p m → HasTone (2 ^ b) (getD (recordsFrom o row (2 ^ b)) i noRecord) u → Place (o p) p (u / 256)
+  placed : (i p m u : ℕ) → Located o row (2 ^ b) i p m → HasRun (2 ^ b) (getD (recordsFrom o row (2 ^ b)) i noRecord) u → Place (o p) p (u / 256)
   placed i p m u w t = cells p m u (w .inside) (w .place) (rw (located-record o row (2 ^ b) i p m w) at t)
 
   -- a resource has one lowest place
@@ -59,7 +73,7 @@ module _ (o row : ℕ → ℕ) (b : ℕ) (h : b < 5) (s : Signals o row 0 (2 ^ b
 
   -- two resources with a subcarrier in common are listed at one position
   one-position : (i j p m q l u : ℕ) → Located o row (2 ^ b) i p m → Located o row (2 ^ b) j q l
-      → HasTone (2 ^ b) (getD (recordsFrom o row (2 ^ b)) i noRecord) u → HasTone (2 ^ b) (getD (recordsFrom o row (2 ^ b)) j noRecord) u → p ≡ q
+      → HasRun (2 ^ b) (getD (recordsFrom o row (2 ^ b)) i noRecord) u → HasRun (2 ^ b) (getD (recordsFrom o row (2 ^ b)) j noRecord) u → p ≡ q
   one-position i j p m q l u v w t z =
       let a = placed i p m u v t in
       let c = placed j q l u w z in
@@ -71,7 +85,7 @@ module _ (o row : ℕ → ℕ) (b : ℕ) (h : b < 5) (s : Signals o row 0 (2 ^ b
 
   -- .. where they are one: a larger resource is alone there, and the pieces of a value have none in common
   apart-at : (p m l u : ℕ) → p < 2 ^ b → m < length (listAt (o p) row p) → l < length (listAt (o p) row p) → m ≢ l
-      → HasTone (2 ^ b) (recordAt (o p) row p m) u → HasTone (2 ^ b) (recordAt (o p) row p l) u → ⊥
+      → HasRun (2 ^ b) (recordAt (o p) row p m) u → HasRun (2 ^ b) (recordAt (o p) row p l) u → ⊥
   apart-at p m l u i j k n t z =
       ⊎-elim
       (λ e.
@@ -81,10 +95,10 @@ module _ (o row : ℕ → ℕ) (b : ℕ) (h : b < 5) (s : Signals o row 0 (2 ^ b
       (λ d. n (omega (arith, larger-most (o p) row p d)))
       (equal-or (o p) 0)
 
-  -- no two resources share a subcarrier
-  pub no-shared : (i j u : ℕ) → i < length (recordsFrom o row (2 ^ b)) → j < length (recordsFrom o row (2 ^ b)) → i ≢ j
-      → HasTone (2 ^ b) (getD (recordsFrom o row (2 ^ b)) i noRecord) u → HasTone (2 ^ b) (getD (recordsFrom o row (2 ^ b)) j noRecord) u → ⊥
-  no-shared i j u k l n t z = go (located o row (2 ^ b) i k) (located o row (2 ^ b) j l)
+  -- no two resources share one
+  pub runs-apart : (i j u : ℕ) → i < length (recordsFrom o row (2 ^ b)) → j < length (recordsFrom o row (2 ^ b)) → i ≢ j
+      → HasRun (2 ^ b) (getD (recordsFrom o row (2 ^ b)) i noRecord) u → HasRun (2 ^ b) (getD (recordsFrom o row (2 ^ b)) j noRecord) u → ⊥
+  runs-apart i j u k l n t z = go (located o row (2 ^ b) i k) (located o row (2 ^ b) j l)
     where
       go : Somewhere o row (2 ^ b) i → Somewhere o row (2 ^ b) j → ⊥
       go (p, m, v) (q, d, w) =
@@ -95,17 +109,17 @@ module _ (o row : ℕ → ℕ) (b : ℕ) (h : b < 5) (s : Signals o row 0 (2 ^ b
           (rw (located-record o row (2 ^ b) i p m v) at t) (rw (located-record o row (2 ^ b) j p d y) at z)
 
   -- each lies inside the channel
-  pub inside-channel : (i u : ℕ) → i < length (recordsFrom o row (2 ^ b)) → HasTone (2 ^ b) (getD (recordsFrom o row (2 ^ b)) i noRecord) u → u < 256 * 2 ^ b
-  inside-channel i u k t = go (located o row (2 ^ b) i k)
+  pub runs-inside : (i u : ℕ) → i < length (recordsFrom o row (2 ^ b)) → HasRun (2 ^ b) (getD (recordsFrom o row (2 ^ b)) i noRecord) u → u < 256 * 2 ^ b
+  runs-inside i u k t = go (located o row (2 ^ b) i k)
     where
       go : Somewhere o row (2 ^ b) i → u < 256 * 2 ^ b
       go (p, m, w) = let f = entire-at p (u / 256) (w .inside) (placed i p m u w t) in omega (arith, f .0)
 
   -- none has one in a punctured position
-  pub none-punctured : (i q u : ℕ) → i < length (recordsFrom o row (2 ^ b)) → q < 2 ^ b → row q ≡ 26
-      → Punctured (2 ^ b) q u → HasTone (2 ^ b) (getD (recordsFrom o row (2 ^ b)) i noRecord) u → ⊥
+  pub runs-unpunctured : (i q u : ℕ) → i < length (recordsFrom o row (2 ^ b)) → q < 2 ^ b → row q ≡ 26
+      → In242 (2 ^ b) q u → HasRun (2 ^ b) (getD (recordsFrom o row (2 ^ b)) i noRecord) u → ⊥
   unfolding ownPieces pieces
-  none-punctured i q u k l e t z = go (located o row (2 ^ b) i k)
+  runs-unpunctured i q u k l e t z = go (located o row (2 ^ b) i k)
     where
       here : u / 256 ≡ q
       here = let f = piece-inside b (q / 4) (q % 4) 28 h (omega arith) (omega arith) noPiece 0 u (omega arith) t in omega arith

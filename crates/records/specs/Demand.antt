@@ -4,7 +4,10 @@ use mathlib.Core.Path.{_≡_}
 use mathlib.Core.Logic.{_≢_}
 use mathlib.Core.List.{List}
 use Prim.Native.Nat.{ℕ, _*_, _^_, _<_}
+use lib.IntN.{ℤ, pos}
 use lib.ListN.{length, getD}
+use lib.Signed.{_≤ℤ_, _<ℤ_}
+use Rattle.resource.specs.Tones.{minus}
 use Rattle.records.specs.declared.Record.{Record}
 use Rattle.records.specs.Records.{blank, HasTone, Punctured, RightRecord}
 use Rattle.records.specs.Owns.{fieldsBefore, Owns, Counts, shareOf, allShares}
@@ -20,12 +23,12 @@ resourceIn rs i = getD rs i blank
 -- ---- the subcarriers of the plan's resources
 pub record Sound (n : ℕ) (row : ℕ → ℕ) (rs : List Record) : Type 0 where
   -- "no two resources share a subcarrier"
-  pub apart : (i j u : ℕ) → i < length rs → j < length rs → i ≢ j → HasTone n (resourceIn rs i) u → HasTone n (resourceIn rs j) u → ⊥
+  pub apart : (i j : ℕ) (k : ℤ) → i < length rs → j < length rs → i ≢ j → HasTone n (resourceIn rs i) k → HasTone n (resourceIn rs j) k → ⊥
   -- "none has one in a punctured 20 MHz"
-  pub unpunctured : (i q u : ℕ) → i < length rs → q < n → row q ≡ 26 → Punctured n q u → HasTone n (resourceIn rs i) u → ⊥
-  -- each lies inside the channel
-  pub inside : (i u : ℕ) → i < length rs → HasTone n (resourceIn rs i) u → u < 256 * n
-  -- and is 01's: as many as the resource's name says, in rising maximal runs
+  pub unpunctured : (i q : ℕ) (k : ℤ) → i < length rs → q < n → row q ≡ 26 → Punctured n q k → HasTone n (resourceIn rs i) k → ⊥
+  -- each lies inside the channel, whose positions are 256 wide
+  pub inside : (i : ℕ) (k : ℤ) → i < length rs → HasTone n (resourceIn rs i) k → (minus (128 * n) ≤ℤ k) × (k <ℤ pos (128 * n))
+  -- as many as the resource's name says, in rising maximal runs
   pub named : (i : ℕ) → i < length rs → RightRecord n (resourceIn rs i)
 
 -- ---- whose field is whose, in a row of any length

@@ -3,6 +3,7 @@ use mathlib.Core.Bool.{cond}
 use mathlib.Core.List.{List, [], _∷_, _++_, map}
 use Prim.Native.Nat.{ℕ, zero, suc, _/_, _%_}
 use lib.Dec.{eqb}
+use lib.IntN.{ℤ}
 use lib.ListN.{length, getD}
 use Rattle.answer.specs.Least.{least}
 use Rattle.answer.specs.Lists.{at}
@@ -13,8 +14,7 @@ use Rattle.resource.specs.declared.Resource.{Resource}
 use Rattle.resource.specs.declared.Resource.the-variants.{Single}
 use Rattle.resource.specs.Values.{pieceFields, ownPieces}
 use Rattle.resource.specs.Index.{resourceAt, leavingOut}
-use Rattle.resource.specs.Engine.{In, runsOf, Right}
-use Rattle.resource.specs.Tones.{tonesOf}
+use Rattle.resource.specs.Tones.{tonesOf, Among, Right}
 use Rattle.plan.specs.Kinds.{itself, span, takes}
 use Rattle.plan.specs.Fields.{fieldsIn}
 use Rattle.records.specs.declared.Record.{Record}
@@ -81,21 +81,18 @@ recordsFrom o row (suc n) = recordsFrom o row n ++ listAt (o n) row n
 abbrev pub recordsOf : (ℕ → ℕ) → List ℕ → List Record
 recordsOf o row = recordsFrom o (at row) (length row)
 
--- u, counted from the lower edge of a channel of n positions, is one of the resource's subcarriers
-abbrev pub HasTone : ℕ → Record → ℕ → Type 0
-HasTone n r u = In u (runsOf n (r .segment) (r .resource))
+-- k is one of the resource's subcarriers, in a channel of n positions
+abbrev pub HasTone : ℕ → Record → ℤ → Type 0
+HasTone n r k = Among k (tonesOf n (r .segment) (r .resource))
 
 -- "A punctured position takes its 242's subcarriers"
-abbrev pub Punctured : ℕ → ℕ → ℕ → Type 0
-Punctured n q u = In u (runsOf n (q / 4) (resourceAt (q % 4) (Part S242 1)))
+abbrev pub Punctured : ℕ → ℕ → ℤ → Type 0
+Punctured n q k = Among k (tonesOf n (q / 4) (resourceAt (q % 4) (Part S242 1)))
 
 -- what stands past the last resource
 abbrev pub blank : Record
 blank = record { resource = Single S26 0; segment = 0; position = 0; fields1 = 0; fields2 = 0 }
 
-abbrev pub RightAt : ℕ → ℕ → Resource → Type 0
-RightAt n g r = Right n g r (tonesOf n g r)
-
--- the runs of a record's resource are those that 01 lists
+-- its subcarriers are as many as its name says, in rising maximal runs
 abbrev pub RightRecord : ℕ → Record → Type 0
-RightRecord n r = RightAt n (r .segment) (r .resource)
+RightRecord n r = Right (r .resource) (tonesOf n (r .segment) (r .resource))

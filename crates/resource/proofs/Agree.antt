@@ -75,7 +75,10 @@ agreed n g r ss t =
 abbrev pub agrees-test : ℕ → ℕ → Resource → Bool
 agrees-test n g r = agrees n g r (tonesOf n g r)
 
-pub tested-agrees : (n g : ℕ) (r : Resource) → T (agrees-test n g r) → Agrees n g r (tonesOf n g r)
+abbrev pub AgreesAt : ℕ → ℕ → Resource → Type 0
+AgreesAt n g r = Agrees n g r (tonesOf n g r)
+
+pub tested-agrees : (n g : ℕ) (r : Resource) → T (agrees-test n g r) → AgreesAt n g r
 tested-agrees n g r t = agreed n g r (tonesOf n g r) t
 
 -- ---- tested of every piece
@@ -86,7 +89,8 @@ abbrev agrees-at : ℕ → ℕ → ℕ → Bool
 agrees-at n g p = every-piece (agrees-piece n g p)
 
 agree : T (everywhere agrees-at)
-unfolding indexOf resourceAt isPiece fromPositions positionOf placeOf tonesAt runsOf placesRuns wide wideWith26 narrow narrowWith26 offset26 offset52 offset106 narrow26 narrow52 narrow106
+unfolding indexOf resourceAt isPiece fromPositions positionOf placeOf tonesAt runsOf placesRuns wide wideWith26 narrow narrowWith26
+    offset26 offset52 offset106 narrow26 narrow52 narrow106
 agree = tt
 
 -- a piece that exists

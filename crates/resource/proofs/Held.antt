@@ -6,7 +6,7 @@ use Prim.Native.Nat.{ℕ, zero, suc, _+_, _-_, _*_, _/_, _%_, _^_, _≤_, _<_}
 use native.Mathlib.Omega.{arith}
 use native.Mathlib.Numerals.{add-one}
 use lib.Dec.{eqb}
-use lib.ListN.{length, getD}
+use lib.ListN.{length, take, getD}
 use Rattle.resource.specs.declared.Size.{Size}
 use Rattle.resource.specs.declared.Size.the-variants.{S26, S52, S106, S242, S484, S996}
 use Rattle.resource.specs.declared.Pairing.the-variants.{P106And26, P484And242}
@@ -83,13 +83,10 @@ held-before a rs t e = rw e (go rs)
 pub held-few : (t : Tones) (rs : List Run) → t ≡ held rs → length rs ≤ 3 → (t .count ≤ 3) × (length (t .runs) ≡ 3)
 held-few t rs e h = (rw e (omega (arith, held-count rs)), rw e (held-three rs))
 
-pub held-at : (rs : List Run) (k : ℕ) → length rs ≤ 3 → k < length rs → getD (held rs .runs) k noRun ≡ getD rs k noRun
+pub held-runs : (rs : List Run) → length rs ≤ 3 → take (held rs .count) (held rs .runs) ≡ rs
 unfolding held
-held-at [] k m h = absurd (omega arith)
-held-at (a ∷ rs) zero m h = refl
-held-at (a ∷ []) (suc k) m h = absurd (omega arith)
-held-at (a ∷ b ∷ rs) (suc zero) m h = refl
-held-at (a ∷ b ∷ []) (suc (suc k)) m h = absurd (omega arith)
-held-at (a ∷ b ∷ c ∷ rs) (suc (suc zero)) m h = refl
-held-at (a ∷ b ∷ c ∷ []) (suc (suc (suc k))) m h = absurd (omega arith)
-held-at (a ∷ b ∷ c ∷ d ∷ rs) (suc (suc (suc k))) m h = absurd (omega arith)
+held-runs [] h = refl
+held-runs (a ∷ []) h = refl
+held-runs (a ∷ b ∷ []) h = refl
+held-runs (a ∷ b ∷ c ∷ []) h = refl
+held-runs (a ∷ b ∷ c ∷ d ∷ rs) h = absurd (omega arith)

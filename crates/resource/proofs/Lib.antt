@@ -8,4 +8,5 @@ pub mod Places
 pub mod Apart
 pub mod Starts
 pub mod Held
+pub mod Few
 pub mod Pieces

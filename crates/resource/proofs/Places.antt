@@ -1,25 +1,20 @@
--- The resources of whole positions: 01's kinds one by one, in its words, and where the subcarriers of any places lie.
+-- The runs of a resource of whole positions: those of a single place, and where the subcarriers of any places lie.
 use mathlib.Core.Path.{_≡_, refl, ap, _∙_}
-use mathlib.Core.Logic.{_≢_, _⊎_, inl, inr, ⊎-elim}
+use mathlib.Core.Logic.{_⊎_, inl, inr, ⊎-elim}
 use mathlib.Core.Bool.{Bool, true, false, cond, _&&_}
 use mathlib.Core.List.{List, [], _∷_, _++_}
-use Prim.Native.Nat.{ℕ, zero, suc, _+_, _-_, _*_, _/_, _%_, _^_, _≤_, _<_}
+use Prim.Native.Nat.{ℕ, zero, suc, _+_, _*_, _/_, _%_, _^_, _≤_, _<_}
 use native.Mathlib.Nat.{add-zero}
 use native.Mathlib.Omega.{arith}
-use borrow.Author.Tests.{ne-eqb}
-use lib.Dec.{T, leb, eqb, eqb→eq}
+use lib.Dec.{T, eqb, eqb→eq}
 use lib.ListN.{length}
-use Rattle.resource.specs.declared.Size.the-variants.{S242, S484, S996}
-use Rattle.resource.specs.declared.Resource.the-variants.{Single}
 use Rattle.resource.specs.declared.Run.{Run}
 use Rattle.resource.specs.Values.{set-at}
-use Rattle.resource.specs.Index.{leavingOut, positionOf}
-use Rattle.resource.specs.Engine.{runOf, the242, the242If, placesRuns, wide, runsOf}
+use Rattle.resource.specs.Engine.{runOf, the242, the242If, placesRuns}
 use Rattle.resource.proofs.Edge.{In}
 use Rattle.resource.proofs.Test.{below-or, both-left, both-right}
 
--- ---- 01's kinds
--- a single place
+-- ---- a single place
 pub one-place : (b q : ℕ) → q < 4 → placesRuns b (2 ^ q) ≡ the242 (b + q) ∷ []
 unfolding placesRuns
 one-place b zero h = rw (add-zero b)
@@ -32,35 +27,6 @@ pub own-place : (p : ℕ) → placesRuns (4 * (p / 4)) (2 ^ (p % 4)) ≡ the242 
 own-place p =
     let e : 4 * (p / 4) + p % 4 ≡ p = omega arith in
     one-place (4 * (p / 4)) (p % 4) (omega arith) ∙ ap (λ (x : ℕ). the242 x ∷ []) e
-
--- from 40 MHz the 242 at position q of segment g is the position's
-pub the-242 : (n g q : ℕ) → n ≢ 1 → runsOf n g (Single S242 (q + 1)) ≡ the242 (4 * g + q) ∷ []
-unfolding runsOf wide positionOf
-the-242 n g q m =
-    let e : q + 1 - 1 ≡ q = omega arith in
-    rw (ne-eqb n 1 m, e) (own-place (4 * g + q))
-
--- "484 is its two 242s": pair i of segment g
-pub the-484 : (n g i : ℕ) → i < 2 → runsOf n g (Single S484 (i + 1)) ≡ the242 (4 * g + 2 * i) ∷ the242 (4 * g + 2 * i + 1) ∷ []
-unfolding runsOf placesRuns
-the-484 n g zero h = rw (add-zero (4 * g))
-the-484 n g (suc zero) h = ap (λ (x : ℕ). the242 (4 * g + 2) ∷ the242 x ∷ []) (omega arith)
-the-484 n g (suc (suc i)) h = absurd (omega arith)
-
--- "484+242 its three": all of segment g but position k
-pub the-three : (n g k : ℕ) → k < 4
-    → runsOf n g (leavingOut k) ≡ the242 (4 * g + cond (eqb k 0) 1 0) ∷ the242 (4 * g + cond (leb k 1) 2 1) ∷ the242 (4 * g + cond (leb k 2) 3 2) ∷ []
-unfolding runsOf placesRuns
-the-three n g zero h = refl
-the-three n g (suc zero) h = rw (add-zero (4 * g))
-the-three n g (suc (suc zero)) h = rw (add-zero (4 * g))
-the-three n g (suc (suc (suc zero))) h = rw (add-zero (4 * g))
-the-three n g (suc (suc (suc (suc k)))) h = absurd (omega arith)
-
--- "996 is -500 to -3 and 3 to 500": from the centre of segment g, which is 1024 g + 512 above the channel's lower edge
-pub the-996 : (n g : ℕ) → runsOf n g (Single S996 1) ≡ runOf (1024 * g + 12) 498 ∷ runOf (1024 * g + 515) 498 ∷ []
-unfolding runsOf placesRuns
-the-996 n g = let e : 256 * (4 * g) ≡ 1024 * g = omega arith in rw e
 
 -- ---- at most three runs, whatever the places
 few : (b : ℕ) (w x y z : Bool)

@@ -102,7 +102,7 @@ the242 p = runOf (edge p) 242
 
 -- ---- a resource of whole positions: the places that it has of the four positions from b on, where its segment begins, as a mask m,
 -- bit j for place j. "484 is its two 242s, 484+242 its three; 996 is -500 to -3 and 3 to 500": where it has all four, the two runs of
--- the 996; else the 242 of each of its places, rising. `proofs/Places.antt` has 01's kinds one by one.
+-- the 996; else the 242 of each of its places, rising.
 abbrev pub the242If : Bool → ℕ → List Run
 the242If t p = cond t (the242 p ∷ []) []
 

@@ -7,9 +7,9 @@ ghost use mathlib.Core.Bool.{cond};
 ghost use mathlib.Core.List.{List, [], _∷_, _++_};
 ghost use lib.Dec.{T, eqb};
 ghost use Rattle.resource.specs.Values.{carried, fieldsOf, divides, pieceFields, ownPieces, smallerAt, familyOf};
-ghost use Rattle.resource.specs.Engine.{starts, nthFrom, pieceFrom, pieceAt, numberedOf};
 ghost use Rattle.resource.specs.Index.{indexOf, resourceAt, isPiece, fromPositions};
-ghost use Rattle.resource.specs.Engine.{runOf, edge, the242, offset26, offset52, offset106, wide, wideWith26, the242If, placesRuns, narrow26, narrow52, narrow106, narrow, narrowWith26, runsOf, noRun, held};
+ghost use Rattle.resource.specs.Engine.{starts, nthFrom, pieceFrom, pieceAt, numberedOf, runOf, edge, the242, offset26, offset52, offset106};
+ghost use Rattle.resource.specs.Engine.{wide, wideWith26, the242If, placesRuns, narrow26, narrow52, narrow106, narrow, narrowWith26, runsOf, noRun, held};
 
 // A single resource's number of subcarriers.
 pub enum Size {

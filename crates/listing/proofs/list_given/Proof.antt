@@ -17,7 +17,7 @@ longest-of-requires c κs =
 put-listing-requires : tie.Need-put-listing-requires
 put-listing-requires c κs =
     let s = c .before .before .before .before .before .before .before in
-    (known-code (s .args .bw) (s .args .a .now) (s .args .b .now) (s .pre .0), s .pre .1)
+    (s .pre .0, s .pre .1)
 
 same-length : tie.Need-same-length
 same-length c = search needs
@@ -39,7 +39,7 @@ slice-aggregate-put-listing c = search needs
 put-listing-requires-2 : tie.Need-put-listing-requires-2
 put-listing-requires-2 c κs =
     let s = c .before .before .before .before .before .before .before in
-    (known-code (s .args .bw) (s .args .a .now) (s .args .b .now) (s .pre .0), s .pre .1)
+    (s .pre .0, s .pre .1)
 
 same-length-2 : tie.Need-same-length-2
 same-length-2 c = search needs
@@ -53,7 +53,7 @@ returns-2 c =
 put-listing-requires-3 : tie.Need-put-listing-requires-3
 put-listing-requires-3 c κs =
     let s = c .before .before .before .before .before .before .before .before .before .before .before .before in
-    (known-code (s .args .bw) (s .args .a .now) (s .args .b .now) (s .pre .0), s .pre .1)
+    (s .pre .0, s .pre .1)
 
 same-length-3 : tie.Need-same-length-3
 same-length-3 c = search needs

@@ -1,7 +1,8 @@
 -- `listing::put_listing` meets its contract.
 use Rattle.channel.proofs.Laws.{count-le}
 use Rattle.listing.proofs.Halves.{row-few}
-use Rattle.listed.specs.Listing.{listing}
+use Rattle.listing.proofs.Shown.{shown}
+use Rattle.listed.proofs.Accepted.{known-code}
 use borrow.Author.Needs.{needs}
 use Rattle.listing.proofs.put_listing.Statement.{statement}
 use Rattle.listing.proofs.put_listing.Tie as tie
@@ -9,7 +10,8 @@ use Rattle.listing.proofs.put_listing.Tie as tie
 numbers-before-requires : tie.Need-numbers-before-requires
 numbers-before-requires c κs =
     let s = c .before .before .before .before in
-    (row-few (s .pre .0) (s .pre .1), s .pre .1 .the-kinds)
+    let a = s .args in
+    (row-few (known-code (a .bw) (a .a .now) (a .b .now) (s .pre .0)) (s .pre .1), s .pre .1 .the-kinds)
 
 put-tabled-requires : tie.Need-put-tabled-requires
 put-tabled-requires c κs =
@@ -18,7 +20,7 @@ put-tabled-requires c κs =
     let g = s .pre .1 in (
       rw (g .count1) (count-le (a .bw) 1 (a .a .now)),
       rw (g .count2) (count-le (a .bw) 2 (a .b .now)),
-      row-few (s .pre .0) g,
+      row-few (known-code (a .bw) (a .a .now) (a .b .now) (s .pre .0)) g,
       g .the-kinds,
       c .before .before .numbers-before .ensures,
     )
@@ -27,10 +29,11 @@ same-length : tie.Need-same-length
 same-length c = search needs
 
 returns : tie.Need-returns
-unfolding listing
 returns c =
-    let g = c .before .before .before .before .before .before .before .before .before .before .pre .1 in
-    rw (← g .the-row, ← g .count1, ← g .count2) (c .before .before .put-tabled .ensures)
+    let s = c .before .before .before .before .before .before .before .before .before .before in
+    let a = s .args in
+    let g = s .pre .1 in
+    rw (← shown (a .bw) (a .a .now) (a .b .now) (s .pre .0), ← g .the-row, ← g .count1, ← g .count2) (c .before .before .put-tabled .ensures)
 
 pub put-listing-spec : {M : Type 1} → statement M
 put-listing-spec =

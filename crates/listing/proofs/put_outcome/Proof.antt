@@ -44,7 +44,7 @@ put-listing-requires : tie.Need-put-listing-requires
 put-listing-requires c κs =
     let e = c .before .before .before .before .before .before .before .before .plan-readable .ensures in
     let f = c .before .before .before .before .before .before .enum-told .given .1 in
-    (code _ _ _ e f, given _ _ _ e f (c .before .before .before .positions-of .ensures .0))
+    (outcome _ _ _ e f, given _ _ _ e f (c .before .before .before .positions-of .ensures .0))
 
 same-length-2 : tie.Need-same-length-2
 same-length-2 c = search needs

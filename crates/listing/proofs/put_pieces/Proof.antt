@@ -10,14 +10,14 @@ use Rattle.resource.proofs.Starts.{own-most}
 use Rattle.records.specs.Records.{blank, pieceRecord, listAt}
 use Rattle.records.specs.Engine.{listed}
 use Rattle.records.proofs.Listing.{list-length, list-at, own-record}
-use Rattle.listed.specs.Listing.{recordLine, ruLines}
+use Rattle.listing.specs.Engine.{runsLine, runsLines}
 use borrow.Author.Needs.{needs}
 use Rattle.listing.proofs.put_pieces.Statement.{statement}
 use Rattle.listing.proofs.put_pieces.Tie as tie
 
 abbrev Inv-loop : tie.InvT-loop
 Inv-loop out₀ at n v p here e₀ k₀ out e k =
-    (k ≤ here) × Wrote out₀ at (upto (λ i. recordLine n (getD (listAt 0 (λ q. v) p) i blank)) k) out e × (e ≤ at + 240 * k)
+    (k ≤ here) × Wrote out₀ at (upto (λ i. runsLine n (getD (listAt 0 (λ q. v) p) i blank)) k) out e × (e ≤ at + 240 * k)
 
 abbrev μ-loop : tie.MeasureT-loop
 μ-loop out₀ at n v p here e₀ k₀ out e k = here - k
@@ -48,13 +48,13 @@ loop-again c =
     let m = list-length 0 (λ q. a .v) (a .p) in
     let e : getD (listAt 0 (λ q. a .v) (a .p)) (l .k) blank ≡ pieceRecord (λ q. a .v) (a .p) (pieceAt (a .v) (l .k)) =
     list-at 0 (λ q. a .v) (a .p) (l .k) (omega (arith, m, c .before .before .before .before .before .before .pieces-of .ensures)) ∙ own-record 0 (λ q. a .v) (a .p) (l .k) refl in
-    (omega arith, item _ _ (l .inv .1) (rw (ap (recordLine (a .n)) (sym e)) at (c .before .before .put-piece .ensures .0)), omega arith)
+    (omega arith, item _ _ (l .inv .1) (rw (ap (runsLine (a .n)) (sym e)) at (c .before .before .put-piece .ensures .0)), omega arith)
 
 same-length : tie.Need-same-length Inv-loop μ-loop
 same-length c = kept (c .before .loop .inv .1)
 
 returns : tie.Need-returns Inv-loop μ-loop
-unfolding ruLines listed
+unfolding runsLines listed
 returns c =
     let a = c .before .before .before .before .args in
     let e : c .before .loop .k ≡ length (listAt 0 (λ q. a .v) (a .p)) = omega (arith, c .before .before .pieces-of .ensures, list-length 0 (λ q. a .v) (a .p)) in

@@ -10,20 +10,22 @@ use Rattle.plan.specs.Engine.{onlyPlan}
 use Rattle.records.specs.Records.{listAt, recordsFrom}
 use Rattle.records.proofs.Listing.{next-length, records-most}
 use Rattle.records.proofs.Tables.{kind-in, kind-known}
-use Rattle.listed.specs.Listing.{ruLines}
+use Rattle.listing.specs.Engine.{runsLines}
 use Rattle.listing.proofs.Held.{lines-next}
 use Rattle.listing.proofs.put_records.Statement.{statement}
 use Rattle.listing.proofs.put_records.Tie as tie
 
 abbrev Inv-loop : tie.InvT-loop
 Inv-loop out₀ at row kinds n o₀ p₀ out o p =
-    (p ≤ n) × Wrote out₀ at (ruLines (length row) (recordsFrom (onlyPlan (value row)) (value row) p)) out o × (o ≤ at + 240 * length (recordsFrom (onlyPlan (value row)) (value row) p))
+    (p ≤ n)
+    × Wrote out₀ at (runsLines (length row) (recordsFrom (onlyPlan (value row)) (value row) p)) out o
+    × (o ≤ at + 240 * length (recordsFrom (onlyPlan (value row)) (value row) p))
 
 abbrev μ-loop : tie.MeasureT-loop
 μ-loop out₀ at row kinds n o₀ p₀ out o p = n - p
 
 loop-holds : tie.Need-loop-holds Inv-loop μ-loop
-unfolding ruLines
+unfolding runsLines
 loop-holds c = (omega arith, no-item _ _ _, omega arith)
 
 mul-put-position : tie.Need-mul-put-position Inv-loop μ-loop
@@ -57,7 +59,11 @@ loop-again c =
     let o = onlyPlan (value r) in
     let k = kind-in (s .kinds .now) r (l .p) (c .before .before .before .before .before .before .before .before .before .pre .2) (omega arith) in
     let q = rw k at (c .before .before .put-position .ensures) in
-    (omega arith, rw (lines-next (length r) o (value r) (l .p)) (after {u = ruLines (length r) (listAt (o (l .p)) (value r) (l .p))} (l .inv .1) (q .0)), omega (arith, next-length o (value r) (l .p), q .1))
+    let u = runsLines (length r) (listAt (o (l .p)) (value r) (l .p)) in (
+      omega arith,
+      rw (lines-next (length r) o (value r) (l .p)) (after {u = u} (l .inv .1) (q .0)),
+      omega (arith, next-length o (value r) (l .p), q .1),
+    )
 
 same-length : tie.Need-same-length Inv-loop μ-loop
 same-length c = kept (c .before .loop .inv .1)

@@ -1,7 +1,7 @@
 -- `listing::put_tabled` meets its contract.
 use native.Mathlib.Omega.{arith}
 use Rattle.text.proofs.Laws.{after}
-use Rattle.listed.specs.Listing.{listingOf}
+use Rattle.listing.specs.Engine.{runsListing}
 use Rattle.listing.proofs.Held.{resources-few}
 use borrow.Author.Needs.{needs}
 use Rattle.listing.proofs.put_tabled.Statement.{statement}
@@ -29,7 +29,7 @@ same-length : tie.Need-same-length
 same-length c = search needs
 
 returns : tie.Need-returns
-unfolding listingOf
+unfolding runsListing
 returns c =
     after (after (rw (c .before .before .before .before .before .before .before .before .before .before .before .before .count-in .ensures) at (c .before .before .before .before .before .before .before .before .before .before .put-head .ensures .0)) (c .before .before .before .before .before .before .put-records .ensures .0)) (c .before .before .put-stations .ensures)
 

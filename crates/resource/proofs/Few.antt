@@ -1,0 +1,69 @@
+-- A resource has at most four of 01's spans, whatever its index says.
+use mathlib.Core.Bool.{Bool, true, false, cond}
+use mathlib.Core.List.{List, [], _∷_}
+use Prim.Native.Nat.{ℕ, suc, _+_, _-_, _/_, _%_, _≤_}
+use native.Mathlib.Omega.{arith}
+use lib.Dec.{eqb}
+use lib.ListN.{length, length-append}
+use lib.IntN.{sucℤ}
+use Rattle.resource.specs.declared.Size.the-variants.{S26, S52, S106, S242, S484, S996}
+use Rattle.resource.specs.declared.Piece.{Piece}
+use Rattle.resource.specs.declared.Piece.the-variants.{Part, With26}
+use Rattle.resource.specs.declared.Pairing.the-variants.{P106And26, P484And242}
+use Rattle.resource.specs.declared.Resource.{Resource}
+use Rattle.resource.specs.declared.Resource.the-variants.{Single, Joined}
+use Rattle.resource.specs.Index.{positionOf, placeOf}
+use Rattle.resource.specs.Tones.{Span, _to_, sameℤ, onto, maximal, the242}
+use Rattle.resource.specs.Tones.{wideTones, narrowTones, leavingOutTones, tonesAt, tonesLeavingOut, tonesOf}
+
+either : (m : ℕ) (t : Bool) (a b : List Span) → length a ≤ m → length b ≤ m → length (cond t a b) ≤ m
+either m true a b h l = h
+either m false a b h l = l
+
+onto-few : (s : Span) (ss : List Span) → length (onto s ss) ≤ suc (length ss)
+onto-few s [] = omega arith
+onto-few s (t ∷ ss) = either (suc (suc (length ss))) (sameℤ (sucℤ (s .hi)) (t .lo)) (s .lo to t .hi ∷ ss) (s ∷ t ∷ ss) (omega arith) (omega arith)
+
+maximal-few : (ss : List Span) → length (maximal ss) ≤ length ss
+maximal-few [] = omega arith
+maximal-few (s ∷ ss) = omega (arith, onto-few s (maximal ss), maximal-few ss)
+
+narrow-few : (x : Piece) → length (narrowTones x) ≤ 4
+narrow-few (Part S26 i) = either 4 (eqb i 5) _ _ (omega arith) (omega arith)
+narrow-few (Part S52 i) = omega arith
+narrow-few (Part S106 i) = omega arith
+narrow-few (Part S242 i) = omega arith
+narrow-few (Part S484 i) = omega arith
+narrow-few (Part S996 i) = omega arith
+narrow-few (With26 i) = either 4 (eqb i 1) _ _ (omega arith) (omega arith)
+
+wide-few : (n g p : ℕ) (x : Piece) → length (wideTones n g p x) ≤ 4
+wide-few n g p (Part S26 i) = omega arith
+wide-few n g p (Part S52 i) = omega arith
+wide-few n g p (Part S106 i) = omega arith
+wide-few n g p (Part S242 i) = omega arith
+wide-few n g p (Part S484 i) = omega arith
+wide-few n g p (Part S996 i) = omega arith
+wide-few n g p (With26 i) = either 4 (eqb i 1) _ _ (omega arith) (omega arith)
+
+out-few : (n g k : ℕ) → length (leavingOutTones n g k) ≤ 4
+out-few n g k =
+    simp length-append
+    (omega (arith, one (eqb k 0) (the242 n g 0), one (eqb k 1) (the242 n g 1), one (eqb k 2) (the242 n g 2), one (eqb k 3) (the242 n g 3)))
+  where
+    one : (t : Bool) (s : Span) → length (cond t [] (s ∷ [])) ≤ 1
+    one true s = omega arith
+    one false s = omega arith
+
+at-few : (n g p : ℕ) (x : Piece) → length (tonesAt n g p x) ≤ 4
+unfolding tonesAt
+at-few n g p x =
+    let ss = cond (eqb n 1) (narrowTones x) (wideTones n g p x) in
+    let h : length ss ≤ 4 = either 4 (eqb n 1) (narrowTones x) (wideTones n g p x) (narrow-few x) (wide-few n g p x) in
+    omega (arith, maximal-few ss)
+
+pub tones-few : (n g : ℕ) (r : Resource) → length (tonesOf n g r) ≤ 4
+unfolding tonesOf tonesLeavingOut
+tones-few n g (Single s i) = at-few n g (positionOf s i) (Part s (placeOf s i + 1))
+tones-few n g (Joined P106And26 i) = at-few n g ((i - 1) / 2) (With26 ((i - 1) % 2 + 1))
+tones-few n g (Joined P484And242 i) = omega (arith, maximal-few (leavingOutTones n g (i - 1)), out-few n g (i - 1))
