@@ -56,15 +56,15 @@ module _ (c p v : ℕ) where
   share-not e = rw e
 
 -- each position is one channel's
-pub both-channels : (c p v : ℕ) → channelShare 0 c p v + channelShare 1 c p v ≡ share c p v
+pub both-channels : (c p v : ℕ) → channelShare 1 c p v + channelShare 2 c p v ≡ share c p v
 both-channels c p v =
     ⊎-elim
     (λ (e : 0 ≡ p % 2). rw (← e) (add-zero (share c p v)))
     (λ (e : 0 < p % 2). let f : p % 2 ≡ 1 = omega arith in rw f (zero-add (share c p v)))
     (eq-or-lt-of-le {n = 0} {m = p % 2} (omega arith))
 
-pub shares-next : (c : ℕ) (row : ℕ → ℕ) (b i sum v : ℕ) → sum ≡ shares 0 c row b i + shares 1 c row b i → v ≡ share c (b + i) (row (b + i))
-    → sum + v ≡ shares 0 c row b (i + 1) + shares 1 c row b (i + 1)
+pub shares-next : (c : ℕ) (row : ℕ → ℕ) (b i sum v : ℕ) → sum ≡ shares 1 c row b i + shares 2 c row b i → v ≡ share c (b + i) (row (b + i))
+    → sum + v ≡ shares 1 c row b (i + 1) + shares 2 c row b (i + 1)
 shares-next c row b i sum v e f =
     let g = both-channels c (b + i) (row (b + i)) in
     rw (add-one i, e, f) (omega (arith, g))
@@ -111,11 +111,11 @@ unfolding orElse
 orElse-high x y h = rw (le-ltb x 7 h)
 
 module _ (x c p v : ℕ) where
-  pub channel-own : p % 2 ≡ x → share c p v ≡ channelShare x c p v
-  channel-own e = rw (eq-eqb (p % 2) x e)
+  pub channel-own : p % 2 + 1 ≡ x → share c p v ≡ channelShare x c p v
+  channel-own e = rw (eq-eqb (p % 2 + 1) x e)
 
-  pub channel-other : (p % 2 ≡ x → ⊥) → 0 ≡ channelShare x c p v
-  channel-other e = rw (ne-eqb (p % 2) x e)
+  pub channel-other : (p % 2 + 1 ≡ x → ⊥) → 0 ≡ channelShare x c p v
+  channel-other e = rw (ne-eqb (p % 2 + 1) x e)
 
 -- ---- the bit of a position
 module _ (p m : ℕ) (h : p ≤ 16) (l : 65536 < m) where
@@ -155,7 +155,7 @@ unfolding fieldsIn
 total-same c row p h z l = go (span c) (spans c h) l
   where
     go : (n : ℕ) → (n ≡ 1) ⊎ ((n ≡ 2) ⊎ (n ≡ 4)) → n * (p / n) < p
-        → shares 0 c row (n * ((p - 1) / n)) n + shares 1 c row (n * ((p - 1) / n)) n ≡ shares 0 c row (n * (p / n)) n + shares 1 c row (n * (p / n)) n
+        → shares 1 c row (n * ((p - 1) / n)) n + shares 2 c row (n * ((p - 1) / n)) n ≡ shares 1 c row (n * (p / n)) n + shares 2 c row (n * (p / n)) n
     go n (inl e) l = absurd (let m = rw e at l in omega arith)
     go n (inr (inl e)) l = let m = rw e at l in let f : (p - 1) / 2 ≡ p / 2 = omega arith in rw (e, f)
     go n (inr (inr e)) l = let m = rw e at l in let f : (p - 1) / 4 ≡ p / 4 = omega arith in rw (e, f)

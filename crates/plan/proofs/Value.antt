@@ -124,27 +124,27 @@ shared-bit row e p h = let l = none-over row e in shared-at row (firstOver row) 
 module _ (c : ℕ) (row : ℕ → ℕ) where
   pub fields-most : (n : ℕ) → fieldsTo c row n ≤ 9 * n
   fields-most zero = omega arith
-  fields-most (suc n) = go (eqb (n % 2) c) (fields-most n)
+  fields-most (suc n) = go (eqb (n % 2 + 1) c) (fields-most n)
     where
       go : (t : Bool) → fieldsTo c row n ≤ 9 * n → fieldsTo c row n + cond t (fieldsOf (row n)) 0 ≤ 9 * suc n
       go true l = omega (arith, most-fields (row n))
       go false l = omega arith
 
-  pub fields-start : c < 2 → 0 ≡ fieldsTo c row c
-  fields-start h = ⊎-elim (λ (e : c ≡ 0). rw e) (λ (e : c ≢ 0). let f : c ≡ 1 = omega arith in rw f) (equal-or c 0)
+  pub fields-start : 0 < c → c < 3 → 0 ≡ fieldsTo c row (c - 1)
+  fields-start l h = ⊎-elim (λ (e : c ≡ 1). rw e) (λ (e : c ≢ 1). let f : c ≡ 2 = omega arith in rw f) (equal-or c 1)
 
-  pub fields-next : (p : ℕ) → p % 2 ≡ c → fieldsTo c row p + fieldsOf (row p) ≡ fieldsTo c row (p + 2)
+  pub fields-next : (p : ℕ) → p % 2 + 1 ≡ c → fieldsTo c row p + fieldsOf (row p) ≡ fieldsTo c row (p + 2)
   fields-next p e =
       let f : p + 2 ≡ suc (suc p) = omega arith in
-      rw (f, eq-eqb (p % 2) c e, ne-eqb (suc p % 2) c (λ g. omega arith)) (omega arith)
+      rw (f, eq-eqb (p % 2 + 1) c e, ne-eqb (suc p % 2 + 1) c (λ g. omega arith)) (omega arith)
 
-  pub fields-end : (n p : ℕ) → n ≤ p → p ≤ n + 1 → p % 2 ≡ c → fieldsTo c row p ≡ fieldsTo c row n
+  pub fields-end : (n p : ℕ) → n ≤ p → p ≤ n + 1 → p % 2 + 1 ≡ c → fieldsTo c row p ≡ fieldsTo c row n
   fields-end n p l u e = ⊎-elim (λ (f : p ≡ n). rw f) past (equal-or p n)
     where
       past : p ≢ n → fieldsTo c row p ≡ fieldsTo c row n
       past f =
           let g : p ≡ suc n = omega arith in
-          rw (g, ne-eqb (n % 2) c (λ h. omega arith)) (omega arith)
+          rw (g, ne-eqb (n % 2 + 1) c (λ h. omega arith)) (omega arith)
 
 -- ---- the value
 pub out-is : (row : List ℕ) (w v : ℕ) (a b r : Outcome) → w ≡ firstWrong row → v ≡ firstOver row → a ≡ refuseIf (ltb w (length row)) (no 7 0 (w / 4))
@@ -153,7 +153,7 @@ unfolding planOutcome
 out-is row w v a b r ew ev ea eb er = er ∙ rw (ea, eb, ew, ev)
 
 pub plan-is : (row kinds : List ℕ) (o : Outcome) (s f g : ℕ) → o ≡ planOutcome row → kinds ≡ kindsOf row → s ≡ sharedTo row (firstOver row)
-    → f ≡ fieldsTo 0 (at row) (length row) → g ≡ fieldsTo 1 (at row) (length row)
+    → f ≡ fieldsTo 1 (at row) (length row) → g ≡ fieldsTo 2 (at row) (length row)
     → _≡_ {A = Plan} (record { outcome = o; kinds = kinds; shared = s; fields1 = f; fields2 = g }) (planOf row)
 unfolding planOf
 plan-is row kinds o s f g eo ek es ef eg = (λ i. record { outcome = eo i; kinds = ek i; shared = es i; fields1 = ef i; fields2 = eg i })

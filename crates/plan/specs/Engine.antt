@@ -101,6 +101,6 @@ planOf row = record {
   outcome = planOutcome row;
   kinds = kindsOf row;
   shared = sharedTo row (firstOver row);
-  fields1 = fieldsTo 0 (at row) (length row);
-  fields2 = fieldsTo 1 (at row) (length row);
+  fields1 = fieldsTo 1 (at row) (length row);
+  fields2 = fieldsTo 2 (at row) (length row);
 }

@@ -13,9 +13,9 @@ gives c p v = takes c (p % span c) && eqb (v / 8) (family c)
 unfoldable pub share : ℕ → ℕ → ℕ → ℕ
 share c p v = cond (gives c p v) (fieldsOf v) 0
 
--- "Content channel 1 holds the even positions, channel 2 the odd ones": channel x counts from 0
+-- "Content channel 1 holds the even positions, channel 2 the odd ones"
 abbrev pub channelShare : ℕ → ℕ → ℕ → ℕ → ℕ
-channelShare x c p v = cond (eqb (p % 2) x) (share c p v) 0
+channelShare x c p v = cond (eqb (p % 2 + 1) x) (share c p v) 0
 
 -- channel x's over the first n positions from b on
 abbrev pub shares : ℕ → ℕ → (ℕ → ℕ) → ℕ → ℕ → ℕ
@@ -28,7 +28,7 @@ fieldsIn x c row p = shares x c row (span c * (p / span c)) (span c)
 
 -- over both channels together. The pieces of a position, with one field each, are not counted here.
 abbrev pub total : ℕ → (ℕ → ℕ) → ℕ → ℕ
-total c row p = fieldsIn 0 c row p + fieldsIn 1 c row p
+total c row p = fieldsIn 1 c row p + fieldsIn 2 c row p
 
 abbrev pub Eight : (ℕ → ℕ) → (ℕ → ℕ) → ℕ → ℕ → Type 0
 Eight o row a b = (p : ℕ) → a ≤ p → p < b → total (o p) row p ≤ 8
@@ -37,7 +37,7 @@ Eight o row a b = (p : ℕ) → a ≤ p → p < b → total (o p) row p ≤ 8
 abbrev pub shared : (ℕ → ℕ) → (ℕ → ℕ) → ℕ → Bool
 shared o row p = leb 2 (total (o p) row p)
 
--- "A channel's User fields follow its values in rising position": how many channel c, from 0, has of the first n positions
+-- "A channel's User fields follow its values in rising position": how many channel c has of the first n positions
 abbrev pub fieldsTo : ℕ → (ℕ → ℕ) → ℕ → ℕ
 fieldsTo c row zero = 0
-fieldsTo c row (suc n) = fieldsTo c row n + cond (eqb (n % 2) c) (fieldsOf (row n)) 0
+fieldsTo c row (suc n) = fieldsTo c row n + cond (eqb (n % 2 + 1) c) (fieldsOf (row n)) 0

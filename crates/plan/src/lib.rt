@@ -321,14 +321,14 @@ fn channel_share(channel: usize, kind: u16, p: usize, v: u16) -> u16
     requires { ⌜ kind < 7 ⌝ }
     ensures { λ r. ⌜ (r ≤ 9) × (r ≡ channelShare channel kind p v) ⌝ }
 {
-    if p % 2 == channel {
+    if p % 2 + 1 == channel {
         share_of(kind, p, v)
     } else {
         0
     }
 }
 
-// The fields of a channel (0 or 1) that are the resource's of this kind at position p.
+// The fields of a channel (1 or 2) that are the resource's of this kind at position p.
 pub fn fields_in(channel: usize, kind: u16, row: &[u16], p: usize) -> u16
     requires { ⌜ (kind < 7) × (p < 4096) ⌝ }
     ensures { λ r. ⌜ (r ≤ 36) × (r ≡ fieldsIn channel kind (at (now (row .entry))) p) ⌝ }
@@ -412,14 +412,14 @@ fn sharing(kinds: &[u16; 16], row: &[u16]) -> Marks
     Marks { over: p, shared }
 }
 
-// How many User fields the channel (0 or 1) has.
+// How many User fields the channel (1 or 2) has.
 fn channel_fields(row: &[u16], channel: usize) -> usize
-    requires { ⌜ (length (now row) ≤ 16) × (channel < 2) ⌝ }
+    requires { ⌜ (length (now row) ≤ 16) × (0 < channel) × (channel < 3) ⌝ }
     ensures { λ r. ⌜ r ≡ fieldsTo channel (at (now (row .entry))) (length (now (row .entry))) ⌝ }
 {
     let n = row.len();
     let mut sum: usize = 0;
-    let mut p = channel;
+    let mut p = channel - 1;
     while p < n {
         sum += resource::fields_of(row[p]) as usize;
         p += 2;
@@ -445,7 +445,7 @@ pub fn plan_of(row: &[u16]) -> Plan
         outcome,
         kinds,
         shared: s.shared,
-        fields1: channel_fields(row, 0),
-        fields2: channel_fields(row, 1),
+        fields1: channel_fields(row, 1),
+        fields2: channel_fields(row, 2),
     }
 }

@@ -79,10 +79,10 @@ module _ (o row : ℕ → ℕ) where
 -- ---- a channel has at most nine fields of each of its positions, every second
 module _ (c : ℕ) (row : ℕ → ℕ) where
   one-of-two : (p f g : ℕ) → p % 2 ≡ 0 → f ≤ 9 → g ≤ 9 → inChannel c p f + inChannel c (suc p) g ≤ 9
-  one-of-two p f g e x y = go (eqb (p % 2) c) (eqb (suc p % 2) c) refl refl
+  one-of-two p f g e x y = go (eqb (p % 2 + 1) c) (eqb (suc p % 2 + 1) c) refl refl
     where
-      go : (s t : Bool) → eqb (p % 2) c ≡ s → eqb (suc p % 2) c ≡ t → cond s f 0 + cond t g 0 ≤ 9
-      go true true d d′ = absurd (omega (arith, eqb-true (p % 2) c d, eqb-true (suc p % 2) c d′))
+      go : (s t : Bool) → eqb (p % 2 + 1) c ≡ s → eqb (suc p % 2 + 1) c ≡ t → cond s f 0 + cond t g 0 ≤ 9
+      go true true d d′ = absurd (omega (arith, eqb-true (p % 2 + 1) c d, eqb-true (suc p % 2 + 1) c d′))
       go true false d d′ = omega arith
       go false true d d′ = omega arith
       go false false d d′ = omega arith

@@ -56,20 +56,20 @@ module _ (o row : ℕ → ℕ) (c : ℕ) where
       found p n j h (omega arith) (omega (arith, before-next c row p)) ∙ ap (ownerAt o row p) d
 
 pub in-most : (c p f : ℕ) → inChannel c p f ≤ f
-in-most c p f = go (eqb (p % 2) c)
+in-most c p f = go (eqb (p % 2 + 1) c)
   where
     go : (t : Bool) → cond t f 0 ≤ f
     go true = omega arith
     go false = omega arith
 
-pub in-own : (c p f : ℕ) → p % 2 ≡ c → inChannel c p f ≡ f
-in-own c p f e = rw (eq-eqb (p % 2) c e)
+pub in-own : (c p f : ℕ) → p % 2 + 1 ≡ c → inChannel c p f ≡ f
+in-own c p f e = rw (eq-eqb (p % 2 + 1) c e)
 
-in-other : (c p f k : ℕ) → k < inChannel c p f → p % 2 ≡ c
-in-other c p f k h = go (eqb (p % 2) c) refl h
+in-other : (c p f k : ℕ) → k < inChannel c p f → p % 2 + 1 ≡ c
+in-other c p f k h = go (eqb (p % 2 + 1) c) refl h
   where
-    go : (t : Bool) → eqb (p % 2) c ≡ t → k < cond t f 0 → p % 2 ≡ c
-    go true e l = eqb-true (p % 2) c e
+    go : (t : Bool) → eqb (p % 2 + 1) c ≡ t → k < cond t f 0 → p % 2 + 1 ≡ c
+    go true e l = eqb-true (p % 2 + 1) c e
     go false e l = absurd (omega arith)
 
 -- ---- every field below a channel's count comes from one position

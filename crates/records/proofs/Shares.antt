@@ -23,7 +23,7 @@ use Rattle.resource.proofs.Test.{below-or}
 use Rattle.resource.proofs.Starts.{own-fields, own-whole}
 use Rattle.records.specs.declared.Record.{Record}
 use Rattle.records.specs.Records.{inChannel, listAt, recordsFrom, blank as noRecord}
-use Rattle.records.specs.Owns.{fieldsBefore, ComesFrom, number, Owns, Counts, none, one-more, no-more, shareOf, allShares}
+use Rattle.records.specs.Owns.{fieldsBefore, ComesFrom, number, Owns, Counts, none, one-more, no-more, Channel, shareOf, allShares}
 use Rattle.records.specs.Engine.{lowest, ownerAt, ownerOf}
 use Rattle.records.proofs.Sums.{sumTo, sumFrom, sum-cong, sum-one, sum-past, sum-window, from-cong, tally, tally-cong, tally-split, tally-none, tally-all, tally-once, all-placed}
 use Rattle.records.proofs.Lead.{lowest-place, lowest-only, itself-place, itself-lowest}
@@ -40,9 +40,9 @@ module _ (o row : ℕ → ℕ) (i : ℕ) where
   by-position n c zero h = refl
   by-position n c (suc m) h =
       tally-split (λ j. eqb (ownerOf o row c n j) i) (fieldsBefore c row m) (inChannel c m (fieldsOf (row m)))
-      ∙ omega (arith, by-position n c m (omega arith), last (eqb (m % 2) c) refl)
+      ∙ omega (arith, by-position n c m (omega arith), last (eqb (m % 2 + 1) c) refl)
     where
-      last : (t : Bool) → eqb (m % 2) c ≡ t
+      last : (t : Bool) → eqb (m % 2 + 1) c ≡ t
           → tally (λ k. eqb (ownerOf o row c n (fieldsBefore c row m + k)) i) (inChannel c m (fieldsOf (row m))) ≡ inChannel c m (cnt m)
       last true e =
           rw e
@@ -119,7 +119,7 @@ from-shares c x row a zero = refl
 from-shares c x row a (suc s) = rw (from-shares c x row a s)
 
 none-in : (c p : ℕ) → inChannel c p 0 ≡ 0
-none-in c p = go (eqb (p % 2) c)
+none-in c p = go (eqb (p % 2 + 1) c)
   where
     go : (t : Bool) → _≡_ {A = ℕ} (cond t 0 0) 0
     go true = refl
@@ -361,30 +361,32 @@ module _ (o row : ℕ → ℕ) (n : ℕ) (s : Signals o row 0 n) where
         go true f = absurd (g (divided-itself (o q) q (row q) f (fit q (w .inside))))
         go false f = refl
 
-    own-case : (c : ℕ) → c < 2 → o q ≡ 0 → sumTo (λ p. inChannel c p (G p)) n ≡ shareOf c (recordAt (o q) row q m)
-    own-case zero h g = rw (own-record (o q) row q m g) (alone-share 0 g)
+    own-case : (c : ℕ) → Channel c → o q ≡ 0 → sumTo (λ p. inChannel c p (G p)) n ≡ shareOf c (recordAt (o q) row q m)
+    own-case zero h g = absurd (omega (arith, h .0))
     own-case (suc zero) h g = rw (own-record (o q) row q m g) (alone-share 1 g)
-    own-case (suc (suc c)) h g = absurd (omega arith)
+    own-case (suc (suc zero)) h g = rw (own-record (o q) row q m g) (alone-share 2 g)
+    own-case (suc (suc (suc c))) h g = absurd (omega (arith, h .1))
 
-    larger-case : (c : ℕ) → c < 2 → o q ≢ 0 → sumTo (λ p. inChannel c p (G p)) n ≡ shareOf c (recordAt (o q) row q m)
-    larger-case zero h g = rw (larger-record (o q) row q m g) (larger-share 0 g)
+    larger-case : (c : ℕ) → Channel c → o q ≢ 0 → sumTo (λ p. inChannel c p (G p)) n ≡ shareOf c (recordAt (o q) row q m)
+    larger-case zero h g = absurd (omega (arith, h .0))
     larger-case (suc zero) h g = rw (larger-record (o q) row q m g) (larger-share 1 g)
-    larger-case (suc (suc c)) h g = absurd (omega arith)
+    larger-case (suc (suc zero)) h g = rw (larger-record (o q) row q m g) (larger-share 2 g)
+    larger-case (suc (suc (suc c))) h g = absurd (omega (arith, h .1))
 
-    record-share : (c : ℕ) → c < 2 → sumTo (λ p. inChannel c p (G p)) n ≡ shareOf c (recordAt (o q) row q m)
+    record-share : (c : ℕ) → Channel c → sumTo (λ p. inChannel c p (G p)) n ≡ shareOf c (recordAt (o q) row q m)
     record-share c h = ⊎-elim (own-case c h) (larger-case c h) (equal-or (o q) 0)
 
-    owned-at : (c : ℕ) → c < 2 → tally (λ j. eqb (ownerOf o row c n j) i) (fieldsBefore c row n) ≡ shareOf c (getD (recordsFrom o row n) i noRecord)
+    owned-at : (c : ℕ) → Channel c → tally (λ j. eqb (ownerOf o row c n j) i) (fieldsBefore c row n) ≡ shareOf c (getD (recordsFrom o row n) i noRecord)
     owned-at c h =
         by-position o row i n c n (omega arith) ∙ record-share c h ∙ ap (shareOf c) (sym (located-record o row n i q m w))
 
   -- ---- what is shown
-  owned : (i c : ℕ) → i < length (recordsFrom o row n) → c < 2
+  owned : (i c : ℕ) → i < length (recordsFrom o row n) → Channel c
       → tally (λ j. eqb (ownerOf o row c n j) i) (fieldsBefore c row n) ≡ shareOf c (getD (recordsFrom o row n) i noRecord)
   owned i c h l = let w = located o row n i h in owned-at i (w .0) (w .1) (w .2) c l
 
   -- resource i owns exactly as many fields of channel c as its record says
-  pub owns-share : (i c : ℕ) → i < length (recordsFrom o row n) → c < 2
+  pub owns-share : (i c : ℕ) → i < length (recordsFrom o row n) → Channel c
       → Counts (Owns o row n i c) (fieldsBefore c row n) (shareOf c (getD (recordsFrom o row n) i noRecord))
   owns-share i c h l =
       subst (λ (m : ℕ). Counts (Owns o row n i c) (fieldsBefore c row n) m) (owned i c h l)
@@ -412,7 +414,7 @@ module _ (o row : ℕ → ℕ) (n : ℕ) (s : Signals o row 0 n) where
               (located-below (number o row (lowest (o p) p) 0) (lowest (o p) p) 0 (home-whole p (w .inside) (omega (arith, w .kth)) e))
 
   -- and the shares are all the fields: a made-up count fails
-  pub shares-all : (c : ℕ) → c < 2 → allShares c (recordsFrom o row n) ≡ fieldsBefore c row n
+  pub shares-all : (c : ℕ) → Channel c → allShares c (recordsFrom o row n) ≡ fieldsBefore c row n
   shares-all c h =
       sym (sum-shares c (recordsFrom o row n))
       ∙ sum-cong (λ i. shareOf c (getD (recordsFrom o row n) i noRecord)) (λ i. tally (λ j. eqb (ownerOf o row c n j) i) (fieldsBefore c row n))

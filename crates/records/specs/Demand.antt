@@ -10,7 +10,7 @@ use lib.Signed.{_≤ℤ_, _<ℤ_}
 use Rattle.resource.specs.Tones.{minus}
 use Rattle.records.specs.declared.Record.{Record}
 use Rattle.records.specs.Records.{blank, HasTone, Punctured, RightRecord}
-use Rattle.records.specs.Owns.{fieldsBefore, Owns, Counts, shareOf, allShares}
+use Rattle.records.specs.Owns.{fieldsBefore, Owns, Counts, Channel, shareOf, allShares}
 
 -- 01's numbers of positions
 abbrev pub Width : ℕ → Type 0
@@ -37,6 +37,6 @@ pub record Shared (o row : ℕ → ℕ) (n : ℕ) (rs : List Record) : Type 0 wh
   pub owned : (c j : ℕ) → j < fieldsBefore c row n → (i : ℕ) × (i < length rs) × Owns o row n i c j
   pub only : (i i′ c j : ℕ) → Owns o row n i c j → Owns o row n i′ c j → i ≡ i′
   -- a resource owns as many of each channel's as its share says ..
-  pub shares : (i c : ℕ) → i < length rs → c < 2 → Counts (Owns o row n i c) (fieldsBefore c row n) (shareOf c (resourceIn rs i))
+  pub shares : (i c : ℕ) → i < length rs → Channel c → Counts (Owns o row n i c) (fieldsBefore c row n) (shareOf c (resourceIn rs i))
   -- .. and the shares are all that the row's values give
-  pub complete : (c : ℕ) → c < 2 → allShares c rs ≡ fieldsBefore c row n
+  pub complete : (c : ℕ) → Channel c → allShares c rs ≡ fieldsBefore c row n

@@ -1,7 +1,9 @@
 -- Whose User field is whose (01, "Values of the RU Allocation subfield" and "What a plan is"), for any plan o.
 use mathlib.Core.Path.{_≡_}
+use mathlib.Core.Bool.{cond}
 use mathlib.Core.List.{List, [], _∷_}
 use Prim.Native.Nat.{ℕ, zero, suc, _+_, _%_, _<_}
+use lib.Dec.{eqb}
 use lib.ListN.{length}
 use Rattle.resource.specs.Values.{pieces, fieldsOf}
 use Rattle.plan.specs.Kinds.{itself, span}
@@ -10,14 +12,14 @@ use Rattle.plan.specs.Fields.{fieldsTo}
 use Rattle.records.specs.declared.Record.{Record}
 use Rattle.records.specs.Records.{lead, recordsFrom}
 
--- how many User fields channel c, from 0, has from the first n positions: "the count is the sum over the row's values"
+-- how many User fields channel c has from the first n positions: "the count is the sum over the row's values"
 abbrev pub fieldsBefore : ℕ → (ℕ → ℕ) → ℕ → ℕ
 fieldsBefore c row n = fieldsTo c row n
 
 -- "A channel's User fields follow its values in rising position": field j of channel c comes from position p, of n, and is its k-th
 pub record ComesFrom (row : ℕ → ℕ) (n c j p k : ℕ) : Type 0 where
   pub inside : p < n
-  pub channel : p % 2 ≡ c
+  pub channel : p % 2 + 1 ≡ c
   pub kth : k < fieldsOf (row p)
   pub follows : j ≡ fieldsBefore c row p + k
 
@@ -40,10 +42,13 @@ pub data Counts (P : ℕ → Type 0) : ℕ → ℕ → Type 0 where
   one-more : {n m : ℕ} → P n → Counts P n m → Counts P (suc n) (suc m)
   no-more : {n m : ℕ} → (P n → ⊥) → Counts P n m → Counts P (suc n) m
 
--- a resource's share of channel c, from 0
+-- c is a channel's number
+abbrev pub Channel : ℕ → Type 0
+Channel c = (0 < c) × (c < 3)
+
+-- a resource's share of channel c
 abbrev pub shareOf : ℕ → Record → ℕ
-shareOf zero r = r .fields1
-shareOf (suc c) r = r .fields2
+shareOf c r = cond (eqb c 1) (r .fields1) (r .fields2)
 
 -- the shares of channel c of all the resources
 abbrev pub allShares : ℕ → List Record → ℕ

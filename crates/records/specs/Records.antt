@@ -1,7 +1,7 @@
 -- The list of a plan's resources (01, "What a plan is"), for any plan o.
 use mathlib.Core.Bool.{cond}
 use mathlib.Core.List.{List, [], _∷_, _++_, map}
-use Prim.Native.Nat.{ℕ, zero, suc, _/_, _%_}
+use Prim.Native.Nat.{ℕ, zero, suc, _+_, _/_, _%_}
 use lib.Dec.{eqb}
 use lib.IntN.{ℤ}
 use lib.ListN.{length, getD}
@@ -19,9 +19,9 @@ use Rattle.plan.specs.Kinds.{itself, span, takes}
 use Rattle.plan.specs.Fields.{fieldsIn}
 use Rattle.records.specs.declared.Record.{Record}
 
--- "Content channel 1 holds the even positions, channel 2 the odd ones": f where position p is channel c's, counted from 0
+-- "Content channel 1 holds the even positions, channel 2 the odd ones": f where position p is channel c's
 abbrev pub inChannel : ℕ → ℕ → ℕ → ℕ
-inChannel c p f = cond (eqb (p % 2) c) f 0
+inChannel c p f = cond (eqb (p % 2 + 1) c) f 0
 
 -- ---- a position that is given to itself
 abbrev pub pieceRecord : (ℕ → ℕ) → ℕ → Piece → Record
@@ -29,8 +29,8 @@ pieceRecord row p x = record {
   resource = resourceAt (p % 4) x;
   segment = p / 4;
   position = p;
-  fields1 = inChannel 0 p (pieceFields (row p));
-  fields2 = inChannel 1 p (pieceFields (row p));
+  fields1 = inChannel 1 p (pieceFields (row p));
+  fields2 = inChannel 2 p (pieceFields (row p));
 }
 
 -- ---- a larger resource
@@ -60,8 +60,8 @@ largerRecord c row p = record {
   resource = larger c (p % 4);
   segment = p / 4;
   position = p;
-  fields1 = fieldsIn 0 c row p;
-  fields2 = fieldsIn 1 c row p;
+  fields1 = fieldsIn 1 c row p;
+  fields2 = fieldsIn 2 c row p;
 }
 
 -- listed at its lowest position alone

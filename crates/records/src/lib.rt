@@ -40,7 +40,7 @@ fn value_at(row: &[u16], p: usize) -> u16
 fn in_channel(channel: usize, p: usize, f: u16) -> u16
     ensures { λ r. ⌜ r ≡ inChannel channel p f ⌝ }
 {
-    if p % 2 == channel { f } else { 0 }
+    if p % 2 + 1 == channel { f } else { 0 }
 }
 
 // ---- a larger resource
@@ -86,8 +86,8 @@ pub fn piece_record(v: u16, p: usize, x: Piece) -> Record
         resource: resource::resource_at(p as u16, x),
         segment: (p / 4) as u16,
         position: p as u16,
-        fields1: in_channel(0, p, f),
-        fields2: in_channel(1, p, f),
+        fields1: in_channel(1, p, f),
+        fields2: in_channel(2, p, f),
     }
 }
 
@@ -100,8 +100,8 @@ pub fn larger_record(kind: u16, row: &[u16], p: usize) -> Record
         resource: larger_of(kind, (p % 4) as u16),
         segment: (p / 4) as u16,
         position: p as u16,
-        fields1: plan::fields_in(0, kind, row, p),
-        fields2: plan::fields_in(1, kind, row, p),
+        fields1: plan::fields_in(1, kind, row, p),
+        fields2: plan::fields_in(2, kind, row, p),
     }
 }
 

@@ -12,13 +12,16 @@ use Rattle.plan.proofs.channel_fields.Statement.{statement}
 use Rattle.plan.proofs.channel_fields.Tie as tie
 
 abbrev Inv-loop : tie.InvT-loop
-Inv-loop row channel n sum₀ p₀ sum p = (p ≤ n + 1) × (p % 2 ≡ channel) × (sum ≡ fieldsTo channel (at row) p)
+Inv-loop row channel n sum₀ p₀ sum p = (p ≤ n + 1) × (p % 2 + 1 ≡ channel) × (sum ≡ fieldsTo channel (at row) p)
 
 abbrev μ-loop : tie.MeasureT-loop
 μ-loop row channel n sum₀ p₀ sum p = n + 1 - p
 
+sub-p : tie.Need-sub-p Inv-loop μ-loop
+sub-p c = search needs
+
 loop-holds : tie.Need-loop-holds Inv-loop μ-loop
-loop-holds c = (omega arith, omega arith, fields-start (c .before .args .channel) (at (c .before .args .row .now)) (omega arith))
+loop-holds c = (omega arith, omega arith, fields-start (c .before .args .channel) (at (c .before .args .row .now)) (omega arith) (omega arith))
 
 mul-fields-of : tie.Need-mul-fields-of Inv-loop μ-loop
 mul-fields-of c = search needs
@@ -61,6 +64,7 @@ channel-fields-spec =
     (tie.spec
     Inv-loop
     μ-loop
+    sub-p
     loop-holds
     mul-fields-of
     shared-slice-read-fields-of

@@ -6,6 +6,9 @@ use borrow.Author.Needs.{needs}
 use Rattle.plan.proofs.channel_share.Statement.{statement}
 use Rattle.plan.proofs.channel_share.Tie as tie
 
+add-if1 : tie.Need-add-if1
+add-if1 c = search needs
+
 share-of-requires : tie.Need-share-of-requires
 share-of-requires c κs = search needs
 
@@ -16,4 +19,4 @@ returns-2 : tie.Need-returns-2
 returns-2 c = (omega arith, channel-other _ _ _ _ (c .if1 .left))
 
 pub channel-share-spec : {M : Type 1} → statement M
-channel-share-spec = tie.close (tie.spec share-of-requires returns returns-2)
+channel-share-spec = tie.close (tie.spec add-if1 share-of-requires returns returns-2)

@@ -11,7 +11,7 @@ use Rattle.plan.proofs.total_of.Statement.{statement}
 use Rattle.plan.proofs.total_of.Tie as tie
 
 abbrev Inv-loop : tie.InvT-loop
-Inv-loop kind row p n b sum₀ place₀ sum place = (place ≤ n) × (sum ≤ 9 * place) × (sum ≡ shares 0 kind (at row) b place + shares 1 kind (at row) b place)
+Inv-loop kind row p n b sum₀ place₀ sum place = (place ≤ n) × (sum ≤ 9 * place) × (sum ≡ shares 1 kind (at row) b place + shares 2 kind (at row) b place)
 
 abbrev μ-loop : tie.MeasureT-loop
 μ-loop kind row p n b sum₀ place₀ sum place = n - place
