@@ -3,8 +3,12 @@ use mathlib.Core.Path.{_≡_, sym, _∙_}
 use Rattle.answer.proofs.refuse_if.Reads as refuse-if
 use Rattle.answer.proofs.or_else.Reads as or-else
 
-pub refuse-if-agrees : (κs : _) (a : _) (r r' : _) (s s' : _) → refuse-if.Post κs a r s → refuse-if.Post κs a r' s' → r ≡ r'
+-- of a contract, `Post` of its function: for one input it allows one result
+abbrev pub Agrees : {K : Type 0} {A R S : K → Type 0} → ((κs : K) → A κs → R κs → S κs → Type 0) → Type 0
+Agrees {K} {A} {R} {S} P = (κs : K) (a : A κs) (r r' : R κs) (s s' : S κs) → P κs a r s → P κs a r' s' → r ≡ r'
+
+pub refuse-if-agrees : Agrees refuse-if.Post
 refuse-if-agrees κs a r r' s s' p q = p ∙ sym q
 
-pub or-else-agrees : (κs : _) (a : _) (r r' : _) (s s' : _) → or-else.Post κs a r s → or-else.Post κs a r' s' → r ≡ r'
+pub or-else-agrees : Agrees or-else.Post
 or-else-agrees κs a r r' s s' p q = p ∙ sym q

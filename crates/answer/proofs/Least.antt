@@ -1,13 +1,13 @@
 -- The laws of the lowest number that passes a test.
 use mathlib.Core.Path.{_≡_, refl, sym, _∙_, ap}
 use mathlib.Core.Logic.{⊎-elim}
-use mathlib.Core.Bool.{Bool, true, false, cond}
+use mathlib.Core.Bool.{Bool, true, false, not, cond}
 use Prim.Native.Nat.{ℕ, zero, suc, _+_, _≤_, _<_}
 use native.Mathlib.Omega.{arith}
 use native.Mathlib.Numerals.{add-one}
 use native.Mathlib.Nat.{eq-or-lt-of-le}
-use lib.Dec.{ltb}
-use borrow.Author.Tests.{lt-ltb, le-ltb, ltb-true}
+use lib.Dec.{ltb, eqb}
+use borrow.Author.Tests.{lt-ltb, le-ltb, ltb-true, eqb-true, not-false}
 use Rattle.answer.specs.Least.{least}
 
 -- none below n passes: n
@@ -102,6 +102,10 @@ least-all p n e k l = go (p k) refl
     go : (t : Bool) → p k ≡ t → t ≡ false
     go true f = let z : least p n ≤ k = least-below p n k l f in let w : _≡_ {A = ℕ} 0 1 = omega arith in cc
     go false f = refl
+
+-- two functions that the checker computes to be equal at every number below n
+pub equal-below : (f g : ℕ → ℕ) (n : ℕ) → least (λ k. not (eqb (f k) (g k))) n ≡ n → (k : ℕ) → k < n → f k ≡ g k
+equal-below f g n e k l = eqb-true (f k) (g k) (not-false (eqb (f k) (g k)) (least-all (λ k. not (eqb (f k) (g k))) n e k l))
 
 -- the lowest passes
 pub least-holds : (p : ℕ → Bool) (n : ℕ) → least p n < n → p (least p n) ≡ true

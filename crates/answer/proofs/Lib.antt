@@ -2,3 +2,5 @@ pub mod Agree
 pub mod Least
 pub mod Lists
 pub mod Order
+pub mod First
+pub mod Numbers

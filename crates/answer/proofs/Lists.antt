@@ -9,7 +9,7 @@ use native.Mathlib.Numerals.{add-one}
 use native.Mathlib.Nat.{eq-or-lt-of-le, add-zero, add-suc}
 use lib.ListN.{length, getD, set, take, drop, length-append, length-drop, List·getD-append}
 use lib.Dec.{ltb}
-use lib.Seq.{drop-cons, set-at, getD-at, take-at, drop-at, take-all, take-append-le, getD-append-add, getD-drop, drop-append-add, drop-drop, drop-length, ext-getD}
+use lib.Seq.{drop-cons, set-at, getD-at, take-at, drop-at, getD-append-add, getD-drop, ext-getD}
 use borrow.Author.Tests.{ltb-true, ltb-false}
 use Rattle.answer.specs.Lists.{build, filled}
 
@@ -40,16 +40,6 @@ module _ {A : Type 0} where
       ext-getD d l (build f n) (e ∙ sym (length-build f n))
       (λ i m. h i (omega arith) ∙ sym (getD-build f n i d (omega arith)))
 
-  pub take-build : (f : ℕ → A) (m n : ℕ) → m ≤ n → take m (build f n) ≡ build f m
-  unfolding build
-  take-build f m zero l =
-      let e : m ≡ 0 = omega arith in rw e
-  take-build f m (suc n) l =
-      ⊎-elim
-      (λ (e : m ≡ suc n). rw e (take-all (suc n) (build f (suc n)) (omega (arith, length-build f (suc n)))))
-      (λ (k : m < suc n). take-append-le m (build f n) (f n ∷ []) (omega (arith, length-build f n)) ∙ take-build f m n (omega arith))
-      (eq-or-lt-of-le {n = m} {m = suc n} l)
-
   -- first m elements, then n more
   pub build-append : (f : ℕ → A) (m n : ℕ) → build f (m + n) ≡ build f m ++ build (λ i. f (m + i)) n
   unfolding build
@@ -65,10 +55,6 @@ module _ {A : Type 0} where
   unfolding filled build
   filled-step f n x w l e =
       rw (drop-cons w n x l, e, add-one n, set-at (build f n) (getD w n (f n)) (drop (suc n) w) (f n) n (length-build f n), append-assoc)
-
-  pub filled-all : (f : ℕ → A) (n : ℕ) (w : List A) → n ≡ length w → filled f n w ≡ build f n
-  unfolding filled
-  filled-all f n w e = rw (e, drop-length w, append-nil)
 
   pub filled-length : (f : ℕ → A) (n : ℕ) (w : List A) → n ≤ length w → length (filled f n w) ≡ length w
   unfolding filled
@@ -98,29 +84,9 @@ module _ {A : Type 0} where
   unfolding filled
   take-filled f n w = take-at (build f n) (drop n w) n (length-build f n)
 
-  pub take-filled-le : (f : ℕ → A) (m n : ℕ) (w : List A) → m ≤ n → take m (filled f n w) ≡ build f m
-  unfolding filled
-  take-filled-le f m n w l =
-      take-append-le m (build f n) (drop n w) (omega (arith, length-build f n)) ∙ take-build f m n l
-
   pub drop-filled : (f : ℕ → A) (n : ℕ) (w : List A) → drop n (filled f n w) ≡ drop n w
   unfolding filled
   drop-filled f n w = drop-at (build f n) (drop n w) n (length-build f n)
-
-  pub drop-kept : (f : ℕ → A) (m n : ℕ) (w : List A) → m ≤ n → drop n (filled f m w) ≡ drop n w
-  unfolding filled
-  drop-kept f m n w l =
-      let e : n ≡ length (build f m) + (n - m) = omega (arith, length-build f m) in
-      let e' : m + (n - m) ≡ n = omega arith in
-      ap (λ k. drop k (build f m ++ drop m w)) e
-      ∙ drop-append-add (build f m) (drop m w) (n - m)
-      ∙ drop-drop (n - m) m w
-      ∙ ap (λ k. drop k w) e'
-
-  -- a front that is written over
-  pub filled-again : (f g : ℕ → A) (m n : ℕ) (w : List A) → m ≤ n → filled f n (filled g m w) ≡ filled f n w
-  unfolding filled
-  filled-again f g m n w l = ap (λ r. build f n ++ r) (drop-kept g m n w l)
 
   -- a buffer is known by its elements
   pub filled-is : (f : ℕ → A) (d : A) (n : ℕ) (v w : List A) → length v ≡ length w → n ≤ length w

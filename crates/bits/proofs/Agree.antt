@@ -1,6 +1,7 @@
 -- Any two results that a public function's contract allows for one input agree: each contract is an equation.
 use mathlib.Core.Path.{_≡_, sym, _∙_}
 use denote.Ref.{now}
+use Rattle.answer.proofs.Agree.{Agrees}
 use Rattle.bits.proofs.byte_at.Reads as byte-at
 use Rattle.bits.proofs.bit_at.Reads as bit-at
 use Rattle.bits.proofs.field_at.Reads as field-at
@@ -9,22 +10,22 @@ use Rattle.bits.proofs.lacks_at.Reads as lacks-at
 use Rattle.bits.proofs.first_diff.Reads as first-diff
 use Rattle.bits.proofs.put_field.Reads as put-field
 
-pub byte-at-agrees : (κs : _) (a : _) (r r' : _) (s s' : _) → byte-at.Post κs a r s → byte-at.Post κs a r' s' → r ≡ r'
+pub byte-at-agrees : Agrees byte-at.Post
 byte-at-agrees κs a r r' s s' p q = p ∙ sym q
 
-pub bit-at-agrees : (κs : _) (a : _) (r r' : _) (s s' : _) → bit-at.Post κs a r s → bit-at.Post κs a r' s' → r ≡ r'
+pub bit-at-agrees : Agrees bit-at.Post
 bit-at-agrees κs a r r' s s' p q = p ∙ sym q
 
-pub field-at-agrees : (κs : _) (a : _) (r r' : _) (s s' : _) → field-at.Post κs a r s → field-at.Post κs a r' s' → r ≡ r'
+pub field-at-agrees : Agrees field-at.Post
 field-at-agrees κs a r r' s s' p q = p ∙ sym q
 
-pub wide-from-agrees : (κs : _) (a : _) (r r' : _) (s s' : _) → wide-from.Post κs a r s → wide-from.Post κs a r' s' → r ≡ r'
+pub wide-from-agrees : Agrees wide-from.Post
 wide-from-agrees κs a r r' s s' p q = p ∙ sym q
 
-pub lacks-at-agrees : (κs : _) (a : _) (r r' : _) (s s' : _) → lacks-at.Post κs a r s → lacks-at.Post κs a r' s' → r ≡ r'
+pub lacks-at-agrees : Agrees lacks-at.Post
 lacks-at-agrees κs a r r' s s' p q = p ∙ sym q
 
-pub first-diff-agrees : (κs : _) (a : _) (r r' : _) (s s' : _) → first-diff.Post κs a r s → first-diff.Post κs a r' s' → r ≡ r'
+pub first-diff-agrees : Agrees first-diff.Post
 first-diff-agrees κs a r r' s s' p q = p ∙ sym q
 
 pub put-field-agrees : (κs : _) (a : _) (r r' : _) (s s' : _) → put-field.Post κs a r s → put-field.Post κs a r' s' → now (s .0) ≡ now (s' .0)

@@ -155,11 +155,6 @@ pub lacks-inside : (s : List ℕ) (at n : ℕ) → 0 < n → lacks s at n ≡ 0 
 unfolding lacks
 lacks-inside s at n h e = omega arith
 
--- and what is lacking is what lies past the end, at most the range
-pub lacks-some : (s : List ℕ) (at n : ℕ) → 8 * length s < at + n → at ≤ 8 * length s → 8 * length s + lacks s at n ≡ at + n
-unfolding lacks
-lacks-some s at n h l = omega arith
-
 pub lacks-all : (s : List ℕ) (at n : ℕ) → 8 * length s ≤ at → lacks s at n ≡ n
 unfolding lacks
 lacks-all s at n h = omega arith

@@ -3,3 +3,5 @@ pub mod Windows
 pub mod Writes
 pub mod Fields
 pub mod Differs
+pub mod Bytes
+pub mod Stores

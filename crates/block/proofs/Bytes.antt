@@ -10,7 +10,8 @@ use Rattle.bits.proofs.Fields.{field-lt}
 use Rattle.block.specs.Check.{register}
 use Rattle.block.proofs.Checks.{register-lt}
 use Rattle.block.specs.Engine.{shift, shifts}
-use Rattle.block.proofs.Mirror.{steps, steps-lt, register-part, mirror, mirror-lt, mirror-twice, all-out, equal-below}
+use Rattle.answer.proofs.Least.{equal-below}
+use Rattle.block.proofs.Mirror.{steps, steps-lt, register-part, mirror, mirror-lt, mirror-twice, all-out}
 
 -- ---- eight places of the mirrored register
 

@@ -1,17 +1,14 @@
 -- The mirrored register is the register: a place moved is a step.
 use Prim.Native.Nat.{ℕ, zero, suc, _+_, _-_, _*_, _/_, _%_, _^_, _≤_, _<_}
 use mathlib.Core.Path.{_≡_, refl, sym, _∙_, ap}
-use mathlib.Core.Bool.{not}
 use mathlib.Core.List.{List}
 use native.Mathlib.Numerals.{add-one}
 use native.Mathlib.Nat.{add-zero, div-one, div-eq-of-lt}
 use native.Mathlib.Omega.{arith}
 use lib.Bits.{bitXor, xor-comm}
-use lib.Dec.{eqb}
 use lib.Pow as P
-use borrow.Author.Tests.{eqb-true, not-false}
 use Rattle.answer.specs.Least.{least}
-use Rattle.answer.proofs.Least.{least-all}
+use Rattle.answer.proofs.Least.{equal-below}
 use Rattle.bits.specs.Bits.{bit, field}
 use Rattle.bits.proofs.Fields.{field-bit, field-lt}
 use Rattle.block.specs.Check.{step, register, sent}
@@ -51,9 +48,6 @@ mirror r =
 pub mirror-lt : (r : ℕ) → mirror r < 256
 unfolding mirror
 mirror-lt r = omega arith
-
-pub equal-below : (f g : ℕ → ℕ) (n : ℕ) → least (λ k. not (eqb (f k) (g k))) n ≡ n → (k : ℕ) → k < n → f k ≡ g k
-equal-below f g n e k l = eqb-true (f k) (g k) (not-false (eqb (f k) (g k)) (least-all (λ k. not (eqb (f k) (g k))) n e k l))
 
 pub mirror-twice : (r : ℕ) → r < 256 → mirror (mirror r) ≡ r
 unfolding mirror least

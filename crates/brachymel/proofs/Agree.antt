@@ -1,10 +1,9 @@
 -- What the contracts of the C entries leave open: nothing.
-use mathlib.Core.Path.{_≡_, sym, _∙_, ap}
+use mathlib.Core.Path.{_≡_, sym, _∙_}
 use denote.Ref.{now}
 use lib.ListN.{length}
 use Prim.Native.Nat.{_*_, _/_}
-use Rattle.answer.specs.declared.Answer.{Answer}
-use Rattle.answer.proofs.Order.{after-kept}
+use Rattle.answer.proofs.Order.{after-answered}
 use Rattle.answer.specs.Lists.{filled}
 use Rattle.frame.specs.Words.{wordCount, wordsOf}
 use Rattle.reader.specs.Table.{readOutcome}
@@ -35,5 +34,5 @@ read-keeps κs a r s p n =
     let y = now (a .1 .1 .0) in
     let w = now (a .1 .1 .1 .0) in
     p .1
-    ∙ after-kept (readOutcome (a .0) x y (length w / 4)) (wordCount (a .0) x y) (filled (byteAt (wordsOf (a .0) x y)) (4 * wordCount (a .0) x y) w) w
-    (λ e. n (ap (λ (z : Answer). z .number) (p .0) ∙ e))
+    ∙ after-answered (readOutcome (a .0) x y (length w / 4)) (wordCount (a .0) x y) r (filled (byteAt (wordsOf (a .0) x y)) (4 * wordCount (a .0) x y) w) w
+    (p .0) n

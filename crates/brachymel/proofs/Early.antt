@@ -67,4 +67,5 @@ early-passes bw t n m e = go (ltb 4 bw) (not (eqb (length t % 4) 0)) (ltb 154 (l
 
 pub few-words : (bw bytes n : ℕ) → early bw bytes n ≡ Pass → n ≤ 154
 unfolding early
-few-words bw bytes n e = ltb-false 154 n (pass-if _ _ (pass-right (refuseIf (not (eqb (bytes % 4) 0)) (no 13 0 0)) _ (pass-right (refuseIf (ltb 4 bw) (no 1 0 0)) _ e)))
+few-words bw bytes n e =
+    ltb-false 154 n (pass-if _ _ (pass-right (refuseIf (not (eqb (bytes % 4) 0)) (no 13 0 0)) _ (pass-right (refuseIf (ltb 4 bw) (no 1 0 0)) _ e)))

@@ -6,12 +6,14 @@ use Prim.Native.Nat.{ℕ, _%_}
 use lib.Dec.{eqb}
 use lib.ListN.{length}
 use denote.Ref.{now}
-use Rattle.answer.specs.Answer.{_or_, answerAt}
+use Rattle.answer.specs.Answer.{_or_}
 use Rattle.answer.specs.Order.{firstOf, Judged}
 use Rattle.answer.specs.declared.Answer.{Answer}
 use Rattle.answer.specs.declared.Outcome.{Outcome}
 use Rattle.answer.specs.declared.Outcome.the-variants.{Pass, Refuse}
-use Rattle.answer.proofs.Order.{Only, only-if, only-or, first-chain, Gives, none, more, distinct, absent, after-kept, judged}
+use Rattle.answer.proofs.Numbers.{Only, only-if, only-or, Gives, distinct, absent, judged, none, more}
+use Rattle.answer.proofs.First.{first-chain}
+use Rattle.answer.proofs.Order.{after-answered}
 use Rattle.halves.specs.Table.{check1}
 use Rattle.candidate.specs.Engine.{needed, candidate}
 use Rattle.writer.specs.Result.{check13, check14, writeOutcome, front, writeNumbers}
@@ -60,10 +62,9 @@ write-keeps κs a r s p n =
     let t = now (a .1 .0) in
     let x = now (a .1 .1 .0) in
     let y = now (a .1 .1 .1 .0) in
-    let o = bytesOutcome bw t (length x) (length y) in
-    let z : answerAt o (needed bw (wordsIn t)) .number ≡ 0 → ⊥ = λ e. n (ap (λ (z : Answer). z .number) (p .0) ∙ e) in (
-      p .1 .0 ∙ after-kept o (needed bw (wordsIn t)) (front (candidate bw (wordsIn t) 1) x) x z,
-      p .1 .1 ∙ after-kept o (needed bw (wordsIn t)) (front (candidate bw (wordsIn t) 2) y) y z,
+    let o = bytesOutcome bw t (length x) (length y) in (
+      p .1 .0 ∙ after-answered o (needed bw (wordsIn t)) r (front (candidate bw (wordsIn t) 1) x) x (p .0) n,
+      p .1 .1 ∙ after-answered o (needed bw (wordsIn t)) r (front (candidate bw (wordsIn t) 2) y) y (p .0) n,
     )
 
 pub list-keeps : (κs : _) (a : _) (r : _) (s : _) → list.Post κs a r s → (r .number ≡ 0 → ⊥) → now (s .1 .1 .1 .0) ≡ now (a .1 .1 .1 .0)

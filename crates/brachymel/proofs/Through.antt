@@ -5,7 +5,7 @@ use Prim.Native.Nat.{ℕ, _*_, _/_, _%_, _^_, _≤_, _<_, min}
 use native.Mathlib.Omega.{arith}
 use lib.ListN.{length, drop, length-append, List·getD-append}
 use Rattle.answer.specs.Answer.{answerAt}
-use Rattle.answer.proofs.Order.{after-kept, after-passed}
+use Rattle.answer.proofs.Order.{after-answered, after-passed}
 use Rattle.answer.specs.Lists.{filled, at}
 use Rattle.answer.proofs.Lists.{filled-cong}
 use Rattle.answer.specs.declared.Answer.{Answer}
@@ -21,34 +21,39 @@ use Rattle.octets.specs.Octets.{byteAt}
 use Rattle.brachymel.specs.Bytes.{readAnswer, readBytes}
 use Rattle.brachymel.proofs.Rooms.{reading-room}
 
-module _ (bw : ℕ) (a b w p p′ : List ℕ) (x : Answer) (er : length p ≡ min (length w / 4) 154) (ex : x ≡ answerOf bw a b (length p)) (ep : p′ ≡ wordsAfter bw a b p) where
+-- `read` has read into p, of as many words as the lent bytes w have room for: its answer x, and p′ that it left there
+pub record HasRead (bw : ℕ) (a b w p p′ : List ℕ) (x : Answer) : Type 0 where
+  pub room : length p ≡ min (length w / 4) 154
+  pub answers : x ≡ answerOf bw a b (length p)
+  pub leaves : p′ ≡ wordsAfter bw a b p
+
+module _ {bw : ℕ} {a b w p p′ : List ℕ} {x : Answer} (h : HasRead bw a b w p p′ x) where
   same-reading : readOutcome bw a b (length p) ≡ readOutcome bw a b (length w / 4)
-  same-reading = ap (readOutcome bw a b) er ∙ reading-room bw a b (length w / 4)
+  same-reading = ap (readOutcome bw a b) (h .room) ∙ reading-room bw a b (length w / 4)
 
   pub answer-is : x ≡ readAnswer bw a b w
   unfolding answerOf
-  answer-is = ex ∙ ap (λ (o : Outcome). answerAt o (wordCount bw a b)) same-reading
+  answer-is = h .answers ∙ ap (λ (o : Outcome). answerAt o (wordCount bw a b)) same-reading
 
   pub kept-bytes : (x .number ≡ 0 → ⊥) → w ≡ readBytes bw a b w
   unfolding readBytes answerOf
   kept-bytes n =
-      sym (after-kept (readOutcome bw a b (length w / 4)) (wordCount bw a b) (filled (byteAt (wordsOf bw a b)) (4 * wordCount bw a b) w) w
-      (λ e. n (ap (λ (y : Answer). y .number) answer-is ∙ e)))
+      sym (after-answered (readOutcome bw a b (length w / 4)) (wordCount bw a b) x (filled (byteAt (wordsOf bw a b)) (4 * wordCount bw a b) w) w answer-is n)
 
   module _ (z : x .number ≡ 0) where
     passed : readOutcome bw a b (length p) ≡ Pass
-    passed = accepted-exactly bw a b (length p) (ap (λ (y : Answer). y .number) (sym ex) ∙ z)
+    passed = accepted-exactly bw a b (length p) (ap (λ (y : Answer). y .number) (sym (h .answers)) ∙ z)
 
     pub place-is : x .place ≡ wordCount bw a b
     unfolding answerOf
-    place-is = ap (λ (y : Answer). y .place) ex ∙ ap (λ (o : Outcome). answerAt o (wordCount bw a b) .place) passed
+    place-is = ap (λ (y : Answer). y .place) (h .answers) ∙ ap (λ (o : Outcome). answerAt o (wordCount bw a b) .place) passed
 
     pub room-for : wordCount bw a b ≤ length p
     room-for = reading-pass bw a b (length p) passed .room-enough
 
     words-there : p′ ≡ wordsOf bw a b ++ drop (wordCount bw a b) p
     unfolding wordsAfter
-    words-there = ep ∙ after-passed (readOutcome bw a b (length p)) _ _ passed
+    words-there = h .leaves ∙ after-passed (readOutcome bw a b (length p)) _ _ passed
 
     pub holds-words : (rest : List ℕ) → wordCount bw a b ≤ length (p′ ++ rest)
     holds-words rest =

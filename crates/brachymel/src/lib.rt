@@ -51,8 +51,10 @@ fn write_through(
 ) -> Answer
     requires { ⌜ (n ≤ length (now local)) × (n ≡ length (now words) / 4) ⌝ }
     ensures { λ r. ⌜ r ≡ answerOf bandwidth (wordsIn (now (words .entry))) (length (now (cc1 .entry))) (length (now (cc2 .entry))) ⌝ }
-    ensures { λ _. ⌜ now (cc1 .exit) ≡ channelAfter bandwidth (wordsIn (now (words .entry))) (length (now (cc1 .entry))) (length (now (cc2 .entry))) 1 (now (cc1 .entry)) ⌝ }
-    ensures { λ _. ⌜ now (cc2 .exit) ≡ channelAfter bandwidth (wordsIn (now (words .entry))) (length (now (cc1 .entry))) (length (now (cc2 .entry))) 2 (now (cc2 .entry)) ⌝ }
+    ensures { λ _. ⌜ now (cc1 .exit)
+        ≡ channelAfter bandwidth (wordsIn (now (words .entry))) (length (now (cc1 .entry))) (length (now (cc2 .entry))) 1 (now (cc1 .entry)) ⌝ }
+    ensures { λ _. ⌜ now (cc2 .exit)
+        ≡ channelAfter bandwidth (wordsIn (now (words .entry))) (length (now (cc1 .entry))) (length (now (cc2 .entry))) 2 (now (cc2 .entry)) ⌝ }
 {
     octets::get_words(local, words, n);
     writer::write(bandwidth, &local[..n], cc1, cc2)
@@ -66,8 +68,10 @@ pub extern "C" fn brachymel_write(
     cc2: &mut [u8],
 ) -> Answer
     ensures { λ r. ⌜ r ≡ writeAnswer bandwidth (now (words .entry)) (length (now (cc1 .entry))) (length (now (cc2 .entry))) ⌝ }
-    ensures { λ _. ⌜ now (cc1 .exit) ≡ writeChannel bandwidth (now (words .entry)) (length (now (cc1 .entry))) (length (now (cc2 .entry))) 1 (now (cc1 .entry)) ⌝ }
-    ensures { λ _. ⌜ now (cc2 .exit) ≡ writeChannel bandwidth (now (words .entry)) (length (now (cc1 .entry))) (length (now (cc2 .entry))) 2 (now (cc2 .entry)) ⌝ }
+    ensures { λ _. ⌜ now (cc1 .exit)
+        ≡ writeChannel bandwidth (now (words .entry)) (length (now (cc1 .entry))) (length (now (cc2 .entry))) 1 (now (cc1 .entry)) ⌝ }
+    ensures { λ _. ⌜ now (cc2 .exit)
+        ≡ writeChannel bandwidth (now (words .entry)) (length (now (cc1 .entry))) (length (now (cc2 .entry))) 2 (now (cc2 .entry)) ⌝ }
 {
     let n = words.len() / 4;
     let early = refused_early(bandwidth, words.len(), n);

@@ -1,189 +1,23 @@
 -- The candidate carries what was put into it, with every check and tail right, and is zero past its end.
-use mathlib.Core.Path.{_≡_, refl, sym, _∙_}
-use mathlib.Core.Logic.{⊎-elim}
-use mathlib.Core.Bool.{Bool, true, false, cond}
+use mathlib.Core.Path.{_≡_, _∙_}
+use mathlib.Core.Bool.{true}
 use mathlib.Core.List.{List}
-use Prim.Native.Nat.{ℕ, zero, suc, _+_, _-_, _*_, _/_, _%_, _^_, _≤_, _<_}
-use native.Mathlib.Decide.{decLt}
-use native.Mathlib.Nat.{eq-or-lt-of-le, mod-eq-of-lt, zero-div, zero-mod}
+use Prim.Native.Nat.{ℕ, _+_, _*_, _%_, _^_, _≤_, _<_}
 use native.Mathlib.Omega.{arith}
-use lib.Dec.{ltb}
 use lib.ListN.{length}
 use Rattle.bits.specs.Bits.{bit, field, put, Small}
-use Rattle.bits.proofs.Fields.{field-of, field-ext}
-use Rattle.bits.proofs.Writes.{put-length, put-small, put-before, put-after, field-put}
-use Rattle.block.specs.Check.{check, Right}
-use Rattle.block.proofs.Checks.{check-lt, check-ext, right-says, says-right, right-ext}
-use Rattle.channel.specs.Layout.{firsts, firstBits, secondAt, secondBits, hasSecond, common, subfields, valueAt, value, userAt, blockAt, blocks, covered, endOf}
-use Rattle.channel.proofs.Laws.{first-inside, second-inside, common-ge, value-first, value-second, value-inside, values-apart, users-apart, user-after, user-inside, user-end, block-after, block-inside, covered-le, end-after}
+use Rattle.bits.proofs.Fields.{field-ext}
+use Rattle.bits.proofs.Writes.{put-length, put-after, field-put}
+use Rattle.block.specs.Check.{Right}
+use Rattle.channel.specs.Layout.{firstBits, secondAt, secondBits, hasSecond, common, subfields, valueAt, value, userAt, blockAt, blocks, covered, endOf}
+use Rattle.channel.proofs.Laws.{first-inside, second-inside, common-ge}
+use Rattle.channel.proofs.Values.{value-inside, values-apart}
+use Rattle.channel.proofs.Blocks.{users-apart, user-after, user-end, block-after, block-inside, end-after}
 use Rattle.candidate.specs.Engine.{puts, seal, sealSecond, sealBlocks, payload, sealed}
 use Rattle.candidate.proofs.Contents.{Contents}
-
--- ---- what a put leaves
-
--- bit i is none of the w from x
-abbrev Off : ℕ → ℕ → ℕ → Type 0
-Off x w i = x ≤ i → i < x + w → ⊥
-
-put-off : (d : List ℕ) (x w v i : ℕ) → Off x w i → bit (put d x w v) i ≡ bit d i
-put-off d x w v i h = go (decLt i x) (decLt i (x + w))
-  where
-    go : Dec (i < x) → Dec (i < x + w) → bit (put d x w v) i ≡ bit d i
-    go (yes l) e = put-before d x w v i l
-    go (no l) (yes m) = absurd (h (omega arith) m)
-    go (no l) (no m) = put-after d x w v i (omega arith)
-
-module _ (at : ℕ → ℕ) (w : ℕ) (v : ℕ → ℕ) (d : List ℕ) where
-  pub puts-length : (n : ℕ) → length (puts at w v n d) ≡ length d
-  unfolding puts
-  puts-length zero = refl
-  puts-length (suc n) = put-length (puts at w v n d) (at n) w (v n) ∙ puts-length n
-
-  puts-off : (n i : ℕ) → ((k : ℕ) → k < n → Off (at k) w i) → bit (puts at w v n d) i ≡ bit d i
-  unfolding puts
-  puts-off zero i h = refl
-  puts-off (suc n) i h =
-      put-off (puts at w v n d) (at n) w (v n) i (h n (omega arith)) ∙ puts-off n i (λ k l. h k (omega arith))
-
-  -- each number is read back where it was put, if they rise and do not overlap
-  puts-field : ((j k : ℕ) → j < k → at j + w ≤ at k) → (n : ℕ) → ((k : ℕ) → k < n → at k + w ≤ 8 * length d)
-      → (k : ℕ) → k < n → field (puts at w v n d) (at k) w ≡ v k % 2 ^ w
-  unfolding puts
-  puts-field apart zero inside k l = absurd (omega arith)
-  puts-field apart (suc n) inside k l =
-      ⊎-elim
-      (λ (e : k ≡ n).
-      rw e (field-put (puts at w v n d) (at n) w (v n) (omega (arith, inside n (omega arith), puts-length n))))
-      (λ (m : k < n).
-      field-ext (put (puts at w v n d) (at n) w (v n)) (puts at w v n d) (at k) (at k) w
-      (λ j i. put-before (puts at w v n d) (at n) w (v n) (at k + j) (omega (arith, apart k n m)))
-      ∙ puts-field apart n (λ j i. inside j (omega arith)) k m)
-      (eq-or-lt-of-le {n = k} {m = n} (omega arith))
-
--- ---- what sealing a block gives and leaves
-
-module _ (x n : ℕ) (d : List ℕ) where
-  pub seal-length : length (seal x n d) ≡ length d
-  unfolding seal
-  seal-length = put-length d (x + n) 4 (check d x n)
-
-  seal-off : (i : ℕ) → Off (x + n) 4 i → bit (seal x n d) i ≡ bit d i
-  unfolding seal
-  seal-off i h = put-off d (x + n) 4 (check d x n) i h
-
-  -- the check is the one of what stands before it, and a tail of zeros stays one
-  seal-right : x + n + 4 ≤ 8 * length d → ((k : ℕ) → k < 6 → bit d (x + n + 4 + k) ≡ 0) → Right (seal x n d) x n
-  unfolding seal
-  seal-right l z =
-      record {
-        checked =
-            field-put d (x + n) 4 (check d x n) l
-            ∙ mod-eq-of-lt (check-lt d x n)
-            ∙ check-ext d (put d (x + n) 4 (check d x n)) x x n (λ k m. sym (put-before d (x + n) 4 (check d x n) (x + k) (omega arith)));
-        ended =
-            field-of (put d (x + n) 4 (check d x n)) (x + n + 4) 6 0
-            (λ k m. put-after d (x + n) 4 (check d x n) (x + n + 4 + k) (omega arith) ∙ z k m ∙ sym (rw (zero-div (2 ^ k))))
-            ∙ zero-mod (2 ^ 6);
-      }
-
--- a block that another put leaves is still right
-right-kept : (s t : List ℕ) (x n : ℕ) → ((i : ℕ) → x ≤ i → i < x + n + 10 → bit t i ≡ bit s i) → Right s x n → Right t x n
-right-kept s t x n h r =
-    right-says t x n (right-ext t s x x n (λ k l. h (x + k) (omega arith) (omega arith)) ∙ says-right s x n r)
-
-module _ (bw n : ℕ) (d : List ℕ) where
-  pub blocks-length : (m : ℕ) → length (sealBlocks bw n m d) ≡ length d
-  unfolding sealBlocks
-  blocks-length zero = refl
-  blocks-length (suc b) = seal-length (blockAt bw b) (covered n b) (sealBlocks bw n b d) ∙ blocks-length b
-
-  blocks-off : (m i : ℕ) → ((b : ℕ) → b < m → Off (blockAt bw b + covered n b) 4 i) → bit (sealBlocks bw n m d) i ≡ bit d i
-  unfolding sealBlocks
-  blocks-off zero i h = refl
-  blocks-off (suc b) i h =
-      seal-off (blockAt bw b) (covered n b) (sealBlocks bw n b d) i (h b (omega arith))
-      ∙ blocks-off b i (λ k l. h k (omega arith))
-
-  -- where every tail is zero, sealing makes every block right
-  module _ (inside : (b : ℕ) → b < blocks n → blockAt bw b + covered n b + 4 ≤ 8 * length d)
-      (tail : (b : ℕ) → b < blocks n → (k : ℕ) → k < 6 → bit d (blockAt bw b + covered n b + 4 + k) ≡ 0) where
-    blocks-right : (m : ℕ) → m ≤ blocks n → (b : ℕ) → b < m → Right (sealBlocks bw n m d) (blockAt bw b) (covered n b)
-    unfolding sealBlocks blockAt
-    blocks-right zero l b h = absurd (omega arith)
-    blocks-right (suc m) l b h =
-        ⊎-elim
-        (λ (e : b ≡ m).
-        rw e (seal-right (common bw + 54 * m) (covered n m) (sealBlocks bw n m d)
-        (omega (arith, inside m (omega arith), blocks-length m))
-        (λ k j.
-        blocks-off m (common bw + 54 * m + covered n m + 4 + k) (λ c g p q. omega (arith, covered-le n c))
-        ∙ tail m (omega arith) k j)))
-        (λ (e : b < m).
-        right-kept (sealBlocks bw n m d) (seal (common bw + 54 * m) (covered n m) (sealBlocks bw n m d)) (common bw + 54 * b) (covered n b)
-        (λ i p q. seal-off (common bw + 54 * m) (covered n m) (sealBlocks bw n m d) i (λ u y. omega (arith, covered-le n b)))
-        (blocks-right m (omega arith) b e))
-        (eq-or-lt-of-le {n = b} {m = m} (omega arith))
-
--- ---- the second common check
-
-pub second-length : (bw : ℕ) (d : List ℕ) → length (sealSecond bw d) ≡ length d
-unfolding sealSecond
-second-length bw d = go (hasSecond bw)
-  where
-    go : (t : Bool) → length (cond t (seal (secondAt bw) (secondBits bw) d) d) ≡ length d
-    go true = seal-length (secondAt bw) (secondBits bw) d
-    go false = refl
-
-second-off : (bw : ℕ) (d : List ℕ) (i : ℕ) → (hasSecond bw ≡ true → Off (secondAt bw + secondBits bw) 4 i) → bit (sealSecond bw d) i ≡ bit d i
-unfolding sealSecond
-second-off bw d i h = go (hasSecond bw) refl
-  where
-    go : (t : Bool) → hasSecond bw ≡ t → bit (cond t (seal (secondAt bw) (secondBits bw) d) d) i ≡ bit d i
-    go true e = seal-off (secondAt bw) (secondBits bw) d i (h e)
-    go false e = refl
-
-second-there : (bw : ℕ) (d : List ℕ) → hasSecond bw ≡ true → sealSecond bw d ≡ seal (secondAt bw) (secondBits bw) d
-unfolding sealSecond
-second-there bw d e = rw e
-
--- ---- where nothing is put
-
-value-after : (bw k : ℕ) → 17 ≤ valueAt bw k
-unfolding valueAt secondAt firstBits
-value-after bw k = go (ltb k (firsts bw))
-  where
-    go : (t : Bool) → 17 ≤ cond t (17 + 9 * k) (17 + 9 * firsts bw + 10 + 9 * (k - firsts bw))
-    go true = omega arith
-    go false = omega arith
-
--- a value lies before the first check or after its tail, and before the second check
-pub value-place : (bw k : ℕ) → k < subfields bw → (i : ℕ) → valueAt bw k ≤ i → i < valueAt bw k + 9
-    → (Off (firstBits bw) 10 i) × (hasSecond bw ≡ true → Off (secondAt bw + secondBits bw) 10 i) × (i < common bw)
-unfolding secondAt
-value-place bw k l i p q = go (decLt k (firsts bw))
-  where
-    go : Dec (k < firsts bw) → (Off (firstBits bw) 10 i) × (hasSecond bw ≡ true → Off (firstBits bw + 10 + secondBits bw) 10 i) × (i < common bw)
-    go (yes m) =
-        let a = value-first bw k m in
-        (λ x y. omega (arith, a .1), λ e x y. omega (arith, a .1), omega (arith, value-inside bw k l))
-    go (no m) =
-        let a = value-second bw k (omega arith) l in
-        (λ x y. omega (arith, a .0), λ e x y. omega (arith, a .1), omega (arith, value-inside bw k l))
-
--- a User field lies outside every block's check and tail
-user-place : (bw n i : ℕ) → i < n → (j : ℕ) → userAt bw i ≤ j → j < userAt bw i + 22 → (b : ℕ) → Off (blockAt bw b + covered n b) 10 j
-unfolding blockAt
-user-place bw n i l j p q b x y =
-    let u = user-inside bw n i l in
-    go (decLt b (i / 2)) (decLt (i / 2) b)
-  where
-    go : Dec (b < i / 2) → Dec (i / 2 < b) → ⊥
-    go (yes m) e = omega (arith, user-inside bw n i l .0, covered-le n b)
-    go (no m) (yes k) = omega (arith, user-inside bw n i l .1, covered-le n (i / 2))
-    go (no m) (no k) =
-        let e : b ≡ i / 2 = omega arith in
-        let z : common bw + 54 * (i / 2) + covered n (i / 2) ≤ j = rw e at x in
-        omega (arith, user-inside bw n i l .1)
+use Rattle.candidate.proofs.Puts.{Off, puts-length, puts-off, puts-field, value-after, value-place, user-place}
+use Rattle.candidate.proofs.Seals.{blocks-right, seal-length, seal-off, seal-right, right-kept, blocks-length, blocks-off}
+use Rattle.candidate.proofs.Seals.{second-length, second-off, second-there, seal-small, second-small, blocks-small}
 
 module _ (bw v : ℕ) (x : ℕ → ℕ) (n : ℕ) (f : ℕ → ℕ) (d : List ℕ)
     (blank : (i : ℕ) → bit d i ≡ 0) (reach : endOf bw n ≤ 8 * length d) where
@@ -378,24 +212,6 @@ sealed-length bw n v x s f d =
     ∙ puts-length (userAt bw) 22 f _ n
     ∙ puts-length (valueAt bw) 9 x _ s
     ∙ put-length d 0 17 v
-
--- and every element is a byte
-seal-small : (x n : ℕ) (d : List ℕ) → Small (seal x n d)
-unfolding seal
-seal-small x n d = put-small d (x + n) 4 (check d x n)
-
-second-small : (bw : ℕ) (d : List ℕ) → Small d → Small (sealSecond bw d)
-unfolding sealSecond
-second-small bw d h = go (hasSecond bw)
-  where
-    go : (t : Bool) → Small (cond t (seal (secondAt bw) (secondBits bw) d) d)
-    go true = seal-small (secondAt bw) (secondBits bw) d
-    go false = h
-
-blocks-small : (bw n m : ℕ) (d : List ℕ) → Small d → Small (sealBlocks bw n m d)
-unfolding sealBlocks
-blocks-small bw n zero d h = h
-blocks-small bw n (suc b) d h = seal-small (blockAt bw b) (covered n b) (sealBlocks bw n b d)
 
 pub sealed-small : (bw n : ℕ) (d : List ℕ) → Small (sealed bw n d)
 unfolding sealed

@@ -12,8 +12,10 @@ use Rattle.bits.specs.Bits.{bit, field, Same}
 use Rattle.bits.proofs.Fields.{field-same}
 use Rattle.block.specs.Check.{Right}
 use Rattle.block.proofs.Checks.{check-ext}
-use Rattle.channel.specs.Layout.{firsts, seconds, firstBits, secondAt, secondBits, hasSecond, common, subfields, valueAt, value, userAt, blockAt, blocks, covered, endOf}
-use Rattle.channel.proofs.Laws.{value-first, value-second, user-even, user-odd}
+use Rattle.channel.specs.Layout.{firsts, seconds, firstBits, secondAt, secondBits, hasSecond, common}
+use Rattle.channel.specs.Layout.{subfields, valueAt, value, userAt, blockAt, blocks, covered, endOf}
+use Rattle.channel.proofs.Values.{value-first, value-second}
+use Rattle.channel.proofs.Blocks.{user-even, user-odd}
 use Rattle.faults.proofs.Passing.{CommonRight}
 
 -- s has the overflow v, the values x, n User fields f, and every check and tail right

@@ -3,3 +3,5 @@ pub mod Contents
 pub mod Built
 pub mod Held
 pub mod Steps
+pub mod Puts
+pub mod Seals

@@ -1,5 +1,6 @@
 -- Any two results that a public function's contract allows for one input agree: each contract is an equation.
-use mathlib.Core.Path.{_≡_, sym, _∙_}
+use mathlib.Core.Path.{sym, _∙_}
+use Rattle.answer.proofs.Agree.{Agrees}
 use Rattle.channel.proofs.is_present.Reads as is-present
 use Rattle.channel.proofs.positions_of.Reads as positions-of
 use Rattle.channel.proofs.first_bits.Reads as first-bits
@@ -17,50 +18,50 @@ use Rattle.channel.proofs.block_bit.Reads as block-bit
 use Rattle.channel.proofs.covered_bits.Reads as covered-bits
 use Rattle.channel.proofs.end_bit.Reads as end-bit
 
-pub is-present-agrees : (κs : _) (a : _) (r r' : _) (s s' : _) → is-present.Post κs a r s → is-present.Post κs a r' s' → r ≡ r'
+pub is-present-agrees : Agrees is-present.Post
 is-present-agrees κs a r r' s s' p q = p ∙ sym q
 
-pub positions-of-agrees : (κs : _) (a : _) (r r' : _) (s s' : _) → positions-of.Post κs a r s → positions-of.Post κs a r' s' → r ≡ r'
+pub positions-of-agrees : Agrees positions-of.Post
 positions-of-agrees κs a r r' s s' p q = p .0 ∙ sym (q .0)
 
-pub first-bits-agrees : (κs : _) (a : _) (r r' : _) (s s' : _) → first-bits.Post κs a r s → first-bits.Post κs a r' s' → r ≡ r'
+pub first-bits-agrees : Agrees first-bits.Post
 first-bits-agrees κs a r r' s s' p q = p .0 ∙ sym (q .0)
 
-pub second-bits-agrees : (κs : _) (a : _) (r r' : _) (s s' : _) → second-bits.Post κs a r s → second-bits.Post κs a r' s' → r ≡ r'
+pub second-bits-agrees : Agrees second-bits.Post
 second-bits-agrees κs a r r' s s' p q = p .0 ∙ sym (q .0)
 
-pub second-at-agrees : (κs : _) (a : _) (r r' : _) (s s' : _) → second-at.Post κs a r s → second-at.Post κs a r' s' → r ≡ r'
+pub second-at-agrees : Agrees second-at.Post
 second-at-agrees κs a r r' s s' p q = p .0 ∙ sym (q .0)
 
-pub second-check-agrees : (κs : _) (a : _) (r r' : _) (s s' : _) → second-check.Post κs a r s → second-check.Post κs a r' s' → r ≡ r'
+pub second-check-agrees : Agrees second-check.Post
 second-check-agrees κs a r r' s s' p q = p .0 ∙ sym (q .0)
 
-pub has-second-agrees : (κs : _) (a : _) (r r' : _) (s s' : _) → has-second.Post κs a r s → has-second.Post κs a r' s' → r ≡ r'
+pub has-second-agrees : Agrees has-second.Post
 has-second-agrees κs a r r' s s' p q = p ∙ sym q
 
-pub common-bits-agrees : (κs : _) (a : _) (r r' : _) (s s' : _) → common-bits.Post κs a r s → common-bits.Post κs a r' s' → r ≡ r'
+pub common-bits-agrees : Agrees common-bits.Post
 common-bits-agrees κs a r r' s s' p q = p .0 ∙ sym (q .0)
 
-pub subfields-of-agrees : (κs : _) (a : _) (r r' : _) (s s' : _) → subfields-of.Post κs a r s → subfields-of.Post κs a r' s' → r ≡ r'
+pub subfields-of-agrees : Agrees subfields-of.Post
 subfields-of-agrees κs a r r' s s' p q = p .0 ∙ sym (q .0)
 
-pub value-bit-agrees : (κs : _) (a : _) (r r' : _) (s s' : _) → value-bit.Post κs a r s → value-bit.Post κs a r' s' → r ≡ r'
+pub value-bit-agrees : Agrees value-bit.Post
 value-bit-agrees κs a r r' s s' p q = p ∙ sym q
 
-pub value-of-agrees : (κs : _) (a : _) (r r' : _) (s s' : _) → value-of.Post κs a r s → value-of.Post κs a r' s' → r ≡ r'
+pub value-of-agrees : Agrees value-of.Post
 value-of-agrees κs a r r' s s' p q = p ∙ sym q
 
-pub fill-row-agrees : (κs : _) (a : _) (r r' : _) (s s' : _) → fill-row.Post κs a r s → fill-row.Post κs a r' s' → r ≡ r'
+pub fill-row-agrees : Agrees fill-row.Post
 fill-row-agrees κs a r r' s s' p q = p ∙ sym q
 
-pub user-bit-agrees : (κs : _) (a : _) (r r' : _) (s s' : _) → user-bit.Post κs a r s → user-bit.Post κs a r' s' → r ≡ r'
+pub user-bit-agrees : Agrees user-bit.Post
 user-bit-agrees κs a r r' s s' p q = p ∙ sym q
 
-pub block-bit-agrees : (κs : _) (a : _) (r r' : _) (s s' : _) → block-bit.Post κs a r s → block-bit.Post κs a r' s' → r ≡ r'
+pub block-bit-agrees : Agrees block-bit.Post
 block-bit-agrees κs a r r' s s' p q = p .0 ∙ sym (q .0)
 
-pub covered-bits-agrees : (κs : _) (a : _) (r r' : _) (s s' : _) → covered-bits.Post κs a r s → covered-bits.Post κs a r' s' → r ≡ r'
+pub covered-bits-agrees : Agrees covered-bits.Post
 covered-bits-agrees κs a r r' s s' p q = p .0 ∙ sym (q .0)
 
-pub end-bit-agrees : (κs : _) (a : _) (r r' : _) (s s' : _) → end-bit.Post κs a r s → end-bit.Post κs a r' s' → r ≡ r'
+pub end-bit-agrees : Agrees end-bit.Post
 end-bit-agrees κs a r r' s s' p q = p .0 ∙ sym (q .0)

@@ -1,6 +1,6 @@
 -- The values in the windows are the row.
 use mathlib.Core.Path.{_≡_, refl, sym, _∙_, ap}
-use mathlib.Core.Bool.{Bool, true, false, cond, not, false≢true}
+use mathlib.Core.Bool.{true, false, cond, false≢true}
 use mathlib.Core.List.{List}
 use Prim.Native.Nat.{ℕ, zero, suc, _+_, _-_, _*_, _/_, _%_, _^_, _≤_, _<_}
 use native.Mathlib.Decide.{decLt, ℕ-discrete}
@@ -13,7 +13,8 @@ use Rattle.answer.proofs.Lists.{filled-is}
 use Rattle.bits.specs.Bits.{field}
 use Rattle.bits.proofs.Fields.{field-part}
 use Rattle.channel.specs.Layout.{positions, present, firsts, seconds, secondAt, hasSecond, subfields, valueAt, value, rowAt, rowIn16}
-use Rattle.channel.proofs.Laws.{present-1, absent-2, present-wide, positions-le, firsts-le, seconds-le, half, value-first, value-second}
+use Rattle.channel.proofs.Laws.{present-1, absent-2, present-wide, positions-le, firsts-le, seconds-le, half}
+use Rattle.channel.proofs.Values.{value-first, value-second}
 use Rattle.channel.specs.Engine.{firstWindow, Turns}
 
 -- ---- the turns
@@ -94,14 +95,6 @@ value-in-second bw s k l =
     ∙ ap (λ (i : ℕ). field s i 9) (ap (λ (j : ℕ). secondAt bw + 9 * j) (sym e) ∙ sym v)
 
 -- ---- the row
-
-pub not-true : (t : Bool) → not t ≡ true → t ≡ false
-not-true true e = sym e
-not-true false e = refl
-
-pub not-false : (t : Bool) → not t ≡ false → t ≡ true
-not-false true e = refl
-not-false false e = sym e
 
 abbrev zeros : List ℕ
 zeros = replicate 16 0
@@ -197,6 +190,15 @@ parts : (bw : ℕ) → subfields bw ≡ firsts bw + seconds bw
 unfolding subfields
 parts bw = refl
 
+-- a number of the second part that was taken from the channel's window z is its value there
+second-part : (bw : ℕ) (s : List ℕ) (z k v : ℕ) → firsts bw ≤ k → k < subfields bw → z ≡ field s (secondAt bw) (64 - secondAt bw % 8)
+    → v ≡ z / 2 ^ (9 * (k - firsts bw)) % 512 → v ≡ value bw s k
+second-part bw s z k v i m e f =
+    f
+    ∙ ap (λ (y : ℕ). y / 2 ^ (9 * (k - firsts bw)) % 512) e
+    ∙ value-in-second bw s (k - firsts bw) (omega (arith, parts bw))
+    ∙ ap (value bw s) (omega arith)
+
 -- a row of both parts
 pub wide-row : (bw : ℕ) (a b q r : List ℕ) (x y : ℕ) → bw ≤ 4 → hasSecond bw ≡ true
     → Turns zeros 0 (firsts bw) (firstWindow bw 1 a) (firstWindow bw 2 b) q
@@ -220,12 +222,7 @@ wide-row bw a b q r x y l e t ex ey u =
         go : Dec (k < firsts bw) → getD r (2 * k) 0 ≡ value bw a k
         go (yes i) = u .before (2 * k) (omega arith) ∙ first-even bw a b q h t k i
         go (no i) =
-            let j : firsts bw + (k - firsts bw) ≡ k = omega arith in
-            ap (λ (p : ℕ). getD r p 0) (omega arith)
-            ∙ u .from-x (k - firsts bw) (omega (arith, both))
-            ∙ ap (λ (z : ℕ). z / 2 ^ (9 * (k - firsts bw)) % 512) ex
-            ∙ value-in-second bw a (k - firsts bw) (omega (arith, both))
-            ∙ ap (value bw a) j
+            second-part bw a x k _ (omega arith) m ex (ap (λ (p : ℕ). getD r p 0) (omega arith) ∙ u .from-x (k - firsts bw) (omega (arith, both)))
 
     odd : (k : ℕ) → k < subfields bw → getD r (2 * k + 1) 0 ≡ value bw b k
     odd k m = go (decLt k (firsts bw))
@@ -233,9 +230,4 @@ wide-row bw a b q r x y l e t ex ey u =
         go : Dec (k < firsts bw) → getD r (2 * k + 1) 0 ≡ value bw b k
         go (yes i) = u .before (2 * k + 1) (omega arith) ∙ first-odd bw a b q h t k i
         go (no i) =
-            let j : firsts bw + (k - firsts bw) ≡ k = omega arith in
-            ap (λ (p : ℕ). getD r p 0) (omega arith)
-            ∙ u .from-y (k - firsts bw) (omega (arith, both))
-            ∙ ap (λ (z : ℕ). z / 2 ^ (9 * (k - firsts bw)) % 512) ey
-            ∙ value-in-second bw b (k - firsts bw) (omega (arith, both))
-            ∙ ap (value bw b) j
+            second-part bw b y k _ (omega arith) m ey (ap (λ (p : ℕ). getD r p 0) (omega arith) ∙ u .from-y (k - firsts bw) (omega (arith, both)))

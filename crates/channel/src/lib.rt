@@ -3,7 +3,8 @@ ghost use mathlib.Core.Path.{_≡_};
 ghost use Prim.Native.Nat.{_+_, _*_, _≤_, _<_};
 ghost use lib.ListN.{length};
 ghost use Rattle.channel.specs.Engine.{firstWindow, Turns};
-ghost use Rattle.channel.specs.Layout.{positions, present, firsts, seconds, firstBits, secondAt, secondBits, hasSecond, common, subfieldsIn, valueAt, value, rowIn16, userAt, blockAt, covered, endOf};
+ghost use Rattle.channel.specs.Layout.{positions, present, firsts, seconds, firstBits, secondAt, secondBits, hasSecond, common};
+ghost use Rattle.channel.specs.Layout.{subfieldsIn, valueAt, value, rowIn16, userAt, blockAt, covered, endOf};
 
 // Whether the bandwidth has the channel.
 pub fn is_present(bw: u32, channel: u32) -> bool

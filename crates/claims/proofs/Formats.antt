@@ -50,15 +50,15 @@ use Rattle.reader.proofs.read.Reads as read
 use Rattle.claims.specs.Formats.{together, WordOn, OwnsIn, OneOwner, Formatted, UserWords}
 
 -- a position is one channel's
-one-channel : (p f : ℕ) → inChannel 0 p f + inChannel 1 p f ≡ f
-one-channel p f = go (ℕ-discrete (p % 2) 0)
+one-channel : (p f : ℕ) → inChannel 1 p f + inChannel 2 p f ≡ f
+one-channel p f = go (ℕ-discrete (p % 2 + 1) 1)
   where
-    go : Dec (p % 2 ≡ 0) → inChannel 0 p f + inChannel 1 p f ≡ f
-    go (yes e) = rw (eq-eqb (p % 2) 0 e, ne-eqb (p % 2) 1 (λ z. omega arith)) (omega arith)
-    go (no d) = rw (ne-eqb (p % 2) 0 d, eq-eqb (p % 2) 1 (omega arith)) (omega arith)
+    go : Dec (p % 2 + 1 ≡ 1) → inChannel 1 p f + inChannel 2 p f ≡ f
+    go (yes e) = rw (eq-eqb (p % 2 + 1) 1 e, ne-eqb (p % 2 + 1) 2 (λ z. omega arith)) (omega arith)
+    go (no d) = rw (ne-eqb (p % 2 + 1) 1 d, eq-eqb (p % 2 + 1) 2 (omega arith)) (omega arith)
 
 own-total : (row : ℕ → ℕ) (p : ℕ) → total 0 row p ≡ share 0 p (row p)
-own-total row p = rw (own-fieldsIn 0 row p, own-fieldsIn 1 row p) (one-channel p (share 0 p (row p)))
+own-total row p = rw (own-fieldsIn 1 row p, own-fieldsIn 2 row p) (one-channel p (share 0 p (row p)))
 
 -- the resource at a place has the same fields seen from any of its places
 total-place : (x : ℕ) (row : ℕ → ℕ) (p q : ℕ) → q / span x ≡ p / span x → total x row q ≡ total x row p
@@ -130,14 +130,14 @@ module _ (bw : ℕ) (a b : List ℕ) (l : bw ≤ 4) (o : ℕ → ℕ) (s : Signa
   reader-plan : (p : ℕ) → p < length r → shared o (at r) p ≡ sharedAt r p
   reader-plan p h = ap (λ (x : ℕ). leb 2 (total x (at r) p)) (only-plan r o s p h)
 
-  -- of channel c, from 0, whose bytes are d
-  owned-word : (c : ℕ) (d : List ℕ) → ((j p k : ℕ) → ComesFrom (at r) (length r) c j p k → positionOf (c + 1) (giver bw (c + 1) d j) ≡ p)
-      → (i j : ℕ) → OwnsIn o r i c j → WordOn (getD (recordsOf o r) i blank) (field d (userAt bw j) 22) (userWordAt bw r (c + 1) d j)
+  -- of channel c, whose bytes are d
+  owned-word : (c : ℕ) (d : List ℕ) → ((j p k : ℕ) → ComesFrom (at r) (length r) c j p k → positionOf c (giver bw c d j) ≡ p)
+      → (i j : ℕ) → OwnsIn o r i c j → WordOn (getD (recordsOf o r) i blank) (field d (userAt bw j) 22) (userWordAt bw r c d j)
   unfolding userWordAt
   owned-word c d given i j w =
       let g = as-owned o (at r) (length r) s i c j w in
       let p = g .0 in
-      format (getD (recordsOf o r) i blank) (field d (userAt bw j) 22) (userWordAt bw r (c + 1) d j) (sharedAt r p)
+      format (getD (recordsOf o r) i blank) (field d (userAt bw j) 22) (userWordAt bw r c d j) (sharedAt r p)
       (g .3 ∙ reader-plan p (g .2 .inside))
       (ap (λ (q : ℕ). userWord (sharedAt r q) (field d (userAt bw j) 22)) (given j p (g .1) (g .2)))
 
@@ -165,14 +165,14 @@ module _ (bw : ℕ) (a b : List ℕ) (l : bw ≤ 4) (o : ℕ → ℕ) (s : Signa
   pub formatted : (w : List ℕ) → ((k : ℕ) → k < wordCount bw a b → at w k ≡ at (wordsOf bw a b) k) → Formatted bw a b w o
   unfolding wordCount
   formatted w same = record {
-    one-1 = λ j h. has-one 0 j (omega (arith, row-count-1 bw a b l));
-    one-2 = λ j h. has-one 1 j (omega (arith, row-count-2 bw a b l));
+    one-1 = λ j h. has-one 1 j (omega (arith, row-count-1 bw a b l));
+    one-2 = λ j h. has-one 2 j (omega (arith, row-count-2 bw a b l));
     word-1 = λ i j v.
-        let h : j < count bw 1 a = omega (arith, owned-below i 0 j v, row-count-1 bw a b l) in
-        rw (same (10 + j) (omega arith) ∙ word-1 bw a b j h) (owned-word 0 a (given-1 bw a b l) i j v);
+        let h : j < count bw 1 a = omega (arith, owned-below i 1 j v, row-count-1 bw a b l) in
+        rw (same (10 + j) (omega arith) ∙ word-1 bw a b j h) (owned-word 1 a (given-1 bw a b l) i j v);
     word-2 = λ i j v.
-        let h : j < count bw 2 b = omega (arith, owned-below i 1 j v, row-count-2 bw a b l) in
-        rw (same (10 + count bw 1 a + j) (omega arith) ∙ word-2 bw a b j h) (owned-word 1 b (given-2 bw a b l) i j v);
+        let h : j < count bw 2 b = omega (arith, owned-below i 2 j v, row-count-2 bw a b l) in
+        rw (same (10 + count bw 1 a + j) (omega arith) ∙ word-2 bw a b j h) (owned-word 2 b (given-2 bw a b l) i j v);
   }
 
 -- ---- of any result that the contract of `reader::read` allows

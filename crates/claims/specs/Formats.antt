@@ -26,7 +26,7 @@ pub record WordOn (x : Record) (f v : ℕ) : Type 0 where
   pub alone : together x < 2 → v ≡ userWord false f
   pub shared : 2 ≤ together x → v ≡ userWord true f
 
--- resource i of the plan o owns field j of channel c, from 0, of a frame of row r
+-- resource i of the plan o owns field j of channel c of a frame of row r
 abbrev pub OwnsIn : (ℕ → ℕ) → List ℕ → ℕ → ℕ → ℕ → Type 0
 OwnsIn o r i c j = Owns o (at r) (length r) i c j
 
@@ -37,12 +37,12 @@ OneOwner o r c j = (i : ℕ) × (i < length (recordsOf o r)) × OwnsIn o r i c j
 -- the User fields of a frame whose channels are a and b, and their words among w, in any plan o that signals the frame's row
 pub record Formatted (bw : ℕ) (a b w : List ℕ) (o : ℕ → ℕ) : Type 0 where
   -- each field below a channel's count has one owner ..
-  pub one-1 : (j : ℕ) → j < count bw 1 a → OneOwner o (row bw a b) 0 j
-  pub one-2 : (j : ℕ) → j < count bw 2 b → OneOwner o (row bw a b) 1 j
+  pub one-1 : (j : ℕ) → j < count bw 1 a → OneOwner o (row bw a b) 1 j
+  pub one-2 : (j : ℕ) → j < count bw 2 b → OneOwner o (row bw a b) 2 j
   -- .. and its word, "channel 1 first", is of the format that this owner's fields over both channels say
-  pub word-1 : (i j : ℕ) → OwnsIn o (row bw a b) i 0 j
+  pub word-1 : (i j : ℕ) → OwnsIn o (row bw a b) i 1 j
       → WordOn (getD (recordsOf o (row bw a b)) i blank) (field a (userAt bw j) 22) (at w (10 + j))
-  pub word-2 : (i j : ℕ) → OwnsIn o (row bw a b) i 1 j
+  pub word-2 : (i j : ℕ) → OwnsIn o (row bw a b) i 2 j
       → WordOn (getD (recordsOf o (row bw a b)) i blank) (field b (userAt bw j) 22) (at w (10 + count bw 1 a + j))
 
 -- an accepted frame's row has a plan with at most eight fields on each resource, and in every plan that signals it the words are so

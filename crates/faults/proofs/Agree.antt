@@ -1,5 +1,6 @@
 -- Any two results that a public function's contract allows for one input agree: each contract is an equation.
-use mathlib.Core.Path.{_≡_, sym, _∙_}
+use mathlib.Core.Path.{sym, _∙_}
+use Rattle.answer.proofs.Agree.{Agrees}
 use Rattle.faults.proofs.too_long.Reads as too-long
 use Rattle.faults.proofs.cut_common.Reads as cut-common
 use Rattle.faults.proofs.wrong_common.Reads as wrong-common
@@ -8,23 +9,23 @@ use Rattle.faults.proofs.not_carried.Reads as not-carried
 use Rattle.faults.proofs.cut_users.Reads as cut-users
 use Rattle.faults.proofs.wrong_users.Reads as wrong-users
 
-pub too-long-agrees : (κs : _) (a : _) (r r' : _) (s s' : _) → too-long.Post κs a r s → too-long.Post κs a r' s' → r ≡ r'
+pub too-long-agrees : Agrees too-long.Post
 too-long-agrees κs a r r' s s' p q = p ∙ sym q
 
-pub cut-common-agrees : (κs : _) (a : _) (r r' : _) (s s' : _) → cut-common.Post κs a r s → cut-common.Post κs a r' s' → r ≡ r'
+pub cut-common-agrees : Agrees cut-common.Post
 cut-common-agrees κs a r r' s s' p q = p ∙ sym q
 
-pub wrong-common-agrees : (κs : _) (a : _) (r r' : _) (s s' : _) → wrong-common.Post κs a r s → wrong-common.Post κs a r' s' → r ≡ r'
+pub wrong-common-agrees : Agrees wrong-common.Post
 wrong-common-agrees κs a r r' s s' p q = p ∙ sym q
 
-pub overflow-differs-agrees : (κs : _) (a : _) (r r' : _) (s s' : _) → overflow-differs.Post κs a r s → overflow-differs.Post κs a r' s' → r ≡ r'
+pub overflow-differs-agrees : Agrees overflow-differs.Post
 overflow-differs-agrees κs a r r' s s' p q = p ∙ sym q
 
-pub not-carried-agrees : (κs : _) (a : _) (r r' : _) (s s' : _) → not-carried.Post κs a r s → not-carried.Post κs a r' s' → r ≡ r'
+pub not-carried-agrees : Agrees not-carried.Post
 not-carried-agrees κs a r r' s s' p q = p ∙ sym q
 
-pub cut-users-agrees : (κs : _) (a : _) (r r' : _) (s s' : _) → cut-users.Post κs a r s → cut-users.Post κs a r' s' → r ≡ r'
+pub cut-users-agrees : Agrees cut-users.Post
 cut-users-agrees κs a r r' s s' p q = p ∙ sym q
 
-pub wrong-users-agrees : (κs : _) (a : _) (r r' : _) (s s' : _) → wrong-users.Post κs a r s → wrong-users.Post κs a r' s' → r ≡ r'
+pub wrong-users-agrees : Agrees wrong-users.Post
 wrong-users-agrees κs a r r' s s' p q = p ∙ sym q

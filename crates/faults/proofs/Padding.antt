@@ -18,9 +18,13 @@ use Rattle.bits.proofs.Fields.{field-ext}
 use Rattle.block.specs.Check.{right}
 use Rattle.block.proofs.Checks.{right-ext}
 use Rattle.resource.specs.Values.{fieldsOf, carried}
-use Rattle.channel.specs.Layout.{positions, present, ltfSymbols, firstBits, secondAt, secondBits, hasSecond, common, subfields, subfieldsIn, valueAt, value, rowAt, row, count, total, userAt, blockAt, blocks, covered, endOf}
-use Rattle.channel.proofs.Laws.{first-inside, second-inside, common-ge, value-inside, subfieldsIn-le, total-cong, block-inside, user-end, end-after, position-subfield}
-use Rattle.faults.specs.Checks.{wrongFirst, wrongSecond, wrongCommon, overflowDiffers, uncarried, firstUncarried, notCarried, wrongBlock, firstWrong, wrongUsersOf, wrongUsers}
+use Rattle.channel.specs.Layout.{positions, present, ltfSymbols, firstBits, secondAt, secondBits, hasSecond, common, subfields}
+use Rattle.channel.specs.Layout.{subfieldsIn, valueAt, value, rowAt, row, count, total, userAt, blockAt, blocks, covered, endOf}
+use Rattle.channel.proofs.Laws.{first-inside, second-inside, common-ge, subfieldsIn-le, total-cong, position-subfield}
+use Rattle.channel.proofs.Values.{value-inside}
+use Rattle.channel.proofs.Blocks.{block-inside, user-end, end-after}
+use Rattle.faults.specs.Checks.{wrongFirst, wrongSecond, wrongCommon, overflowDiffers, uncarried}
+use Rattle.faults.specs.Checks.{firstUncarried, notCarried, wrongBlock, firstWrong, wrongUsersOf, wrongUsers}
 
 pub same-less : {s t : List ℕ} (n m : ℕ) → m ≤ n → Same s t n → Same s t m
 same-less n m l h = record { same = λ i k. h .same i (omega arith) }
@@ -51,8 +55,10 @@ unfolding wrongCommon wrongFirst wrongSecond
 wrongCommon-same bw c s t h =
     let f : present bw c && not (right s 0 (firstBits bw)) ≡ present bw c && not (right t 0 (firstBits bw)) =
     guarded-same (present bw c) _ _ (λ p. ap not (right-in s t (common bw) 0 (firstBits bw) (h .alike p) (omega (arith, first-inside bw)))) in
-    let g : present bw c && hasSecond bw && not (right s (secondAt bw) (secondBits bw)) ≡ present bw c && hasSecond bw && not (right t (secondAt bw) (secondBits bw)) =
-    guarded-same2 (present bw c) (hasSecond bw) _ _ (λ p q. ap not (right-in s t (common bw) (secondAt bw) (secondBits bw) (h .alike p) (omega (arith, second-inside bw q)))) in
+    let g : present bw c && hasSecond bw && not (right s (secondAt bw) (secondBits bw))
+    ≡ present bw c && hasSecond bw && not (right t (secondAt bw) (secondBits bw)) =
+    guarded-same2 (present bw c) (hasSecond bw) _ _
+    (λ p q. ap not (right-in s t (common bw) (secondAt bw) (secondBits bw) (h .alike p) (omega (arith, second-inside bw q)))) in
     rw (f, g)
 
 present-of : (bw c k : ℕ) → k < subfieldsIn bw c → present bw c ≡ true

@@ -12,16 +12,19 @@ use Rattle.answer.specs.Answer as A
 use Rattle.answer.specs.Answer.{refuseIf}
 use Rattle.answer.specs.Least.{least}
 use Rattle.answer.specs.declared.Outcome.the-variants.{Pass}
-use Rattle.answer.proofs.Order.{Only, only-if, only-or, pass-left, pass-right, or-pass, pass-if, if-pass}
+use Rattle.answer.proofs.Numbers.{Only, only-if, only-or}
+use Rattle.answer.proofs.Order.{pass-left, pass-right, or-pass, pass-if, if-pass}
 use Rattle.answer.proofs.Least.{least-none, least-all, least-le}
 use Rattle.bits.specs.Bits.{differs}
 use Rattle.bits.proofs.Differs.{differ-nowhere, nowhere-same, differs-from-0}
 use Rattle.block.specs.Check.{Right}
 use Rattle.block.proofs.Checks.{right-says, says-right}
 use Rattle.resource.specs.Values.{carried}
-use Rattle.channel.specs.Layout.{present, overflow, ltfSymbols, firstBits, secondAt, secondBits, hasSecond, common, subfieldsIn, valueAt, value, count, blockAt, blocks, covered, endOf}
-use Rattle.channel.proofs.Laws.{end-none}
-use Rattle.faults.specs.Checks.{lent, tooLong, cutCommon, wrongFirst, wrongSecond, wrongCommon, overflowDiffers, uncarried, firstUncarried, notCarried, cutUsers, wrongBlock, firstWrong, wrongUsersOf, wrongUsers}
+use Rattle.channel.specs.Layout.{present, overflow, ltfSymbols, firstBits, secondAt, secondBits, hasSecond, common}
+use Rattle.channel.specs.Layout.{subfieldsIn, valueAt, value, count, blockAt, blocks, covered, endOf}
+use Rattle.channel.proofs.Blocks.{end-none}
+use Rattle.faults.specs.Checks.{lent, tooLong, cutCommon, wrongFirst, wrongSecond, wrongCommon, overflowDiffers, uncarried}
+use Rattle.faults.specs.Checks.{firstUncarried, notCarried, cutUsers, wrongBlock, firstWrong, wrongUsersOf, wrongUsers}
 
 -- ---- tests
 
@@ -163,7 +166,8 @@ pass-overflowDiffers bw a b h =
 
 pub overflowDiffers-only : (bw : ℕ) (a b : List ℕ) → Only 5 (overflowDiffers bw a b)
 unfolding overflowDiffers
-overflowDiffers-only bw a b = only-or (only-if (ltb 4 (ltfSymbols a)) 5 1 6) (only-if (present bw 2 && ltb (least (differs a b) 17) 17) 5 2 (least (differs a b) 17))
+overflowDiffers-only bw a b =
+    only-or (only-if (ltb 4 (ltfSymbols a)) 5 1 6) (only-if (present bw 2 && ltb (least (differs a b) 17) 17) 5 2 (least (differs a b) 17))
 
 -- ---- 6
 

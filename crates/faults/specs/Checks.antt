@@ -11,7 +11,8 @@ use Rattle.answer.specs.declared.Outcome.{Outcome}
 use Rattle.bits.specs.Bits.{differs}
 use Rattle.block.specs.Check.{right}
 use Rattle.resource.specs.Values.{carried}
-use Rattle.channel.specs.Layout.{present, ltfSymbols, firstBits, secondAt, secondBits, hasSecond, common, subfieldsIn, valueAt, value, count, blockAt, blocks, covered, endOf}
+use Rattle.channel.specs.Layout.{present, ltfSymbols, firstBits, secondAt, secondBits, hasSecond, common}
+use Rattle.channel.specs.Layout.{subfieldsIn, valueAt, value, count, blockAt, blocks, covered, endOf}
 
 -- "bits lent": the place of 3 and of 9
 unfoldable pub lent : List ℕ → ℕ

@@ -6,7 +6,8 @@ ghost use lib.ListN.{length};
 ghost use Rattle.answer.specs.Least.{least};
 ghost use Rattle.bits.specs.Bits.{differs};
 ghost use Rattle.channel.specs.Layout.{count};
-ghost use Rattle.faults.specs.Checks.{lent, tooLong, cutCommon, wrongFirst, wrongSecond, wrongCommon, overflowDiffers, uncarried, firstUncarried, notCarried, cutUsers, wrongBlock, firstWrong, wrongUsers};
+ghost use Rattle.faults.specs.Checks.{lent, tooLong, cutCommon, wrongFirst, wrongSecond, wrongCommon, overflowDiffers, uncarried};
+ghost use Rattle.faults.specs.Checks.{firstUncarried, notCarried, cutUsers, wrongBlock, firstWrong, wrongUsers};
 
 // Answer 2 for one channel.
 pub fn too_long(bw: u32, channel: u32, s: &[u8]) -> Outcome

@@ -1,5 +1,5 @@
 -- Which value of a channel gives a User field.
-use mathlib.Core.Path.{_≡_, refl, sym, _∙_}
+use mathlib.Core.Path.{_≡_, refl, sym, _∙_, ap}
 use mathlib.Core.Bool.{false}
 use mathlib.Core.List.{List}
 use mathlib.Core.Logic.{⊎-elim}
@@ -7,12 +7,13 @@ use Prim.Native.Nat.{ℕ, zero, suc, _+_, _^_, _≤_, _<_}
 use native.Mathlib.Omega.{arith}
 use native.Mathlib.Nat.{eq-or-lt-of-le, zero-div}
 use lib.Dec.{ltb}
+use lib.ListN.{length, getD}
 use borrow.Author.Tests.{lt-ltb, le-ltb}
 use Rattle.answer.specs.Least.{least}
 use Rattle.answer.proofs.Least.{least-is, least-below}
 use Rattle.resource.specs.Values.{fieldsOf}
 use Rattle.channel.specs.Layout.{subfieldsIn, value, total, count}
-use Rattle.channel.proofs.Laws.{total-next}
+use Rattle.channel.proofs.Laws.{total-next, count-le}
 use Rattle.frame.specs.Engine.{Holds, Formats, runWord}
 use Rattle.frame.specs.Words.{before, giver, sharedAt, positionOf, userWordAt}
 
@@ -45,6 +46,23 @@ module _ (bw c : ℕ) (s : List ℕ) (k : ℕ) (l : k < subfieldsIn bw c) where
       → runWord bw s (before bw s k) (sharedAt row (positionOf c k)) i ≡ userWordAt bw row c s (before bw s k + i)
   unfolding userWordAt
   run-words row i h = rw (giver-is (before bw s k + i) (omega arith) (omega (arith, before-next)))
+
+-- a turn of the loop over a channel's values: at value k, which the row r has at its position, j fields came before and m are its own
+pub record Turn (bw c : ℕ) (s r : List ℕ) (j k m : ℕ) : Type 0 where
+  pub there : k < subfieldsIn bw c
+  pub inside : positionOf c k < length r
+  pub own : m ≡ fieldsOf (value bw s k)
+  pub next : j + m ≡ before bw s (k + 1)
+  pub fits : j + m ≤ count bw c s
+  pub few : j + m ≤ 72
+
+pub turn : (bw c : ℕ) (s r : List ℕ) (j k m : ℕ) → Holds bw c s r → k < subfieldsIn bw c → j ≡ before bw s k → m ≡ fieldsOf (getD r (positionOf c k) 0)
+    → Turn bw c s r j k m
+turn bw c s r j k m h l e f =
+    let g : m ≡ fieldsOf (value bw s k) = f ∙ ap fieldsOf (h .holds k l) in
+    let n : j + m ≡ before bw s (k + 1) = omega (arith, before-next bw c s k l) in
+    let i : j + m ≤ count bw c s = omega (arith, before-count bw c s k l) in
+    record { there = l; inside = h .inside k l; own = g; next = n; fits = i; few = omega (arith, count-le bw c s) }
 
 pub count-before : (bw c : ℕ) (s : List ℕ) → before bw s (subfieldsIn bw c) ≡ count bw c s
 unfolding count

@@ -25,7 +25,12 @@ grown f g w out ys j m l e h q =
     put-tail out j l ys
     ∙ ap (λ (z : List ℕ). take j out ++ z) (q ∙ ap (λ (z : List ℕ). build g m ++ drop m z) (part-tail out j l))
     ∙ ap (λ (z : List ℕ). take j z ++ (build g m ++ drop m (drop j z))) e
-    ∙ rw (take-at (build f j) (drop j w) j (length-build f j), drop-at (build f j) (drop j w) j (length-build f j), build-cong g (λ i. f (j + i)) m h, drop-drop m j w)
+    ∙ rw (
+      take-at (build f j) (drop j w) j (length-build f j),
+      drop-at (build f j) (drop j w) j (length-build f j),
+      build-cong g (λ i. f (j + i)) m h,
+      drop-drop m j w,
+    )
     (sym (append-assoc (build f j) (build (λ i. f (j + i)) m) (drop (j + m) w)) ∙ ap (λ (z : List ℕ). z ++ drop (j + m) w) (sym (build-append f j m)))
 
 -- a header of ten, then n of f and m of g, in front of what was there

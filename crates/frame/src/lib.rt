@@ -35,7 +35,8 @@ fn put_value(out: &mut [u32], bw: u32, s: &[u8], j: usize, m: usize, shared: boo
 
 // The words of a channel's User fields, those of a position in the format of its resource, which bit p of `shared` tells.
 fn put_formats(out: &mut [u32], bw: u32, c: u32, s: &[u8], row: &[u16], shared: u32)
-    requires { ⌜ (1 ≤ c) × (c ≤ 2) × (count bw c (now s) ≤ length (now out)) × (length (now row) ≤ 16) × Holds bw c (now s) (now row) × Formats (now row) shared ⌝ }
+    requires { ⌜ (1 ≤ c) × (c ≤ 2) × (count bw c (now s) ≤ length (now out)) × (length (now row) ≤ 16) × Holds bw c (now s) (now row)
+        × Formats (now row) shared ⌝ }
     ensures { λ _. ⌜ now (out .exit) ≡ filled (userWordAt bw (now (row .entry)) c (now (s .entry))) (count bw c (now (s .entry))) (now (out .entry)) ⌝ }
 {
     let n = channel::subfields_of(bw, c);
@@ -52,7 +53,8 @@ fn put_formats(out: &mut [u32], bw: u32, c: u32, s: &[u8], row: &[u16], shared: 
 
 // The words of a channel's n User fields: one run where no position's fields share their resource.
 fn put_users(out: &mut [u32], bw: u32, c: u32, s: &[u8], row: &[u16], shared: u32, n: usize)
-    requires { ⌜ (1 ≤ c) × (c ≤ 2) × (count bw c (now s) ≤ length (now out)) × (length (now row) ≤ 16) × Holds bw c (now s) (now row) × Formats (now row) shared × (n ≡ count bw c (now s)) ⌝ }
+    requires { ⌜ (1 ≤ c) × (c ≤ 2) × (count bw c (now s) ≤ length (now out)) × (length (now row) ≤ 16) × Holds bw c (now s) (now row) × Formats (now row) shared
+        × (n ≡ count bw c (now s)) ⌝ }
     ensures { λ _. ⌜ now (out .exit) ≡ filled (userWordAt bw (now (row .entry)) c (now (s .entry))) (count bw c (now (s .entry))) (now (out .entry)) ⌝ }
 {
     if shared == 0 {
@@ -84,8 +86,10 @@ pub fn put_frame(
     n: usize,
     m: usize,
 )
-    requires { ⌜ (wordCount bw (now a) (now b) ≤ length (now words)) × (bw ≤ 4) × (now row ≡ R.row bw (now a) (now b)) × Formats (now row) shared × (n ≡ count bw 1 (now a)) × (m ≡ count bw 2 (now b)) ⌝ }
-    ensures { λ _. ⌜ now (words .exit) ≡ wordsIn bw (now (row .entry)) (now (a .entry)) (now (b .entry)) ++ drop (wordCount bw (now (a .entry)) (now (b .entry))) (now (words .entry)) ⌝ }
+    requires { ⌜ (wordCount bw (now a) (now b) ≤ length (now words)) × (bw ≤ 4) × (now row ≡ R.row bw (now a) (now b)) × Formats (now row) shared
+        × (n ≡ count bw 1 (now a)) × (m ≡ count bw 2 (now b)) ⌝ }
+    ensures { λ _. ⌜ now (words .exit)
+        ≡ wordsIn bw (now (row .entry)) (now (a .entry)) (now (b .entry)) ++ drop (wordCount bw (now (a .entry)) (now (b .entry))) (now (words .entry)) ⌝ }
 {
     put_head(words, bw, a, row);
     let at = 10 + n;

@@ -6,7 +6,8 @@ use Prim.Native.Nat.{ℕ, _+_, _-_, _/_}
 use lib.Dec.{ltb}
 use lib.ListN.{length}
 use Rattle.answer.specs.Answer.{no}
-use Rattle.answer.proofs.Order.{Only, only-if, only-or, Gives, none, more, refuse-if}
+use Rattle.answer.proofs.Numbers.{Only, only-if, only-or, Gives, none, more}
+use Rattle.answer.proofs.Order.{refuse-if}
 use Rattle.answer.specs.declared.Answer.{Answer}
 use Rattle.answer.specs.declared.Outcome.{Outcome}
 use Rattle.plan.specs.Answers.{segments}

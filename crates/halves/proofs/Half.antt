@@ -74,8 +74,8 @@ module _ (bw : ℕ) (a b : List ℕ) where
   made c d =
       let l : bw ≤ 4 = common-pass bw a b c .known in
       let m : length (row bw a b) ≡ positions bw = row-length bw a b in
-      let n : fieldsTo 0 (at (row bw a b)) (length (row bw a b)) ≡ count bw 1 a = ap (fieldsTo 0 (at (row bw a b))) m ∙ sym (count-1 bw a b l) in
-      let k : fieldsTo 1 (at (row bw a b)) (length (row bw a b)) ≡ count bw 2 b = ap (fieldsTo 1 (at (row bw a b))) m ∙ sym (count-2 bw a b l) in
+      let n : fieldsTo 1 (at (row bw a b)) (length (row bw a b)) ≡ count bw 1 a = ap (fieldsTo 1 (at (row bw a b))) m ∙ sym (count-1 bw a b l) in
+      let k : fieldsTo 2 (at (row bw a b)) (length (row bw a b)) ≡ count bw 2 b = ap (fieldsTo 2 (at (row bw a b))) m ∙ sym (count-2 bw a b l) in
       record {
         common = c;
         laid = d;

@@ -1,44 +1,31 @@
 -- The table's checks in the groups in which the code runs them, and what passing a group says.
 use mathlib.Core.Path.{_≡_, refl, sym, _∙_, ap}
 use mathlib.Core.Bool.{Bool, true, false, _||_}
-use mathlib.Core.List.{List, [], _∷_}
+use mathlib.Core.List.{List}
 use Prim.Native.Nat.{ℕ, _≤_}
 use lib.Dec.{ltb}
-use lib.ListN.{length}
+use lib.ListN.{length, drop}
 use borrow.Author.Tests.{ltb-false}
 use Rattle.answer.specs.Answer.{_or_}
 use Rattle.answer.specs.declared.Outcome.{Outcome}
 use Rattle.answer.specs.declared.Outcome.the-variants.{Pass}
-use Rattle.answer.proofs.Order.{first-chain, pass-left, pass-right, pass-if, or-assoc}
+use Rattle.answer.proofs.First.{first-chain}
+use Rattle.answer.proofs.Order.{pass-left, pass-right, pass-if, or-assoc}
 use Rattle.plan.specs.Engine.{planOutcome}
 use Rattle.plan.specs.Worked.{outcome7, outcome8}
 use Rattle.plan.proofs.Worked.{outcome-is}
 use Rattle.channel.specs.Layout.{row}
 use Rattle.faults.specs.Checks.{tooLong}
-use Rattle.halves.specs.Table.{check1, check2, check3, check4, check5, check6, check7, check8, check9, check10, check11, outcome11, outcome6}
+use Rattle.halves.specs.Table.{checks11, check1, check2, check3, check4, check5, check6, check7, check8, outcome11, outcome6}
 use Rattle.halves.specs.Engine.{outcome5, outcome9to11, AtMost512}
 
 pub outcome11-stages : (bw : ℕ) (a b : List ℕ) → outcome11 bw a b ≡ outcome6 bw a b or planOutcome (row bw a b) or outcome9to11 bw a b
 unfolding outcome11 outcome6 outcome9to11 check7 check8
 outcome11-stages bw a b =
-    in-order
-    ∙ ap (λ (o : Outcome). outcome6 bw a b or o or outcome9to11 bw a b) (sym (outcome-is (row bw a b)))
+    in-order ∙ ap (λ (o : Outcome). outcome6 bw a b or o or outcome9to11 bw a b) (sym (outcome-is (row bw a b)))
   where
     in-order : outcome11 bw a b ≡ outcome6 bw a b or (outcome7 (row bw a b) or outcome8 (row bw a b)) or outcome9to11 bw a b
-    in-order =
-        first-chain (check1 bw)
-        (check2 bw a b
-        ∷ check3 bw a b
-        ∷ check4 bw a b
-        ∷ check5 bw a b
-        ∷ check6 bw a b
-        ∷ check7 bw a b
-        ∷ check8 bw a b
-        ∷ check9 bw a b
-        ∷ check10 bw a b
-        ∷ check11 bw a b
-        ∷ [])
-        ∙ simp or-assoc
+    in-order = first-chain (check1 bw) (drop 1 (checks11 bw a b)) ∙ simp or-assoc
 
 or-false : (s t : Bool) → s || t ≡ false → s ≡ false
 or-false true t e = e

@@ -188,7 +188,8 @@ pub fn then_users(
     m: usize,
     sealed: bool,
 ) -> Outcome
-    requires { ⌜ (sealed ≡ true → Sealed bw (now a) (now b)) × AtMost512 (now a) (now b) × (n ≤ 72) × (m ≤ 72) × (n ≡ count bw 1 (now a)) × (m ≡ count bw 2 (now b)) ⌝ }
+    requires { ⌜ (sealed ≡ true → Sealed bw (now a) (now b)) × AtMost512 (now a) (now b) × (n ≤ 72) × (m ≤ 72) × (n ≡ count bw 1 (now a))
+        × (m ≡ count bw 2 (now b)) ⌝ }
     ensures { λ r. ⌜ r ≡ (prev or outcome9to11 bw (now (a .entry)) (now (b .entry))) ⌝ }
 {
     if let Outcome::Refuse(_) = prev {

@@ -1,10 +1,11 @@
 -- Any two results that a public function's contract allows for one input agree: each contract is an equation.
 use mathlib.Core.Path.{_≡_, sym, _∙_}
 use denote.Ref.{now}
+use Rattle.answer.proofs.Agree.{Agrees}
 use Rattle.input.proofs.parse.Reads as parse
 use Rattle.input.proofs.unhex.Reads as unhex
 
-pub parse-agrees : (κs : _) (a : _) (r r' : _) (s s' : _) → parse.Post κs a r s → parse.Post κs a r' s' → r ≡ r'
+pub parse-agrees : Agrees parse.Post
 parse-agrees κs a r r' s s' p q = p ∙ sym q
 
 pub unhex-agrees : (κs : _) (a : _) (r r' : _) (s s' : _) → unhex.Post κs a r s → unhex.Post κs a r' s' → now (s .1 .1 .1 .0) ≡ now (s' .1 .1 .1 .0)

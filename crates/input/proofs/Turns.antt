@@ -2,7 +2,7 @@
 use mathlib.Core.Path.{_≡_, refl, sym, subst, _∙_}
 use mathlib.Core.Bool.{Bool, true, false, not, cond}
 use mathlib.Core.List.{List, [], _∷_}
-use Prim.Native.Nat.{ℕ, zero, suc, _+_, _-_, _*_, _≤_, _<_, zero-le, suc-le-suc}
+use Prim.Native.Nat.{ℕ, suc, _+_, _-_, _*_, _≤_, _<_, zero-le, suc-le-suc}
 use native.Mathlib.Nat.{add-zero, add-assoc}
 use native.Mathlib.Numerals.{add-one}
 use native.Mathlib.Omega.{arith}
@@ -11,6 +11,7 @@ use lib.ListN.{length, drop, getD, drop-of-length-le, length-drop}
 use lib.Seq.{getD-drop, drop-drop}
 use borrow.Author.Tests.{lt-ltb, le-ltb, eq-eqb, ne-eqb, ltb-false, eqb-true}
 use Rattle.text.specs.Text.{codes}
+use Rattle.input.proofs.Tests.{and-then, not-then, at-ten}
 use Rattle.input.specs.declared.Scan.{Scan}
 use Rattle.input.specs.declared.Scan.the-variants.{Bad, Pairs}
 use Rattle.input.specs.declared.Parsed.{Parsed}
@@ -22,12 +23,17 @@ pick-same true s = refl
 pick-same false s = refl
 
 -- one turn
-turn : (l : List ℕ) (n : ℕ) → hexLine l n ≡ pick (eqb (getD l 0 0) 10) (Pairs n) (pick (ltb (hexOf (getD l 0 0)) 16) (pick (ltb (hexOf (getD l 1 0)) 16) (hexLine (drop 2 l) (suc n)) Bad) Bad)
+turn : (l : List ℕ) (n : ℕ)
+    → hexLine l n
+    ≡ pick (eqb (getD l 0 0) 10) (Pairs n) (pick (ltb (hexOf (getD l 0 0)) 16) (pick (ltb (hexOf (getD l 1 0)) 16) (hexLine (drop 2 l) (suc n)) Bad) Bad)
 turn [] n = refl
 turn (a ∷ []) n = rw (pick-same (ltb (hexOf a) 16) Bad)
 turn (a ∷ b ∷ l) n = refl
 
-pub hex-turn : (s : List ℕ) (i n : ℕ) → hexLine (drop i s) n ≡ pick (eqb (getD s i 0) 10) (Pairs n) (pick (ltb (hexOf (getD s i 0)) 16) (pick (ltb (hexOf (getD s (i + 1) 0)) 16) (hexLine (drop (i + 2) s) (n + 1)) Bad) Bad)
+pub hex-turn : (s : List ℕ) (i n : ℕ)
+    → hexLine (drop i s) n
+    ≡ pick (eqb (getD s i 0) 10) (Pairs n)
+    (pick (ltb (hexOf (getD s i 0)) 16) (pick (ltb (hexOf (getD s (i + 1) 0)) 16) (hexLine (drop (i + 2) s) (n + 1)) Bad) Bad)
 hex-turn s i n = turn (drop i s) n ∙ rw (getD-drop i s 0 0, getD-drop i s 1 0, drop-drop 2 i s, add-zero i, add-one n)
 
 module _ (s : List ℕ) (i n : ℕ) where
@@ -38,24 +44,32 @@ module _ (s : List ℕ) (i n : ℕ) where
   hex-bad {r} ne e h = hex-turn s i n ∙ rw (ne-eqb (getD s i 0) 10 ne, le-ltb (hexOf (getD s i 0)) 16 (rw e at h))
 
   pub hex-bad2 : {r q : ℕ} → (getD s i 0 ≡ 10 → ⊥) → r ≡ hexOf (getD s i 0) → r < 16 → q ≡ hexOf (getD s (i + 1) 0) → 16 ≤ q → hexLine (drop i s) n ≡ Bad
-  hex-bad2 {r} {q} ne e h e′ h′ = hex-turn s i n ∙ rw (ne-eqb (getD s i 0) 10 ne, lt-ltb (hexOf (getD s i 0)) 16 (rw e at h), le-ltb (hexOf (getD s (i + 1) 0)) 16 (rw e′ at h′))
+  hex-bad2 {r} {q} ne e h e′ h′ =
+      hex-turn s i n ∙ rw (ne-eqb (getD s i 0) 10 ne, lt-ltb (hexOf (getD s i 0)) 16 (rw e at h), le-ltb (hexOf (getD s (i + 1) 0)) 16 (rw e′ at h′))
 
-  pub hex-next : {r q : ℕ} → (getD s i 0 ≡ 10 → ⊥) → r ≡ hexOf (getD s i 0) → r < 16 → q ≡ hexOf (getD s (i + 1) 0) → q < 16 → hexLine (drop i s) n ≡ hexLine (drop (i + 2) s) (n + 1)
-  hex-next {r} {q} ne e h e′ h′ = hex-turn s i n ∙ rw (ne-eqb (getD s i 0) 10 ne, lt-ltb (hexOf (getD s i 0)) 16 (rw e at h), lt-ltb (hexOf (getD s (i + 1) 0)) 16 (rw e′ at h′))
+  pub hex-next : {r q : ℕ} → (getD s i 0 ≡ 10 → ⊥) → r ≡ hexOf (getD s i 0) → r < 16 → q ≡ hexOf (getD s (i + 1) 0) → q < 16
+      → hexLine (drop i s) n ≡ hexLine (drop (i + 2) s) (n + 1)
+  hex-next {r} {q} ne e h e′ h′ =
+      hex-turn s i n ∙ rw (ne-eqb (getD s i 0) 10 ne, lt-ltb (hexOf (getD s i 0)) 16 (rw e at h), lt-ltb (hexOf (getD s (i + 1) 0)) 16 (rw e′ at h′))
 
   pub hex-end : length s ≤ i → hexLine (drop i s) n ≡ Bad
   hex-end h = rw (drop-of-length-le s h)
 
 -- ---- keys
 
-start-turn : (ks l : List ℕ) → 0 < length ks → starts ks l ≡ cond (ltb 0 (length l)) (cond (eqb (getD l 0 0) (getD ks 0 0)) (starts (drop 1 ks) (drop 1 l)) false) false
+start-turn : (ks l : List ℕ) → 0 < length ks
+    → starts ks l ≡ cond (ltb 0 (length l)) (cond (eqb (getD l 0 0) (getD ks 0 0)) (starts (drop 1 ks) (drop 1 l)) false) false
 start-turn [] l h = absurd (omega arith)
 start-turn (k ∷ ks) [] h = refl
 start-turn (k ∷ ks) (x ∷ l) h = rw (lt-ltb 0 (suc (length l)) (omega arith))
 
 module _ (k s : List ℕ) (j at : ℕ) where
-  key-turn : j < length k → starts (drop j k) (drop (at + j) s) ≡ cond (ltb 0 (length s - (at + j))) (cond (eqb (getD s (at + j) 0) (getD k j 0)) (starts (drop (j + 1) k) (drop (at + j + 1) s)) false) false
-  key-turn h = start-turn (drop j k) (drop (at + j) s) (rw (length-drop j k) (omega arith)) ∙ rw (length-drop (at + j) s, getD-drop (at + j) s 0 0, getD-drop j k 0 0, drop-drop 1 (at + j) s, drop-drop 1 j k, add-zero (at + j), add-zero j)
+  key-turn : j < length k
+      → starts (drop j k) (drop (at + j) s)
+      ≡ cond (ltb 0 (length s - (at + j))) (cond (eqb (getD s (at + j) 0) (getD k j 0)) (starts (drop (j + 1) k) (drop (at + j + 1) s)) false) false
+  key-turn h =
+      start-turn (drop j k) (drop (at + j) s) (rw (length-drop j k) (omega arith))
+      ∙ rw (length-drop (at + j) s, getD-drop (at + j) s 0 0, getD-drop j k 0 0, drop-drop 1 (at + j) s, drop-drop 1 j k, add-zero (at + j), add-zero j)
 
   pub key-end : length k ≤ j → starts (drop j k) (drop (at + j) s) ≡ true
   key-end h = rw (drop-of-length-le k h)
@@ -66,19 +80,16 @@ module _ (k s : List ℕ) (j at : ℕ) where
   pub key-not : j < length k → at + j < length s → (getD s (at + j) 0 ≡ getD k j 0 → ⊥) → starts (drop j k) (drop (at + j) s) ≡ false
   key-not h l ne = key-turn h ∙ rw (lt-ltb 0 (length s - (at + j)) (omega arith), ne-eqb (getD s (at + j) 0) (getD k j 0) ne)
 
-  pub key-more : j < length k → at + j < length s → getD s (at + j) 0 ≡ getD k j 0 → starts (drop j k) (drop (at + j) s) ≡ starts (drop (j + 1) k) (drop (at + (j + 1)) s)
+  pub key-more : j < length k → at + j < length s → getD s (at + j) 0 ≡ getD k j 0
+      → starts (drop j k) (drop (at + j) s) ≡ starts (drop (j + 1) k) (drop (at + (j + 1)) s)
   key-more h l e = key-turn h ∙ rw (lt-ltb 0 (length s - (at + j)) (omega arith), eq-eqb (getD s (at + j) 0) (getD k j 0) e, add-assoc at j 1)
 
 -- ---- what the tests tell
 
-both : (a b : Bool) → cond a b false ≡ true → b ≡ true
-both true b h = h
-both false b h = absurd (subst (λ (b : Bool). T (not b)) h tt)
-
 pub starts-room : (k l : List ℕ) → starts k l ≡ true → length k ≤ length l
 starts-room [] l h = zero-le
 starts-room (k ∷ ks) [] h = absurd (subst (λ (b : Bool). T (not b)) h tt)
-starts-room (k ∷ ks) (x ∷ l) h = suc-le-suc (starts-room ks l (both (eqb x k) (starts ks l) h))
+starts-room (k ∷ ks) (x ∷ l) h = suc-le-suc (starts-room ks l (and-then (eqb x k) (starts ks l) h .1))
 
 pub key-room : (k s : List ℕ) (at : ℕ) {r : Bool} → at ≤ length s → r ≡ starts k (drop at s) → r ≡ true → at + length k ≤ length s
 key-room k s at l e h = let q = starts-room k (drop at s) (sym e ∙ h) in let d = length-drop at s in omega arith
@@ -86,7 +97,8 @@ key-room k s at l e h = let q = starts-room k (drop at s) (sym e ∙ h) in let d
 pub keyed-not : (k l : List ℕ) {r : Bool} → r ≡ starts k l → r ≡ false → Bad ≡ keyed k l
 keyed-not k l e h = rw (sym e ∙ h)
 
-pub keyed-is : (k s : List ℕ) (at : ℕ) {r : Bool} {t : Scan} → r ≡ starts k (drop at s) → r ≡ true → t ≡ hexLine (drop (at + length k) s) 0 → t ≡ keyed k (drop at s)
+pub keyed-is : (k s : List ℕ) (at : ℕ) {r : Bool} {t : Scan} → r ≡ starts k (drop at s) → r ≡ true → t ≡ hexLine (drop (at + length k) s) 0
+    → t ≡ keyed k (drop at s)
 keyed-is k s at e h q = q ∙ rw (sym e ∙ h, drop-drop (length k) at s)
 
 pub bw-none : (s : List ℕ) {k : Bool} → k ≡ starts (codes "bw=") s → k ≡ false → false ≡ lineBw s
@@ -102,20 +114,13 @@ module _ (s : List ℕ) {k : Bool} (e : k ≡ starts (codes "bw=") s) (h : k ≡
   pub bw-end : {b : ℕ} → 48 ≤ d → d < 58 → b ≡ getD s 4 0 → eqb b 10 ≡ lineBw s
   bw-end l m p = rw (sym e ∙ h, le-ltb (getD s 3 0) 48 (rw q at l), lt-ltb (getD s 3 0) 58 (rw q at m), p)
 
-flip : (a b : Bool) → cond a false b ≡ true → (a ≡ false) × (b ≡ true)
-flip true b h = absurd (subst (λ (b : Bool). T (not b)) h tt)
-flip false b h = (refl, h)
-
 pub bw-digit : (s : List ℕ) → lineBw s ≡ true → 48 ≤ getD s 3 0
-bw-digit s h = ltb-false (getD s 3 0) 48 (flip (ltb (getD s 3 0) 48) _ (both (starts (codes "bw=") s) _ h) .0)
-
-at-ten : (s : List ℕ) (i : ℕ) → getD s i 0 ≡ 10 → i < length s
-at-ten [] i h = absurd (omega arith)
-at-ten (x ∷ s) zero h = omega arith
-at-ten (x ∷ s) (suc i) h = suc-le-suc (at-ten s i h)
+bw-digit s h = ltb-false (getD s 3 0) 48 (not-then (ltb (getD s 3 0) 48) _ (and-then (starts (codes "bw=") s) _ h .1) .0)
 
 pub bw-long : (s : List ℕ) → lineBw s ≡ true → 5 ≤ length s
-bw-long s h = at-ten s 4 (eqb-true (getD s 4 0) 10 (both (ltb (getD s 3 0) 58) _ (flip (ltb (getD s 3 0) 48) _ (both (starts (codes "bw=") s) _ h) .1)))
+bw-long s h =
+    let k = not-then (ltb (getD s 3 0) 48) _ (and-then (starts (codes "bw=") s) _ h .1) in
+    at-ten s 4 (eqb-true (getD s 4 0) 10 (and-then (ltb (getD s 3 0) 58) _ (k .1) .1))
 
 pub room : {r : Scan} {n : ℕ} (a l : ℕ) → r ≡ Pairs n → Room r a l → a + 2 * n < l
 room a l e h = subst (λ (t : Scan). Room t a l) e h
@@ -137,7 +142,8 @@ module _ (s : List ℕ) (n : ℕ) {q : Scan} (k : q ≡ keyed (codes "cc2=") (dr
   pub wrong-4 : {m : ℕ} → q ≡ Pairs m → (length s ≡ 15 + 2 * n + 2 * m → ⊥) → Wrong 4 ≡ afterTwo s n (keyed (codes "cc2=") (drop (10 + 2 * n) s))
   wrong-4 {m} l ne = rw (sym k ∙ l, ne-eqb (length s) (15 + 2 * n + 2 * m) ne)
 
-  pub right : {m d : ℕ} → q ≡ Pairs m → length s ≡ 15 + 2 * n + 2 * m → d ≡ getD s 3 0 - 48 → Lines d n m ≡ afterTwo s n (keyed (codes "cc2=") (drop (10 + 2 * n) s))
+  pub right : {m d : ℕ} → q ≡ Pairs m → length s ≡ 15 + 2 * n + 2 * m → d ≡ getD s 3 0 - 48
+      → Lines d n m ≡ afterTwo s n (keyed (codes "cc2=") (drop (10 + 2 * n) s))
   right {m} l eq p = rw (sym k ∙ l, eq-eqb (length s) (15 + 2 * n + 2 * m) eq, p)
 
 -- the second line
@@ -145,7 +151,8 @@ module _ (s : List ℕ) {r : Scan} (f : r ≡ keyed (codes "cc1=") (drop 5 s)) w
   pub wrong-2 : r ≡ Bad → Wrong 2 ≡ afterOne s (keyed (codes "cc1=") (drop 5 s))
   wrong-2 g = rw (sym f ∙ g)
 
-  pub next-2 : {n : ℕ} {t : Parsed} → r ≡ Pairs n → t ≡ afterTwo s n (keyed (codes "cc2=") (drop (10 + 2 * n) s)) → t ≡ afterOne s (keyed (codes "cc1=") (drop 5 s))
+  pub next-2 : {n : ℕ} {t : Parsed} → r ≡ Pairs n → t ≡ afterTwo s n (keyed (codes "cc2=") (drop (10 + 2 * n) s))
+      → t ≡ afterOne s (keyed (codes "cc1=") (drop 5 s))
   next-2 g p = p ∙ rw (sym f ∙ g)
 
 -- the first

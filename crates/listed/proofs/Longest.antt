@@ -173,9 +173,9 @@ module _ (o row : ℕ → ℕ) where
   stas-positions n c zero h = refl
   stas-positions n c (suc m) h =
       sum-split (λ j. staMost (ownerOf o row c n j)) (fieldsBefore c row m) (inChannel c m (fieldsOf (row m)))
-      ∙ omega (arith, stas-positions n c m (omega arith), last (eqb (m % 2) c) refl)
+      ∙ omega (arith, stas-positions n c m (omega arith), last (eqb (m % 2 + 1) c) refl)
     where
-      last : (t : Bool) → eqb (m % 2) c ≡ t
+      last : (t : Bool) → eqb (m % 2 + 1) c ≡ t
           → sumTo (λ k. staMost (ownerOf o row c n (fieldsBefore c row m + k))) (inChannel c m (fieldsOf (row m))) ≡ inChannel c m (stas m)
       last true e =
           rw e
@@ -183,15 +183,15 @@ module _ (o row : ℕ → ℕ) where
           (λ k l. ap staMost (found-left o row c m n (fieldsBefore c row m + k) k (omega arith) refl (rw e l))))
       last false e = rw e
 
-each-channel : (p f : ℕ) → inChannel 0 p f + inChannel 1 p f ≡ f
+each-channel : (p f : ℕ) → inChannel 1 p f + inChannel 2 p f ≡ f
 each-channel p f = go (p % 2) (omega arith)
   where
-    go : (t : ℕ) → t < 2 → cond (eqb t 0) f 0 + cond (eqb t 1) f 0 ≡ f
+    go : (t : ℕ) → t < 2 → cond (eqb (t + 1) 1) f 0 + cond (eqb (t + 1) 2) f 0 ≡ f
     go zero l = omega arith
     go (suc zero) l = omega arith
     go (suc (suc t)) l = absurd (omega arith)
 
-both-channels : (g : ℕ → ℕ) (n : ℕ) → sumTo (λ p. inChannel 0 p (g p)) n + sumTo (λ p. inChannel 1 p (g p)) n ≡ sumTo g n
+both-channels : (g : ℕ → ℕ) (n : ℕ) → sumTo (λ p. inChannel 1 p (g p)) n + sumTo (λ p. inChannel 2 p (g p)) n ≡ sumTo g n
 both-channels g zero = refl
 both-channels g (suc n) = omega (arith, both-channels g n, each-channel n (g n))
 
@@ -284,7 +284,7 @@ module _ (o row : ℕ → ℕ) (b : ℕ) (h : b < 5) (s : Signals o row 0 (2 ^ b
 fields-zeros : (c : ℕ) (row : ℕ → ℕ) (n : ℕ) → fieldsBefore c row n ≤ fieldsBefore c (λ p. 0) n
 unfolding fieldsOf pieces
 fields-zeros c row zero = omega arith
-fields-zeros c row (suc n) = go (eqb (n % 2) c) (fields-zeros c row n)
+fields-zeros c row (suc n) = go (eqb (n % 2 + 1) c) (fields-zeros c row n)
   where
     go : (t : Bool) → fieldsBefore c row n ≤ fieldsBefore c (λ p. 0) n → fieldsBefore c row n + cond t (fieldsOf (row n)) 0 ≤ fieldsBefore c (λ p. 0) n + cond t 9 0
     go true h = omega (arith, fields-most (row n))
@@ -296,28 +296,28 @@ fields-nine c row (suc n) = omega (arith, fields-nine c row n, in-most c n (fiel
 
 -- ---- the longest listing of n positions
 unfoldable pub longest : ℕ → ℕ
-longest n = headMost (9 * n) (fieldsBefore 0 (λ p. 0) n) (fieldsBefore 1 (λ p. 0) n) + sumTo (λ p. most n p 0) n
+longest n = headMost (9 * n) (fieldsBefore 1 (λ p. 0) n) (fieldsBefore 2 (λ p. 0) n) + sumTo (λ p. most n p 0) n
 
 -- the lines of the stations of a row, whose STA-IDs have eleven bits
 module _ (bw : ℕ) (r a b : List ℕ) where
   abbrev first : ℕ
-  first = fieldsBefore 0 (at r) (length r)
+  first = fieldsBefore 1 (at r) (length r)
 
   abbrev second : ℕ
-  second = fieldsBefore 1 (at r) (length r)
+  second = fieldsBefore 2 (at r) (length r)
 
   abbrev found-in : ℕ → ℕ → ℕ
   found-in c j = ownerOf (onlyPlan (at r)) (at r) c (length r) j
 
-  line-1 : (i : ℕ) → i < first → length (staLineAt bw r a b first i) ≤ staMost (found-in 0 i)
+  line-1 : (i : ℕ) → i < first → length (staLineAt bw r a b first i) ≤ staMost (found-in 1 i)
   unfolding staLineAt ownerIn
-  line-1 i l = rw (lt-ltb i first l) (sta-most (stationAt bw a i) (found-in 0 i) (field-lt a (userAt bw i) 11))
+  line-1 i l = rw (lt-ltb i first l) (sta-most (stationAt bw a i) (found-in 1 i) (field-lt a (userAt bw i) 11))
 
-  line-2 : (j : ℕ) → length (staLineAt bw r a b first (first + j)) ≤ staMost (found-in 1 j)
+  line-2 : (j : ℕ) → length (staLineAt bw r a b first (first + j)) ≤ staMost (found-in 2 j)
   unfolding staLineAt ownerIn
   line-2 j =
       let e : first + j - first ≡ j = omega arith in
-      rw (le-ltb (first + j) first (omega arith), e) (sta-most (stationAt bw b j) (found-in 1 j) (field-lt b (userAt bw j) 11))
+      rw (le-ltb (first + j) first (omega arith), e) (sta-most (stationAt bw b j) (found-in 2 j) (field-lt b (userAt bw j) 11))
 
   stations-most : length (staLines bw r a b first (first + second)) ≤ sumTo (stas (onlyPlan (at r)) (at r)) (length r)
   unfolding staLines
@@ -326,7 +326,7 @@ module _ (bw : ℕ) (r a b : List ℕ) where
       let e : length (upto (staLineAt bw r a b first) (first + second)) ≡ sumTo f first + sumTo (λ j. f (first + j)) second =
       upto-sum (staLineAt bw r a b first) (first + second) ∙ sum-split f first second in
       omega
-      (arith, e, sum-most f (λ j. staMost (found-in 0 j)) first line-1, sum-most (λ j. f (first + j)) (λ j. staMost (found-in 1 j)) second (λ j l. line-2 j), stas-positions (onlyPlan (at r)) (at r) (length r) 0 (length r) (omega arith), stas-positions (onlyPlan (at r)) (at r) (length r) 1 (length r) (omega arith), both-channels (stas (onlyPlan (at r)) (at r)) (length r))
+      (arith, e, sum-most f (λ j. staMost (found-in 1 j)) first line-1, sum-most (λ j. f (first + j)) (λ j. staMost (found-in 2 j)) second (λ j l. line-2 j), stas-positions (onlyPlan (at r)) (at r) (length r) 1 (length r) (omega arith), stas-positions (onlyPlan (at r)) (at r) (length r) 2 (length r) (omega arith), both-channels (stas (onlyPlan (at r)) (at r)) (length r))
 
   row-most : bw < 5 → length r ≡ 2 ^ bw → Signals (onlyPlan (at r)) (at r) 0 (length r) → length (listingOf bw r a b first second) ≤ longest (length r)
   unfolding listingOf longest positions
@@ -334,9 +334,9 @@ module _ (bw : ℕ) (r a b : List ℕ) where
       let o = onlyPlan (at r) in
       let n = length r in
       let few : n ≤ 16 = omega (arith, positions-le bw (omega arith)) in
-      let hd : length (headText bw (length (resources r)) first second) ≤ headMost (9 * n) (fieldsBefore 0 (λ p. 0) n) (fieldsBefore 1 (λ p. 0) n) =
-      head-most bw (length (resources r)) first second (9 * n) (fieldsBefore 0 (λ p. 0) n) (fieldsBefore 1 (λ p. 0) n) (omega arith) (records-most o (at r) n) (fields-zeros 0 (at r) n) (fields-zeros 1 (at r) n) (omega arith)
-      (omega (arith, fields-nine 0 (λ p. 0) n)) (omega (arith, fields-nine 1 (λ p. 0) n)) in
+      let hd : length (headText bw (length (resources r)) first second) ≤ headMost (9 * n) (fieldsBefore 1 (λ p. 0) n) (fieldsBefore 2 (λ p. 0) n) =
+      head-most bw (length (resources r)) first second (9 * n) (fieldsBefore 1 (λ p. 0) n) (fieldsBefore 2 (λ p. 0) n) (omega arith) (records-most o (at r) n) (fields-zeros 1 (at r) n) (fields-zeros 2 (at r) n) (omega arith)
+      (omega (arith, fields-nine 1 (λ p. 0) n)) (omega (arith, fields-nine 2 (λ p. 0) n)) in
       let ru : length (ruLines n (resources r)) ≡ sumTo (λ p. sizes n (listAt (o p) (at r) p)) n = lines-sizes n (resources r) ∙ sizes-positions o (at r) n n in
       let all : sumTo (λ p. sizes n (listAt (o p) (at r) p)) n + sumTo (stas o (at r)) n ≤ sumTo (λ p. most n p 0) n =
       subst (λ (m : ℕ). Signals o (at r) 0 m → sumTo (λ p. sizes m (listAt (o p) (at r) p)) m + sumTo (stas o (at r)) m ≤ sumTo (λ p. most m p 0) m) (sym e) (positions-charge o (at r) bw h) s in

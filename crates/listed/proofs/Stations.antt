@@ -22,19 +22,19 @@ use Rattle.halves.specs.Table.{outcome11}
 use Rattle.frame.specs.Words.{wordCount, wordsOf}
 use Rattle.frame.proofs.Determine.{words-length, user-back-1, user-back-2}
 use Rattle.frame.proofs.Counts.{row-count-1, row-count-2}
-use Rattle.lines.specs.Lines.{staLine}
-use Rattle.listed.specs.Listing.{resources, ownerIn, staLineAt}
+use Rattle.listed.specs.Listing.{ownerIn, staLineAt}
+use Rattle.listed.specs.Stations.{Station}
 use Rattle.listed.proofs.Accepted.{known-code, accepted-signals}
 
 -- ---- how many: "the count is the sum over the row's values", in each channel
 
 module _ (bw : ℕ) (a b : List ℕ) (l : bw ≤ 4) where
   -- fields1=
-  pub fields-1 : fieldsBefore 0 (at (row bw a b)) (length (row bw a b)) ≡ count bw 1 a
+  pub fields-1 : fieldsBefore 1 (at (row bw a b)) (length (row bw a b)) ≡ count bw 1 a
   fields-1 = row-count-1 bw a b l
 
   -- fields2=
-  pub fields-2 : fieldsBefore 1 (at (row bw a b)) (length (row bw a b)) ≡ count bw 2 b
+  pub fields-2 : fieldsBefore 2 (at (row bw a b)) (length (row bw a b)) ≡ count bw 2 b
   fields-2 = row-count-2 bw a b l
 
 -- stations=: their sum, as many as there are words past the first ten
@@ -57,22 +57,7 @@ station-bits w = go (eqb (w % 256) 0x47)
 first-11 : (s : List ℕ) (n : ℕ) → field s n 22 % 2048 ≡ field s n 11
 first-11 s n = omega (arith, field-split s n 11 11, field-lt s n 11)
 
--- ---- "one per User field, channel 1 first": of the i-th User field over both channels, m of which are channel 1's, the channel, from 0,
--- and its number there
-abbrev pub channelIn : ℕ → ℕ → ℕ
-channelIn m i = cond (ltb i m) 0 1
-
-abbrev pub placeIn : ℕ → ℕ → ℕ
-placeIn m i = cond (ltb i m) i (i - m)
-
--- the i-th `sta=` line is that of the i-th User word
-pub record Station (bw : ℕ) (a b r : List ℕ) (m i : ℕ) : Type 0 where
-  -- it says the word's STA-ID, and a resource's number, from 1
-  pub line : staLineAt bw r a b m i ≡ staLine (at (wordsOf bw a b) (10 + i) / 256 % 2048) (ownerIn r m i + 1)
-  -- which has a `ru=` line
-  pub listed : ownerIn r m i < length (resources r)
-  -- and owns the field
-  pub owns : Owns (onlyPlan (at r)) (at r) (length r) (ownerIn r m i) (channelIn m i) (placeIn m i)
+-- ---- "sta= lines follow the User words"
 
 module _ (bw : ℕ) (a b : List ℕ) (e : outcome11 bw a b ≡ Pass) where
   abbrev the-row : List ℕ
@@ -85,15 +70,15 @@ module _ (bw : ℕ) (a b : List ℕ) (e : outcome11 bw a b ≡ Pass) where
   station-1 : (i : ℕ) → i < first → Station bw a b the-row first i
   unfolding staLineAt ownerIn
   station-1 i l =
-      let f : i < fieldsBefore 0 (at the-row) (length the-row) = omega (arith, fields-1 bw a b (known-code bw a b e)) in
+      let f : i < fieldsBefore 1 (at the-row) (length the-row) = omega (arith, fields-1 bw a b (known-code bw a b e)) in
       let s = accepted-signals bw a b e in
       let t : ltb i first ≡ true = lt-ltb i first l in
       let w : at (wordsOf bw a b) (10 + i) / 256 % 2048 ≡ field a (userAt bw i) 11 =
       sym (station-bits (at (wordsOf bw a b) (10 + i))) ∙ ap (λ (x : ℕ). x % 2048) (user-back-1 bw a b i l) ∙ first-11 a (userAt bw i) in
       record {
         line = rw (t, w);
-        listed = rw t (owner-listed (onlyPlan (at the-row)) (at the-row) (length the-row) s 0 i f);
-        owns = rw t (owner-owns (onlyPlan (at the-row)) (at the-row) (length the-row) s 0 i f);
+        listed = rw t (owner-listed (onlyPlan (at the-row)) (at the-row) (length the-row) s 1 i f);
+        owns = rw t (owner-owns (onlyPlan (at the-row)) (at the-row) (length the-row) s 1 i f);
       }
 
   -- of channel 2
@@ -101,7 +86,7 @@ module _ (bw : ℕ) (a b : List ℕ) (e : outcome11 bw a b ≡ Pass) where
   unfolding staLineAt ownerIn
   station-2 i h l =
       let j = i - first in
-      let f : j < fieldsBefore 1 (at the-row) (length the-row) = omega (arith, fields-2 bw a b (known-code bw a b e)) in
+      let f : j < fieldsBefore 2 (at the-row) (length the-row) = omega (arith, fields-2 bw a b (known-code bw a b e)) in
       let s = accepted-signals bw a b e in
       let t : ltb i first ≡ false = le-ltb i first h in
       let n : 10 + i ≡ 10 + first + j = omega arith in
@@ -109,8 +94,8 @@ module _ (bw : ℕ) (a b : List ℕ) (e : outcome11 bw a b ≡ Pass) where
       sym (station-bits (at (wordsOf bw a b) (10 + i))) ∙ ap (λ (x : ℕ). x % 2048) (ap (λ (x : ℕ). userField (at (wordsOf bw a b) x)) n ∙ user-back-2 bw a b j l) ∙ first-11 b (userAt bw j) in
       record {
         line = rw (t, w);
-        listed = rw t (owner-listed (onlyPlan (at the-row)) (at the-row) (length the-row) s 1 j f);
-        owns = rw t (owner-owns (onlyPlan (at the-row)) (at the-row) (length the-row) s 1 j f);
+        listed = rw t (owner-listed (onlyPlan (at the-row)) (at the-row) (length the-row) s 2 j f);
+        owns = rw t (owner-owns (onlyPlan (at the-row)) (at the-row) (length the-row) s 2 j f);
       }
 
   -- of an accepted frame, for each User word

@@ -43,7 +43,7 @@ ruLines n rs = upto (λ i. recordLine n (getD rs i blank)) (length rs)
 
 -- the resource that owns User field i over both channels, m of which are channel 1's
 unfoldable pub ownerIn : List ℕ → ℕ → ℕ → ℕ
-ownerIn r m i = cond (ltb i m) (theOwner r 0 i) (theOwner r 1 (i - m))
+ownerIn r m i = cond (ltb i m) (theOwner r 1 i) (theOwner r 2 (i - m))
 
 -- "sta= lines follow the User words": channel 1's fields first; `resource=` counts from 1 over the whole listing
 unfoldable pub staLineAt : ℕ → List ℕ → List ℕ → List ℕ → ℕ → ℕ → List ℕ

@@ -15,21 +15,21 @@ use Rattle.listing.specs.Engine.{ownedLine, ownersIn}
 use Rattle.listed.specs.Listing.{ownerIn, staLineAt, staLines}
 
 module _ (bw : ℕ) (r a b : List ℕ) (m : ℕ) where
-  in-first : (i : ℕ) → i < 72 → i < m → staLineAt bw r a b m i ≡ ownedLine bw a (ownersIn r 0) i
+  in-first : (i : ℕ) → i < 72 → i < m → staLineAt bw r a b m i ≡ ownedLine bw a (ownersIn r 1) i
   unfolding staLineAt ownerIn
-  in-first i l h = rw (lt-ltb i m h, getD-build (ownerOf (onlyPlan (at r)) (at r) 0 (length r)) 72 i 0 l)
+  in-first i l h = rw (lt-ltb i m h, getD-build (ownerOf (onlyPlan (at r)) (at r) 1 (length r)) 72 i 0 l)
 
-  in-second : (i : ℕ) → i < 72 → staLineAt bw r a b m (m + i) ≡ ownedLine bw b (ownersIn r 1) i
+  in-second : (i : ℕ) → i < 72 → staLineAt bw r a b m (m + i) ≡ ownedLine bw b (ownersIn r 2) i
   unfolding staLineAt ownerIn
   in-second i l =
       let e : m + i - m ≡ i = omega arith in
-      rw (le-ltb (m + i) m (omega arith), e, getD-build (ownerOf (onlyPlan (at r)) (at r) 1 (length r)) 72 i 0 l)
+      rw (le-ltb (m + i) m (omega arith), e, getD-build (ownerOf (onlyPlan (at r)) (at r) 2 (length r)) 72 i 0 l)
 
-  pub both-channels : (k : ℕ) → m ≤ 72 → k ≤ 72 → upto (ownedLine bw a (ownersIn r 0)) m ++ upto (ownedLine bw b (ownersIn r 1)) k ≡ staLines bw r a b m (m + k)
+  pub both-channels : (k : ℕ) → m ≤ 72 → k ≤ 72 → upto (ownedLine bw a (ownersIn r 1)) m ++ upto (ownedLine bw b (ownersIn r 2)) k ≡ staLines bw r a b m (m + k)
   unfolding staLines
   both-channels k x y =
       sym (
       upto-append (staLineAt bw r a b m) m k
-      ∙ ap (λ (l : List ℕ). l ++ upto (λ i. staLineAt bw r a b m (m + i)) k) (upto-cong (staLineAt bw r a b m) (ownedLine bw a (ownersIn r 0)) m (λ i h. in-first i (omega arith) h))
-      ∙ ap (λ (l : List ℕ). upto (ownedLine bw a (ownersIn r 0)) m ++ l) (upto-cong (λ i. staLineAt bw r a b m (m + i)) (ownedLine bw b (ownersIn r 1)) k (λ i h. in-second i (omega arith)))
+      ∙ ap (λ (l : List ℕ). l ++ upto (λ i. staLineAt bw r a b m (m + i)) k) (upto-cong (staLineAt bw r a b m) (ownedLine bw a (ownersIn r 1)) m (λ i h. in-first i (omega arith) h))
+      ∙ ap (λ (l : List ℕ). upto (ownedLine bw a (ownersIn r 1)) m ++ l) (upto-cong (λ i. staLineAt bw r a b m (m + i)) (ownedLine bw b (ownersIn r 2)) k (λ i h. in-second i (omega arith)))
       )

@@ -10,7 +10,9 @@ use Rattle.answer.specs.Answer.{_or_}
 use Rattle.answer.specs.Order.{firstOf, Judged}
 use Rattle.answer.specs.declared.Answer.{Answer}
 use Rattle.answer.specs.declared.Outcome.{Outcome}
-use Rattle.answer.proofs.Order.{Only, only-if, first-append, or-end, distinct, absent, judged}
+use Rattle.answer.proofs.Numbers.{Only, only-if, distinct, absent, judged}
+use Rattle.answer.proofs.First.{first-append}
+use Rattle.answer.proofs.Order.{or-end}
 use Rattle.halves.specs.Table.{checks11, outcome11}
 use Rattle.halves.proofs.Exactly.{eleven-then}
 use Rattle.listed.specs.Listing.{listing, check23, listOutcome, listAnswer, listNumbers, listChecks}

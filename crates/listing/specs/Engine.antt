@@ -40,7 +40,7 @@ pub record Given (bw : ℕ) (a b r c : List ℕ) (m k : ℕ) : Type 0 where
 abbrev pub ownedLine : ℕ → List ℕ → List ℕ → ℕ → List ℕ
 ownedLine bw s owners i = staLine (field s (userAt bw i) 11) (getD owners i 0 + 1)
 
--- the numbers of the owners of channel c's fields, from 0
+-- the numbers, from 0, of the owners of channel c's fields
 abbrev pub ownersIn : List ℕ → ℕ → List ℕ
 ownersIn r c = build (ownerOf (onlyPlan (at r)) (at r) c (length r)) 72
 

@@ -167,8 +167,8 @@ fn put_stations(
     requires { ⌜ (at ≤ 40000) × (m ≤ 72) × (k ≤ 72) × (length (now row) ≤ 16) × (now kinds ≡ kindsOf (now row)) × (now before ≡ numbersOf (now row)) ⌝ }
     ensures { λ r. ⌜ Wrote (now (out .entry)) at (staLines bw (now (row .entry)) (now (a .entry)) (now (b .entry)) m (m + k)) (now (out .exit)) r ⌝ }
 {
-    let o = put_owned(out, at, bw, a, row, kinds, before, 0, m);
-    put_owned(out, o, bw, b, row, kinds, before, 1, k)
+    let o = put_owned(out, at, bw, a, row, kinds, before, 1, m);
+    put_owned(out, o, bw, b, row, kinds, before, 2, k)
 }
 
 // The listing of a frame whose row is given with its tables, with m fields in channel 1 and k in channel 2.

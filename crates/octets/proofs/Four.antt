@@ -26,9 +26,12 @@ module _ (ws w out : List ℕ) (i x : ℕ) (l : 4 * i + 4 ≤ length w) (e : out
       let b2 : x / 65536 % 256 ≡ byteAt ws (4 * i + 2) = rw ex (sym (byte-of ws i 2 (omega arith))) in
       let b3 : x / 16777216 % 256 ≡ byteAt ws (4 * i + 3) = rw ex (sym (byte-of ws i 3 (omega arith))) in
       let e1 : set out (4 * i) (x % 256) ≡ filled (byteAt ws) (4 * i + 1) w = rw e (filled-step (byteAt ws) (4 * i) (x % 256) w (omega arith) b0) in
-      let e2 : set (set out (4 * i) (x % 256)) (4 * i + 1) (x / 256 % 256) ≡ filled (byteAt ws) (4 * i + 1 + 1) w = rw e1 (filled-step (byteAt ws) (4 * i + 1) (x / 256 % 256) w (omega arith) b1) in
+      let e2 : set (set out (4 * i) (x % 256)) (4 * i + 1) (x / 256 % 256) ≡ filled (byteAt ws) (4 * i + 1 + 1) w =
+      rw e1 (filled-step (byteAt ws) (4 * i + 1) (x / 256 % 256) w (omega arith) b1) in
       let q2 : 4 * i + 1 + 1 ≡ 4 * i + 2 = omega arith in
-      let e3 = ap (λ (z : List ℕ). set z (4 * i + 2) (x / 65536 % 256)) (e2 ∙ ap (λ (k : ℕ). filled (byteAt ws) k w) q2) ∙ filled-step (byteAt ws) (4 * i + 2) (x / 65536 % 256) w (omega arith) b2 in
+      let e3 =
+      ap (λ (z : List ℕ). set z (4 * i + 2) (x / 65536 % 256)) (e2 ∙ ap (λ (k : ℕ). filled (byteAt ws) k w) q2)
+      ∙ filled-step (byteAt ws) (4 * i + 2) (x / 65536 % 256) w (omega arith) b2 in
       let q3 : 4 * i + 2 + 1 ≡ 4 * i + 3 = omega arith in
       let q4 : 4 * i + 3 + 1 ≡ 4 * (i + 1) = omega arith in
       ap (λ (z : List ℕ). set z (4 * i + 3) (x / 16777216 % 256)) (e3 ∙ ap (λ (k : ℕ). filled (byteAt ws) k w) q3)

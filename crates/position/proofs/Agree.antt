@@ -10,6 +10,7 @@ use prog.Wp.{Heap}
 use ghost.Atoms.{Atoms}
 use contract.Monad.{Fun, fact, fact-use, factI}
 use denote.Ref.{RefT}
+use Rattle.answer.proofs.Agree.{Agrees}
 use Rattle.position.specs.declared.Position.{Position}
 use Rattle.position.proofs.read_at.Reads as read-at
 use Rattle.position.proofs.left_at.Reads as left-at
@@ -26,19 +27,19 @@ use Rattle.position.proofs.blocks as blocks
 use Rattle.position.proofs.walk_through as walk-through
 
 -- ---- over plain bytes and a bit number
-pub read-at-agrees : (κs : _) (a : _) (r r' : _) (s s' : _) → read-at.Post κs a r s → read-at.Post κs a r' s' → r ≡ r'
+pub read-at-agrees : Agrees read-at.Post
 read-at-agrees κs a r r' s s' p q = p ∙ sym q
 
-pub left-at-agrees : (κs : _) (a : _) (r r' : _) (s s' : _) → left-at.Post κs a r s → left-at.Post κs a r' s' → r ≡ r'
+pub left-at-agrees : Agrees left-at.Post
 left-at-agrees κs a r r' s s' p q = p ∙ sym q
 
-pub common-at-agrees : (κs : _) (a : _) (r r' : _) (s s' : _) → common-at.Post κs a r s → common-at.Post κs a r' s' → r ≡ r'
+pub common-at-agrees : Agrees common-at.Post
 common-at-agrees κs a r r' s s' p q = p ∙ sym q
 
-pub blocks-at-agrees : (κs : _) (a : _) (r r' : _) (s s' : _) → blocks-at.Post κs a r s → blocks-at.Post κs a r' s' → r ≡ r'
+pub blocks-at-agrees : Agrees blocks-at.Post
 blocks-at-agrees κs a r r' s s' p q = p ∙ sym q
 
-pub walk-agrees : (κs : _) (a : _) (r r' : _) (s s' : _) → walk.Post κs a r s → walk.Post κs a r' s' → r ≡ r'
+pub walk-agrees : Agrees walk.Post
 walk-agrees κs a r r' s s' p q = p ∙ sym q
 
 -- ---- through a position: what the contract says of one result and of another, at any exits, together say that they are one
@@ -51,38 +52,35 @@ module _ {M : Type 1} (𝓤 : URA M) (H : Heap 𝓤) (A : Atoms 𝓤) (mem : Mem
   both {φ} {ψ} {χ} h =
       fact-use 𝓤 φ (fst∗ 𝓤 (fact 𝓤 φ) (fact 𝓤 ψ)) (λ x. fact-use 𝓤 ψ (snd∗ 𝓤 (fact 𝓤 φ) (fact 𝓤 ψ)) (λ y. factI 𝓤 χ (sep 𝓤 (fact 𝓤 φ) (fact 𝓤 ψ)) (h x y)))
 
-  pub start-agrees : (κs : _) (a : _) (r r′ : _) (x x′ : _)
-      → ent 𝓤 (sep 𝓤 (start.clauses 𝓤 H A mem run κs a .ensures tt r x) (start.clauses 𝓤 H A mem run κs a .ensures tt r′ x′)) (fact 𝓤 (r ≡ r′))
+  -- two results that E allows, each with its exits, are one
+  abbrev One : {R X : Type 0} → (R → X → SProp 𝓤) → Type 1
+  One E = (r r′ : _) (x x′ : _) → ent 𝓤 (sep 𝓤 (E r x) (E r′ x′)) (fact 𝓤 (r ≡ r′))
+
+  pub start-agrees : (κs : _) (a : _) → One (start.clauses 𝓤 H A mem run κs a .ensures tt)
   start-agrees κs a r r′ x x′ = both (λ e f. same r r′ (e .0 ∙ sym (f .0)) (e .1 ∙ sym (f .1)))
 
-  pub read-agrees : (κs : _) (a : _) (r r′ : _) (x x′ : _)
-      → ent 𝓤 (sep 𝓤 (read.clauses 𝓤 H A mem run κs a .ensures tt r x) (read.clauses 𝓤 H A mem run κs a .ensures tt r′ x′)) (fact 𝓤 (r ≡ r′))
+  pub read-agrees : (κs : _) (a : _) → One (read.clauses 𝓤 H A mem run κs a .ensures tt)
   read-agrees κs a r r′ x x′ = both (λ e f. e ∙ sym f)
 
-  pub moved-agrees : (κs : _) (a : _) (r r′ : _) (x x′ : _)
-      → ent 𝓤 (sep 𝓤 (moved.clauses 𝓤 H A mem run κs a .ensures tt r x) (moved.clauses 𝓤 H A mem run κs a .ensures tt r′ x′)) (fact 𝓤 (r ≡ r′))
+  pub moved-agrees : (κs : _) (a : _) → One (moved.clauses 𝓤 H A mem run κs a .ensures tt)
   moved-agrees κs a r r′ x x′ = both (λ e f. same r r′ (e .0 ∙ sym (f .0)) (e .1 ∙ sym (f .1)))
 
-  pub left-agrees : (κs : _) (a : _) (r r′ : _) (x x′ : _)
-      → ent 𝓤 (sep 𝓤 (left.clauses 𝓤 H A mem run κs a .ensures tt r x) (left.clauses 𝓤 H A mem run κs a .ensures tt r′ x′)) (fact 𝓤 (r ≡ r′))
+  pub left-agrees : (κs : _) (a : _) → One (left.clauses 𝓤 H A mem run κs a .ensures tt)
   left-agrees κs a r r′ x x′ = both (λ e f. e ∙ sym f)
 
-  pub common-agrees : (κs : _) (a : _) (r r′ : _) (x x′ : _)
-      → ent 𝓤 (sep 𝓤 (common.clauses 𝓤 H A mem run κs a .ensures tt r x) (common.clauses 𝓤 H A mem run κs a .ensures tt r′ x′)) (fact 𝓤 (r ≡ r′))
+  pub common-agrees : (κs : _) (a : _) → One (common.clauses 𝓤 H A mem run κs a .ensures tt)
   common-agrees κs a r r′ x x′ = both (λ e f. e ∙ sym f)
 
-  pub after-agrees : (κs : _) (a : _) (r r′ : _) (x x′ : _)
-      → ent 𝓤 (sep 𝓤 (after.clauses 𝓤 H A mem run κs a .ensures tt r x) (after.clauses 𝓤 H A mem run κs a .ensures tt r′ x′)) (fact 𝓤 (r ≡ r′))
+  pub after-agrees : (κs : _) (a : _) → One (after.clauses 𝓤 H A mem run κs a .ensures tt)
   after-agrees κs a r r′ x x′ = both (λ e f. same r r′ (e .0 ∙ sym (f .0)) (e .1 ∙ sym (f .1)))
 
-  pub blocks-agrees : (κs : _) (a : _) (r r′ : _) (x x′ : _)
-      → ent 𝓤 (sep 𝓤 (blocks.clauses 𝓤 H A mem run κs a .ensures tt r x) (blocks.clauses 𝓤 H A mem run κs a .ensures tt r′ x′)) (fact 𝓤 (r ≡ r′))
+  pub blocks-agrees : (κs : _) (a : _) → One (blocks.clauses 𝓤 H A mem run κs a .ensures tt)
   blocks-agrees κs a r r′ x x′ = both (λ e f. e ∙ sym f)
 
-  pub walk-through-agrees : (κs : _) (a : _) (r r′ : _) (x x′ : _)
-      → ent 𝓤 (sep 𝓤 (walk-through.clauses 𝓤 H A mem run κs a .ensures tt r x) (walk-through.clauses 𝓤 H A mem run κs a .ensures tt r′ x′)) (fact 𝓤 (r ≡ r′))
+  pub walk-through-agrees : (κs : _) (a : _) → One (walk-through.clauses 𝓤 H A mem run κs a .ensures tt)
   walk-through-agrees κs a r r′ x x′ = both (λ e f. e ∙ sym f)
 
   -- and the walk through a position comes to what the walk over plain bytes does
-  pub walks-agree : (κs : _) (a : _) (r r′ : _) (s : _) (x : _) → walk.Post κs a r s → ent 𝓤 (walk-through.clauses 𝓤 H A mem run κs a .ensures tt r′ x) (fact 𝓤 (r ≡ r′))
+  pub walks-agree : (κs : _) (a : _) (r r′ : _) (s : _) (x : _) → walk.Post κs a r s
+      → ent 𝓤 (walk-through.clauses 𝓤 H A mem run κs a .ensures tt r′ x) (fact 𝓤 (r ≡ r′))
   walks-agree κs a r r′ s x p = fact-use 𝓤 _ (id⊢ 𝓤 _) (λ e. factI 𝓤 _ _ (p ∙ sym e))

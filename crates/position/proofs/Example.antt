@@ -8,12 +8,14 @@ use Prim.Native.Nat.{ℕ, _%_}
 use Rattle.answer.specs.Lists.{build, filled}
 use Rattle.bits.specs.Bits.{bit, field, lacks}
 use Rattle.resource.specs.Values.{carried, pieces, fieldsOf}
-use Rattle.channel.specs.Layout.{present, firsts, seconds, firstBits, secondAt, secondBits, hasSecond, common, subfields, subfieldsIn, valueAt, value, total, count, userAt, endOf}
+use Rattle.channel.specs.Layout.{present, firsts, seconds, firstBits, secondAt, secondBits, hasSecond, common}
+use Rattle.channel.specs.Layout.{subfields, subfieldsIn, valueAt, value, total, count, userAt, endOf}
 use Rattle.position.specs.Walk.{user, firstLacking, whole}
 
 abbrev channel2 : List ℕ
 channel2 =
-    0xBF ∷ 0xE6 ∷ 0xC3 ∷ 0x74 ∷ 0x58 ∷ 0xA0 ∷ 0x83 ∷ 0x8C ∷ 0x07 ∷ 0x42 ∷ 0xAB ∷ 0x09 ∷ 0xD1 ∷ 0x52 ∷ 0x62 ∷ 0x00 ∷ 0xD2 ∷ 0x52 ∷ 0xA8 ∷ 0xB4 ∷ 0x17 ∷ 0x32 ∷ 0x00 ∷ []
+    0xBF ∷ 0xE6 ∷ 0xC3 ∷ 0x74 ∷ 0x58 ∷ 0xA0 ∷ 0x83 ∷ 0x8C ∷ 0x07 ∷ 0x42 ∷ 0xAB ∷ 0x09 ∷ 0xD1 ∷ 0x52 ∷ 0x62 ∷ 0x00 ∷ 0xD2 ∷ 0x52 ∷ 0xA8 ∷ 0xB4 ∷ 0x17
+    ∷ 0x32 ∷ 0x00 ∷ []
 
 pub walked-values : whole 3 channel2 .values ≡ 97 ∷ 29 ∷ 29 ∷ 50 ∷ 0 ∷ 0 ∷ 0 ∷ 0 ∷ []
 unfolding build filled bit field firsts seconds firstBits secondAt subfields valueAt value whole

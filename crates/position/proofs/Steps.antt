@@ -39,7 +39,8 @@ value-reached bw at k = go (decLt k (firsts bw)) (decLt (firsts bw) k)
     go (no l) (yes m) = rw (lt-ltb n k m, le-ltb k n (omega arith), ne-eqb (at + (17 + 9 * n + 10 + 9 * (k - n))) (at + (17 + 9 * n)) (λ e. omega arith))
     go (no l) (no m) =
         let e : k ≡ n = omega arith in
-        rw (le-ltb n k (omega arith), le-ltb k n (omega arith), eq-eqb (at + (17 + 9 * k)) (at + (17 + 9 * n)) (ap (λ (x : ℕ). at + (17 + 9 * x)) e)) (omega arith)
+        rw (le-ltb n k (omega arith), le-ltb k n (omega arith), eq-eqb (at + (17 + 9 * k)) (at + (17 + 9 * n)) (ap (λ (x : ℕ). at + (17 + 9 * x)) e))
+        (omega arith)
 
 -- and it is read
 pub reached-next : (bw at k : ℕ) → at + valueAt bw k + 9 ≡ at + reached bw (k + 1)

@@ -1,10 +1,9 @@
 -- What the contracts of the reader's public functions leave open: nothing.
-use mathlib.Core.Path.{_≡_, sym, _∙_, ap}
+use mathlib.Core.Path.{_≡_, sym, _∙_}
 use lib.ListN.{length, drop}
 use mathlib.Core.List.{_++_}
 use denote.Ref.{now}
-use Rattle.answer.specs.declared.Answer.{Answer}
-use Rattle.answer.proofs.Order.{after-kept}
+use Rattle.answer.proofs.Order.{after-answered}
 use Rattle.frame.specs.Words.{wordCount, wordsOf}
 use Rattle.reader.specs.Table.{readOutcome}
 use Rattle.reader.specs.Result.{answerOf, wordsAfter}
@@ -28,6 +27,4 @@ read-keeps κs a r s p n =
     let x = now (a .1 .0) in
     let y = now (a .1 .1 .0) in
     let w = now (a .1 .1 .1 .0) in
-    p .1
-    ∙ after-kept (readOutcome bw x y (length w)) (wordCount bw x y) (wordsOf bw x y ++ drop (wordCount bw x y) w) w
-    (λ e. n (ap (λ (z : Answer). z .number) (p .0) ∙ e))
+    p .1 ∙ after-answered (readOutcome bw x y (length w)) (wordCount bw x y) r (wordsOf bw x y ++ drop (wordCount bw x y) w) w (p .0) n

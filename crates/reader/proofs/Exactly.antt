@@ -8,7 +8,7 @@ use lib.ListN.{getD}
 use Rattle.answer.specs.Order.{Applies, Judged}
 use Rattle.answer.specs.declared.Answer.{Answer}
 use Rattle.answer.specs.declared.Outcome.the-variants.{Pass}
-use Rattle.answer.proofs.Order.{Only, only-if, Gives, distinct, absent, zero-pass, number-applies, applies-number, judged}
+use Rattle.answer.proofs.Numbers.{Only, only-if, Gives, distinct, absent, zero-pass, number-applies, applies-number, judged}
 use Rattle.halves.proofs.Exactly.{eleven-then}
 use Rattle.frame.specs.Words.{wordCount}
 use Rattle.reader.specs.Table.{noRoom, check12, readChecks, readOutcome, readNumbers}

@@ -13,16 +13,19 @@ use Rattle.answer.specs.Answer.{refuseIf}
 use Rattle.answer.specs.Least.{least}
 use Rattle.answer.specs.Lists.{build}
 use Rattle.answer.specs.declared.Outcome.the-variants.{Pass}
-use Rattle.answer.proofs.Order.{first-pass, pass-if, or-pass}
+use Rattle.answer.proofs.First.{first-pass}
+use Rattle.answer.proofs.Order.{pass-if, or-pass}
 use Rattle.answer.proofs.Least.{least-cong}
 use Rattle.answer.proofs.Lists.{build-cong}
 use Rattle.bits.specs.Bits.{field}
 use Rattle.resource.specs.Values.{fieldsOf}
 use Rattle.channel.specs.Layout.{overflow, seconds, firstBits, secondAt, secondBits, hasSecond, common, subfieldsIn, value, row, count, userAt, endOf}
-use Rattle.channel.proofs.Laws.{present-1, first-inside, second-inside, common-ge, end-after, total-cong, user-end}
+use Rattle.channel.proofs.Laws.{present-1, first-inside, second-inside, common-ge, total-cong}
+use Rattle.channel.proofs.Blocks.{end-after, user-end}
 use Rattle.faults.specs.Checks.{tooLong, cutCommon, cutUsers}
 use Rattle.faults.proofs.Passing.{pass-tooLong, pass-cutCommon, pass-cutUsers}
-use Rattle.faults.proofs.Padding.{field-in, Alike, AlikeToEnd, alike-of, present-count, value-same, count-same, row-same, wrongCommon-same, notCarried-same, overflowDiffers-same, wrongUsers-same, user-same}
+use Rattle.faults.proofs.Padding.{field-in, Alike, AlikeToEnd, alike-of, present-count, value-same, count-same, row-same}
+use Rattle.faults.proofs.Padding.{wrongCommon-same, notCarried-same, overflowDiffers-same, wrongUsers-same, user-same}
 use Rattle.stations.specs.Stations.{stationOf, stationPlace, repeated, firstRepeated, stationTwice}
 use Rattle.words.specs.Words.{secondWord}
 use Rattle.halves.specs.Table.{check1, check2, check3, check4, check5, check6, check7, check8, check9, check10, check11, checks11, outcome11}

@@ -8,7 +8,8 @@ use Rattle.answer.specs.Order.{firstOf}
 use Rattle.answer.specs.declared.Answer.{Answer}
 use Rattle.answer.specs.declared.Outcome.{Outcome}
 use Rattle.answer.specs.declared.Outcome.the-variants.{Pass, Refuse}
-use Rattle.answer.proofs.Order.{first-append, pass-left, pass-right, pass-if, or-refuse, or-end}
+use Rattle.answer.proofs.First.{first-append}
+use Rattle.answer.proofs.Order.{pass-left, pass-right, pass-if, or-refuse, or-end}
 use Rattle.plan.specs.Engine.{planOutcome}
 use Rattle.channel.specs.Layout.{row}
 use Rattle.halves.specs.Table.{checks11, outcome11}

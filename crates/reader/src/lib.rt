@@ -27,7 +27,8 @@ fn check_users(
     room: usize,
     sealed: bool,
 ) -> Outcome
-    requires { ⌜ (sealed ≡ true → Sealed bw (now a) (now b)) × AtMost512 (now a) (now b) × (n ≤ 72) × (m ≤ 72) × (n ≡ count bw 1 (now a)) × (m ≡ count bw 2 (now b)) ⌝ }
+    requires { ⌜ (sealed ≡ true → Sealed bw (now a) (now b)) × AtMost512 (now a) (now b) × (n ≤ 72) × (m ≤ 72) × (n ≡ count bw 1 (now a))
+        × (m ≡ count bw 2 (now b)) ⌝ }
     ensures { λ r. ⌜ r ≡ (outcome9to11 bw (now (a .entry)) (now (b .entry)) or check12 bw (now (a .entry)) (now (b .entry)) room) ⌝ }
 {
     let seen = halves::then_users(Outcome::Pass, bw, a, b, n, m, sealed);

@@ -96,7 +96,9 @@ marked-more id marks j y e b n f = record { marked = λ x l. go x l (ℕ-discret
         → getD new (x / 64) 0 / 2 ^ (x % 64) % 2 ≡ cond (among id (j + 1) x) 1 0
     other x l d q =
         let z : eqb (id j) x ≡ false = ne-eqb (id j) x (λ w. d (sym w ∙ sym e)) in
-        q ∙ f .marked x l ∙ sym (ap (λ (t : Bool). cond {A = ℕ} t 1 0) (among-next (λ i. eqb (id i) x) j ∙ ap (cond (among id j x) true) z ∙ keeps (among id j x)))
+        q
+        ∙ f .marked x l
+        ∙ sym (ap (λ (t : Bool). cond {A = ℕ} t 1 0) (among-next (λ i. eqb (id i) x) j ∙ ap (cond (among id j x) true) z ∙ keeps (among id j x)))
 
     go : (x : ℕ) → x < 2048 → Dec (x ≡ y) → Dec (x / 64 ≡ y / 64) → getD new (x / 64) 0 / 2 ^ (x % 64) % 2 ≡ cond (among id (j + 1) x) 1 0
     go x l (yes q) _ =
@@ -150,7 +152,8 @@ repeat-in id ids t h f = least-cong (repeated (stationIn ids)) (repeated id) t h
     at k l = let q = f .holds k l in let r = h k in omega arith
 
     here : (k : ℕ) → k < t → repeated (stationIn ids) k ≡ repeated id k
-    here k l = rw (at k l, least-cong (λ i. eqb (getD ids i 0 % 2048) (id k)) (λ i. eqb (id i) (id k)) k (λ i m. ap (λ (y : ℕ). eqb y (id k)) (at i (omega arith))))
+    here k l =
+        rw (at k l, least-cong (λ i. eqb (getD ids i 0 % 2048) (id k)) (λ i. eqb (id i) (id k)) k (λ i m. ap (λ (y : ℕ). eqb y (id k)) (at i (omega arith))))
 
 -- and none does where the gathered answer says so
 pub none-again : (id : ℕ → ℕ) (t : ℕ) → anyRepeated id t ≡ false → least (repeated id) t ≡ t
@@ -172,7 +175,8 @@ entered-more f w v a n x e l h = record {
     at k m (yes q) = rw q (getD-set-same v (a + n) x 0 (omega (arith, h .as-long)) ∙ e)
     at k m (no q) = getD-set-other v (a + n) (a + k) x 0 (λ r. q (omega arith)) ∙ h .entered k (omega arith)
 
-pub both-entered : (bw : ℕ) (a b w v u : List ℕ) (n m : ℕ) → Entered (stationAt bw a) w 0 n v → Entered (stationAt bw b) v n m u → Holds (stationOf bw a b n) u (n + m)
+pub both-entered : (bw : ℕ) (a b w v u : List ℕ) (n m : ℕ) → Entered (stationAt bw a) w 0 n v → Entered (stationAt bw b) v n m u
+    → Holds (stationOf bw a b n) u (n + m)
 both-entered bw a b w v u n m f g = record { holds = λ k l. at k l (decLt k n) }
   where
     at : (k : ℕ) → k < n + m → Dec (k < n) → getD u k 0 ≡ cond (ltb k n) (stationAt bw a k) (stationAt bw b (k - n))

@@ -61,7 +61,8 @@ pub dry : {e t : List ℕ} {at n : ℕ} → Wrote [] at t e n → e ≡ []
 dry {t = t} {at = at} w = w .bytes ∙ dry-sets at t
 
 -- ---- a text written byte by byte
-pub more : {d e f : List ℕ} {at o r : ℕ} (s : List ℕ) (j : ℕ) → j < length s → Wrote d at (take j s) e o → Wrote e o (getD s j 0 ∷ []) f r → Wrote d at (take (j + 1) s) f r
+pub more : {d e f : List ℕ} {at o r : ℕ} (s : List ℕ) (j : ℕ) → j < length s → Wrote d at (take j s) e o → Wrote e o (getD s j 0 ∷ []) f r
+    → Wrote d at (take (j + 1) s) f r
 more s j l p q = rw (add-one, take-suc s j 0) (after p q)
 
 pub whole : {d e : List ℕ} {at r : ℕ} (s : List ℕ) (j : ℕ) → length s ≤ j → Wrote d at (take j s) e r → Wrote d at s e r
@@ -75,7 +76,8 @@ pub digit-one : {d f : List ℕ} {at r : ℕ} (k n : ℕ) → (k ≡ 0 → ⊥) 
 digit-one zero n h l q = absurd (h refl)
 digit-one (suc k) n h l q = rw (lt-ltb n 10 l) q
 
-pub digit-more : {d e f : List ℕ} {at o r : ℕ} (k n : ℕ) → (k ≡ 0 → ⊥) → 10 ≤ n → Wrote d at (decs (k - 1) (n / 10)) e o → Wrote e o ((48 + n % 10) ∷ []) f r → Wrote d at (decs k n) f r
+pub digit-more : {d e f : List ℕ} {at o r : ℕ} (k n : ℕ) → (k ≡ 0 → ⊥) → 10 ≤ n → Wrote d at (decs (k - 1) (n / 10)) e o
+    → Wrote e o ((48 + n % 10) ∷ []) f r → Wrote d at (decs k n) f r
 digit-more zero n h l p q = absurd (h refl)
 digit-more (suc k) n h l p q = rw (le-ltb n 10 l) (after (rw sub-one at p) q)
 
@@ -110,7 +112,10 @@ pub two-digits : (n : ℕ) → 10 ≤ n → n < 100 → 2 ≡ length (decs 20 n)
 two-digits n l h = sym (decs-next 19 n l ∙ ap (λ (x : ℕ). x + 1) (decs-one 18 (n / 10) (omega arith)))
 
 pub three-digits : (n : ℕ) → 100 ≤ n → n < 1000 → 3 ≡ length (decs 20 n)
-three-digits n l h = sym (decs-next 19 n (omega arith) ∙ ap (λ (x : ℕ). x + 1) (decs-next 18 (n / 10) (omega arith) ∙ ap (λ (x : ℕ). x + 1) (decs-one 17 (n / 10 / 10) (omega arith))))
+three-digits n l h =
+    sym
+    (decs-next 19 n (omega arith)
+    ∙ ap (λ (x : ℕ). x + 1) (decs-next 18 (n / 10) (omega arith) ∙ ap (λ (x : ℕ). x + 1) (decs-one 17 (n / 10 / 10) (omega arith))))
 
 pub four-digits : (n : ℕ) → 1000 ≤ n → n < 10000 → 4 ≡ length (decs 20 n)
 four-digits n l h =
@@ -132,10 +137,13 @@ decs-fit (suc f) (suc k) n l =
 -- so that more may be asked for
 decs-same : (k n : ℕ) → n < 10 ^ suc k → decs (suc k) n ≡ decs (suc (suc k)) n
 decs-same zero n l = rw (lt-ltb n 10 (omega arith))
-decs-same (suc k) n l = ap (λ (t : List ℕ). cond (ltb n 10) [] t ++ ((48 + n % 10) ∷ [])) (decs-same k (n / 10) (div-lt-iff-lt-mul {k = 10} (omega arith) .1 (rw (pow-suc 10 (suc k)) at l)))
+decs-same (suc k) n l =
+    ap (λ (t : List ℕ). cond (ltb n 10) [] t ++ ((48 + n % 10) ∷ []))
+    (decs-same k (n / 10) (div-lt-iff-lt-mul {k = 10} (omega arith) .1 (rw (pow-suc 10 (suc k)) at l)))
 
 -- a digit more
-pub dec-more : {d e f : List ℕ} {at o r : ℕ} (n : ℕ) → 10 ≤ n → n < 10 ^ 20 → Wrote d at (dec (n / 10)) e o → Wrote e o ((48 + n % 10) ∷ []) f r → Wrote d at (dec n) f r
+pub dec-more : {d e f : List ℕ} {at o r : ℕ} (n : ℕ) → 10 ≤ n → n < 10 ^ 20 → Wrote d at (dec (n / 10)) e o → Wrote e o ((48 + n % 10) ∷ []) f r
+    → Wrote d at (dec n) f r
 unfolding dec
 dec-more n l h p q =
     digit-more 20 n (λ (e : 20 ≡ 0). omega arith) l (rw (sym (decs-same 18 (n / 10) (div-lt-iff-lt-mul {k = 10} (omega arith) .1 h))) at p) q

@@ -9,7 +9,8 @@ use lib.Dec.{ltb, eqb}
 use borrow.Author.Tests.{lt-ltb, ne-eqb}
 use Rattle.words.specs.Pack.{pack, unpack, Fit}
 use Rattle.answer.specs.Lists.{at}
-use Rattle.words.specs.Words.{header, overflowWidths, data0Widths, sizeOf, giOf, data0Of, overflowWord, slot, firstWord, tripleWord, aloneWidths, aloneWordWidths, aloneOf, sharedWidths, sharedWordWidths, sharedOf, userWord}
+use Rattle.words.specs.Words.{header, overflowWidths, data0Widths, sizeOf, giOf, data0Of, overflowWord, slot, firstWord, tripleWord}
+use Rattle.words.specs.Words.{aloneWidths, aloneWordWidths, aloneOf, sharedWidths, sharedWordWidths, sharedOf, userWord}
 use Rattle.words.specs.Engine.{giLtf, overflowIn, overflowOf, valueOf, knownOf, aloneIn, sharedIn, fieldIn, userField}
 use Rattle.words.proofs.Pack.{unpack-pack, pack-unpack, unpack-fit, pack-lt}
 
@@ -142,7 +143,9 @@ triple-slot row n q j l = go j l
   where
     u : unpack (10 ∷ 10 ∷ 10 ∷ []) (pack (10 ∷ 10 ∷ 10 ∷ []) (slot row n q ∷ slot row n (q + 1) ∷ slot row n (q + 2) ∷ []))
         ≡ (slot row n q ∷ slot row n (q + 1) ∷ slot row n (q + 2) ∷ [])
-    u = unpack-pack (10 ∷ 10 ∷ 10 ∷ []) (slot row n q ∷ slot row n (q + 1) ∷ slot row n (q + 2) ∷ []) (slot-lt row n q, (slot-lt row n (q + 1), (slot-lt row n (q + 2), tt)))
+    u =
+        unpack-pack (10 ∷ 10 ∷ 10 ∷ []) (slot row n q ∷ slot row n (q + 1) ∷ slot row n (q + 2) ∷ [])
+        (slot-lt row n q, (slot-lt row n (q + 1), (slot-lt row n (q + 2), tt)))
 
     w : ℕ
     w = pack (10 ∷ 10 ∷ 10 ∷ []) (slot row n q ∷ slot row n (q + 1) ∷ slot row n (q + 2) ∷ [])

@@ -1,10 +1,8 @@
 -- What the contract of `write` leaves open: nothing.
-use mathlib.Core.Path.{_≡_, sym, _∙_, ap}
+use mathlib.Core.Path.{_≡_, sym, _∙_}
 use lib.ListN.{length}
 use denote.Ref.{now}
-use Rattle.answer.specs.Answer.{answerAt}
-use Rattle.answer.specs.declared.Answer.{Answer}
-use Rattle.answer.proofs.Order.{after-kept}
+use Rattle.answer.proofs.Order.{after-answered}
 use Rattle.candidate.specs.Engine.{needed, candidate}
 use Rattle.writer.specs.Result.{writeOutcome, front, answerOf, channelAfter}
 use Rattle.writer.proofs.write.Reads as write
@@ -23,8 +21,7 @@ write-keeps κs a r s p n =
     let w = now (a .1 .0) in
     let x = now (a .1 .1 .0) in
     let y = now (a .1 .1 .1 .0) in
-    let o = writeOutcome bw w (length x) (length y) in
-    let z : answerAt o (needed bw w) .number ≡ 0 → ⊥ = λ e. n (ap (λ (z : Answer). z .number) (p .0) ∙ e) in (
-      p .1 .0 ∙ after-kept o (needed bw w) (front (candidate bw w 1) x) x z,
-      p .1 .1 ∙ after-kept o (needed bw w) (front (candidate bw w 2) y) y z,
+    let o = writeOutcome bw w (length x) (length y) in (
+      p .1 .0 ∙ after-answered o (needed bw w) r (front (candidate bw w 1) x) x (p .0) n,
+      p .1 .1 ∙ after-answered o (needed bw w) r (front (candidate bw w 2) y) y (p .0) n,
     )

@@ -13,7 +13,8 @@ use borrow.Author.Tests.{ltb-false, eqb-true, eq-eqb, not-false}
 use Rattle.answer.specs.Answer.{passes}
 use Rattle.answer.specs.Least.{least}
 use Rattle.answer.specs.declared.Outcome.the-variants.{Pass}
-use Rattle.answer.proofs.Order.{first-pass, pass-first, pass-left, pass-right, pass-if, passes-true}
+use Rattle.answer.proofs.First.{first-pass, pass-first}
+use Rattle.answer.proofs.Order.{pass-left, pass-right, pass-if, passes-true}
 use Rattle.answer.proofs.Least.{least-none, least-all}
 use Rattle.bits.specs.Bits.{bit, field, Same}
 use Rattle.bits.proofs.Fields.{field-lt}
@@ -33,9 +34,10 @@ use Rattle.reader.proofs.Padding.{readable-same, words-same}
 use Rattle.candidate.specs.Engine.{overflowIn, valueIn, countIn, firstIn, fieldIn, needed, candidate}
 use Rattle.candidate.specs.Length.{bytesFor}
 use Rattle.candidate.proofs.Contents.{determined}
-use Rattle.candidate.proofs.Held.{needed-1, needed-2, needed-le, present-length, absent-length, Holds, ContentsSaid, all-subfields, candidate-carries, candidate-zero, holds-1, holds-2}
-use Rattle.writer.specs.Worked.{ReadsTo}
+use Rattle.candidate.proofs.Held.{needed-1, needed-2, needed-le, present-length, absent-length, Holds, ContentsSaid}
+use Rattle.candidate.proofs.Held.{all-subfields, candidate-carries, candidate-zero, holds-1, holds-2}
 use Rattle.writer.specs.Engine.{unlike, sameWords, readsTo}
+use Rattle.writer.specs.Worked.{ReadsTo}
 
 -- ---- channels that the words speak of
 
@@ -43,7 +45,6 @@ use Rattle.writer.specs.Engine.{unlike, sameWords, readsTo}
 pub record Said (bw : ℕ) (w : List ℕ) (c : ℕ) (s : List ℕ) : Type 0 where
   pub said-overflow : overflow s ≡ overflowIn w
   pub said-value : (k : ℕ) → k < subfieldsIn bw c → value bw s k ≡ valueIn w c k
-  pub said-count : count bw c s ≡ countIn bw w c
   pub said-field : (i : ℕ) → i < countIn bw w c → field s (userAt bw i) 22 ≡ fieldIn bw w c i
   pub said-common : CommonRight bw s
   pub said-block : (b : ℕ) → b < blocks (countIn bw w c) → Right s (blockAt bw b) (covered (countIn bw w c) b)
@@ -112,7 +113,6 @@ module _ (bw : ℕ) (a b : List ℕ) (e : outcome11 bw a b ≡ Pass) where
       record {
         said-overflow = sym (overflow-back bw a b);
         said-value = value-in-1;
-        said-count = count-in-1;
         said-field = λ i l. sym (user-back-1 bw a b i (omega (arith, count-in-1)));
         said-common = wrongCommon-pass bw 1 a (pass-left (wrongCommon bw 1 a) (wrongCommon bw 2 b) (each 3)) (present-1 bw);
         said-block = subst (λ (n : ℕ). (i : ℕ) → i < blocks n → Right a (blockAt bw i) (covered n i)) count-in-1
@@ -125,7 +125,6 @@ module _ (bw : ℕ) (a b : List ℕ) (e : outcome11 bw a b ≡ Pass) where
       record {
         said-overflow = sym (overflowDiffers-pass bw a b (each 4) .overflow-same p) ∙ sym (overflow-back bw a b);
         said-value = value-in-2;
-        said-count = count-in-2;
         said-field = λ i l.
             sym (user-back-2 bw a b i (omega (arith, count-in-2)))
             ∙ ap (λ (n : ℕ). userField (at w (10 + n + i))) count-in-1;

@@ -11,7 +11,8 @@ use Rattle.answer.specs.Order.{Applies, firstOf, Judged}
 use Rattle.answer.specs.declared.Answer.{Answer}
 use Rattle.answer.specs.declared.Outcome.{Outcome}
 use Rattle.answer.specs.declared.Outcome.the-variants.{Pass}
-use Rattle.answer.proofs.Order.{Only, only-if, only-or, Gives, none, more, distinct, absent, first-chain, zero-pass, number-applies, applies-number, judged}
+use Rattle.answer.proofs.Numbers.{Only, only-if, only-or, Gives, distinct, absent, zero-pass, number-applies, applies-number, judged, none, more}
+use Rattle.answer.proofs.First.{first-chain}
 use Rattle.channel.specs.Layout.{present}
 use Rattle.halves.specs.Table.{check1}
 use Rattle.candidate.specs.Engine.{needed, candidate}

@@ -6,3 +6,5 @@ pub mod Candidate
 pub mod Worked
 pub mod Steps
 pub mod Sealed
+pub mod Reading
+pub mod Writing

@@ -48,7 +48,8 @@ pub reads-no : (bw : ℕ) (a b w : List ℕ) (o : Outcome) (x : Answer) → o �
 unfolding readsTo
 reads-no bw a b w o x e f = let g : outcome11 bw a b ≡ Refuse x = sym e ∙ f in rw g
 
-pub reads-yes : (bw : ℕ) (a b w v : List ℕ) (o : Outcome) (r : Bool) → o ≡ outcome11 bw a b → o ≡ Pass → v ≡ wordsOf bw a b → r ≡ sameWords v w → r ≡ readsTo bw a b w
+pub reads-yes : (bw : ℕ) (a b w v : List ℕ) (o : Outcome) (r : Bool) → o ≡ outcome11 bw a b → o ≡ Pass → v ≡ wordsOf bw a b → r ≡ sameWords v w
+    → r ≡ readsTo bw a b w
 unfolding readsTo
 reads-yes bw a b w v o r e f g h = let p : outcome11 bw a b ≡ Pass = sym e ∙ f in rw p (rw g at h)
 
@@ -75,7 +76,8 @@ pub writing-room : (bw : ℕ) (w : List ℕ) (n m : ℕ) → writeOutcome bw w n
 unfolding writeOutcome check14 noChannelRoom
 writing-room bw w n m e =
     let f = pass-right (check1 bw or check13 bw w) _ e in
-    let l : needed bw w ≤ n = ltb-false n (needed bw w) (pass-if _ _ (pass-left _ (refuseIf (present bw 2 && ltb m (needed bw w)) (A.no 14 2 (needed bw w))) f)) in
+    let l : needed bw w ≤ n =
+    ltb-false n (needed bw w) (pass-if _ _ (pass-left _ (refuseIf (present bw 2 && ltb m (needed bw w)) (A.no 14 2 (needed bw w))) f)) in
     let g = pass-if _ _ (pass-right (refuseIf (ltb n (needed bw w)) (A.no 14 1 (needed bw w))) _ f) in
     record {
       room-1 = rw (present-length bw w 1 (present-1 bw)) l;

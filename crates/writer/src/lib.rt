@@ -150,8 +150,10 @@ fn write_in(
 // refusal writes nothing.
 pub fn write(bandwidth: u32, words: &[u32], cc1: &mut [u8], cc2: &mut [u8]) -> Answer
     ensures { λ r. ⌜ r ≡ answerOf bandwidth (now (words .entry)) (length (now (cc1 .entry))) (length (now (cc2 .entry))) ⌝ }
-    ensures { λ _. ⌜ now (cc1 .exit) ≡ channelAfter bandwidth (now (words .entry)) (length (now (cc1 .entry))) (length (now (cc2 .entry))) 1 (now (cc1 .entry)) ⌝ }
-    ensures { λ _. ⌜ now (cc2 .exit) ≡ channelAfter bandwidth (now (words .entry)) (length (now (cc1 .entry))) (length (now (cc2 .entry))) 2 (now (cc2 .entry)) ⌝ }
+    ensures { λ _. ⌜ now (cc1 .exit)
+        ≡ channelAfter bandwidth (now (words .entry)) (length (now (cc1 .entry))) (length (now (cc2 .entry))) 1 (now (cc1 .entry)) ⌝ }
+    ensures { λ _. ⌜ now (cc2 .exit)
+        ≡ channelAfter bandwidth (now (words .entry)) (length (now (cc1 .entry))) (length (now (cc2 .entry))) 2 (now (cc2 .entry)) ⌝ }
 {
     let n = candidate::count_in(bandwidth, words, 1);
     let m = candidate::count_in(bandwidth, words, 2);

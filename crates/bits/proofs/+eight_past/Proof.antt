@@ -1,5 +1,5 @@
 -- `bits::eight_past` meets its contract.
-use Prim.Native.Nat.{_+_, _-_, _*_, _/_, _^_}
+use Prim.Native.Nat.{_+_, _-_, _*_, _/_, _^_, ℕ, _<_}
 use mathlib.Core.Path.{_≡_, sym, _∙_, ap}
 use native.Mathlib.Omega.{arith}
 use lib.ListN.{length}
@@ -7,7 +7,6 @@ use denote.Ref.{now}
 use borrow.Author.Needs.{needs}
 use Rattle.bits.specs.Bits.{field}
 use Rattle.bits.proofs.Windows.{field-past, field-end, field-few, field-first}
-use Prim.Native.Nat.{ℕ, _<_}
 use borrow.Fn.Kinds.{In}
 use borrow.Fn.PlainCycle.{Measures, is, falls, and}
 use Rattle.bits.proofs.eight_past.Reads as eight-past

@@ -5,7 +5,7 @@ use native.Mathlib.Nat.{mod-lt, add-mul}
 use native.Mathlib.Omega.{arith}
 use lib.Pow.{pow-pos, shl-exact, split}
 use Rattle.bits.proofs.Fields.{shl-one}
-use Rattle.bits.proofs.Writes.{merge-lt, merge-change}
+use Rattle.bits.proofs.Stores.{merge-lt, merge-change}
 use borrow.Author.Needs.{needs}
 use Rattle.bits.proofs.merged.Statement.{statement}
 use Rattle.bits.proofs.merged.Tie as tie

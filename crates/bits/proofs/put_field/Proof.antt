@@ -8,7 +8,7 @@ use lib.ListN.{length}
 use borrow.Author.Tests.{leb-true, ltb-true}
 use Rattle.bits.specs.Bits.{put}
 use Rattle.bits.specs.Engine.{merge}
-use Rattle.bits.proofs.Writes.{put-merged}
+use Rattle.bits.proofs.Stores.{put-merged}
 use borrow.Author.Needs.{needs}
 use Rattle.bits.proofs.put_field.Statement.{statement}
 use Rattle.bits.proofs.put_field.Tie as tie
@@ -37,8 +37,9 @@ merged-requires c κs =
 
 put-window-requires : tie.Need-put-window-requires
 put-window-requires c κs =
+    let slice-known = c .before .before .before .before .before .slice-known in
     let a = c .before .before .before .before .before .before .args in
-    (fits-window (a .n) (a .at / 8) (length (a .d .now)) (c .before .before .before .before .if1 .taken) .1, record { small = λ j. c .before .before .before .before .before .slice-known .given j .fits })
+    (fits-window (a .n) (a .at / 8) (length (a .d .now)) (c .before .before .before .before .if1 .taken) .1, record { small = λ j. slice-known .given j .fits })
 
 same-length : tie.Need-same-length
 same-length c = search needs

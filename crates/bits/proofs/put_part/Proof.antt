@@ -3,7 +3,8 @@ use Prim.Native.Nat.{ℕ, _/_, _%_}
 use mathlib.Core.Path.{ap, _∙_}
 use native.Mathlib.Omega.{arith}
 use lib.ListN.{getD, set}
-use Rattle.bits.proofs.Writes.{merge-lt, put-byte, put-past}
+use Rattle.bits.proofs.Stores.{merge-lt, put-byte}
+use Rattle.bits.proofs.Writes.{put-past}
 use borrow.Author.Needs.{needs}
 use Rattle.bits.proofs.put_part.Statement.{statement}
 use Rattle.bits.proofs.put_part.Tie as tie
@@ -23,7 +24,11 @@ cast-d : tie.Need-cast-d
 cast-d c =
     let k = c .before .before .before in
     let a = k .before .args in
-    record { fits = rw (c .merged .ensures) (merge-lt (getD (a .d .now) (a .i / 8) 0) (a .i % 8) (a .m) (a .w) 8 (k .slice-known .given (a .i / 8) .fits) (omega arith)) }
+    record {
+      fits =
+          rw (c .merged .ensures)
+          (merge-lt (getD (a .d .now) (a .i / 8) 0) (a .i % 8) (a .m) (a .w) 8 (k .slice-known .given (a .i / 8) .fits) (omega arith));
+    }
 
 slice-write-d : tie.Need-slice-write-d
 slice-write-d c = search needs

@@ -2,7 +2,7 @@
 use Prim.Native.Nat.{_+_, _/_, _%_}
 use native.Mathlib.Omega.{arith}
 use lib.ListN.{set, length-set}
-use Rattle.bits.proofs.Writes.{set-four}
+use Rattle.bits.proofs.Stores.{set-four}
 use borrow.Author.Needs.{needs}
 use Rattle.bits.proofs.put_window.Statement.{statement}
 use Rattle.bits.proofs.put_window.Tie as tie
@@ -29,7 +29,12 @@ add-d-2 : tie.Need-add-d-2
 add-d-2 c = search needs
 
 slice-write-d-3 : tie.Need-slice-write-d-3
-slice-write-d-3 c = omega (arith, length-set (c .args .d .now) (c .args .i) (c .args .w % 256), length-set (set (c .args .d .now) (c .args .i) (c .args .w % 256)) (c .args .i + 1) (c .args .w / 256 % 256))
+slice-write-d-3 c =
+    omega (
+      arith,
+      length-set (c .args .d .now) (c .args .i) (c .args .w % 256),
+      length-set (set (c .args .d .now) (c .args .i) (c .args .w % 256)) (c .args .i + 1) (c .args .w / 256 % 256),
+    )
 
 cast-d-4 : tie.Need-cast-d-4
 cast-d-4 c = search needs

@@ -19,7 +19,9 @@ returns : tie.Need-returns
 unfolding writeAnswer writeChannel
 returns c =
     let s = c .before .before .before .before .before .before .before .args in
-    let f = early-refuses (s .bandwidth) (s .words .now) (length (s .cc1 .now)) (length (s .cc2 .now)) _ (sym (c .before .before .before .refused-early .ensures) ∙ c .before .early .given .1) in
+    let f =
+    early-refuses (s .bandwidth) (s .words .now) (length (s .cc1 .now)) (length (s .cc2 .now)) _
+    (sym (c .before .before .before .refused-early .ensures) ∙ c .before .early .given .1) in
     (rw f, (rw f, rw f))
 
 enum-told : tie.Need-enum-told
@@ -30,8 +32,12 @@ slice-aggregate-write-through c = search needs
 
 write-through-requires : tie.Need-write-through-requires
 write-through-requires c κs =
-    let s = c .before .before .before .before .before .before .before .before .before .args in
-    (few-words (s .bandwidth) (length (s .words .now)) (length (s .words .now) / 4) (sym (c .before .before .before .before .before .refused-early .ensures) ∙ c .before .before .before .enum-told .given .1), refl)
+    let refused-early = c .before .before .before .before .before .refused-early in
+    let s = c .before .before .before .before .before .before .before .before .before .args in (
+      few-words (s .bandwidth) (length (s .words .now)) (length (s .words .now) / 4)
+          (sym (refused-early .ensures) ∙ c .before .before .before .enum-told .given .1),
+      refl,
+    )
 
 same-length : tie.Need-same-length
 same-length c = search needs
@@ -42,9 +48,12 @@ same-length-2 c = search needs
 returns-2 : tie.Need-returns-2
 unfolding writeAnswer writeChannel answerOf channelAfter
 returns-2 c =
+    let refused-early = c .before .before .before .before .before .before .before .before .before .before .before .refused-early in
+    let enum-told = c .before .before .before .before .before .before .before .before .before .enum-told in
+    let write-through = c .before .before .before .before .before .write-through in
     let s = c .before .before .before .before .before .before .before .before .before .before .before .before .before .before .before .args in
-    let f = early-passes (s .bandwidth) (s .words .now) (length (s .cc1 .now)) (length (s .cc2 .now)) (sym (c .before .before .before .before .before .before .before .before .before .before .before .refused-early .ensures) ∙ c .before .before .before .before .before .before .before .before .before .enum-told .given .1) in
-    rw f (c .before .before .before .before .before .write-through .ensures)
+    let f = early-passes (s .bandwidth) (s .words .now) (length (s .cc1 .now)) (length (s .cc2 .now)) (sym (refused-early .ensures) ∙ enum-told .given .1) in
+    rw f (write-through .ensures)
 
 pub brachymel-write-spec : {M : Type 1} → statement M
 brachymel-write-spec =

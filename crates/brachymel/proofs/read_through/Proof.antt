@@ -1,5 +1,5 @@
 -- `brachymel::read_through` meets its contract.
-use Rattle.brachymel.proofs.Through.{answer-is, kept-bytes, place-is, room-for, holds-words, bytes-are}
+use Rattle.brachymel.proofs.Through.{HasRead, answer-is, kept-bytes, place-is, room-for, holds-words, bytes-are}
 use lib.Seq.{length-take-le}
 use lib.ListN.{take, drop}
 use native.Mathlib.Omega.{arith}
@@ -20,22 +20,35 @@ slice-aggregate-read c = sym (length-take-le _ _ (omega arith))
 read-requires : tie.Need-read-requires
 read-requires c κs = search needs
 
+-- what `read` has read into the words that have room
+has-read : (c : tie.After-read)
+    → let s = c .before .before .before .before .before .before .before .args in
+    HasRead (s .bandwidth) (s .cc1 .now) (s .cc2 .now) (s .words .now) (take (c .before .before .room-of .result) (s .local .now)) (c .read .last .1 .1 .1 .0)
+    (c .read .result)
+has-read c = record {
+  room = length-take-le _ _ (omega arith) ∙ c .before .before .room-of .ensures .1;
+  answers = c .read .ensures .0;
+  leaves = c .read .ensures .1;
+}
+
 same-length : tie.Need-same-length
 same-length c = search needs
 
 returns : tie.Need-returns
 returns c =
-    let s = c .before .before .before .before .before .before .before .before .before .before .before .args in
-    (answer-is (s .bandwidth) (s .cc1 .now) (s .cc2 .now) (s .words .now) (take (c .before .before .before .before .before .before .room-of .result) (s .local .now)) _ _ (length-take-le _ _ (omega arith) ∙ c .before .before .before .before .before .before .room-of .ensures .1) (c .before .before .before .before .read .ensures .0) (c .before .before .before .before .read .ensures .1), kept-bytes (s .bandwidth) (s .cc1 .now) (s .cc2 .now) (s .words .now) (take (c .before .before .before .before .before .before .room-of .result) (s .local .now)) _ _ (length-take-le _ _ (omega arith) ∙ c .before .before .before .before .before .before .room-of .ensures .1) (c .before .before .before .before .read .ensures .0) (c .before .before .before .before .read .ensures .1) (c .if1 .taken))
+    let h = has-read (c .before .before .before .before) in
+    (answer-is h, kept-bytes h (c .if1 .taken))
 
 put-bytes-requires : tie.Need-put-bytes-requires
 put-bytes-requires c κs =
+    let room-of = c .before .before .before .before .before .before .before .before .room-of in
     let s = c .before .before .before .before .before .before .before .before .before .before .before .before .before .args in
     let z = c .before .before .if1 .left in
-    let e = place-is (s .bandwidth) (s .cc1 .now) (s .cc2 .now) (s .words .now) (take (c .before .before .before .before .before .before .before .before .room-of .result) (s .local .now)) _ _ (length-take-le _ _ (omega arith) ∙ c .before .before .before .before .before .before .before .before .room-of .ensures .1) (c .before .before .before .before .before .before .read .ensures .0) (c .before .before .before .before .before .before .read .ensures .1) z in
-    let r = room-for (s .bandwidth) (s .cc1 .now) (s .cc2 .now) (s .words .now) (take (c .before .before .before .before .before .before .before .before .room-of .result) (s .local .now)) _ _ (length-take-le _ _ (omega arith) ∙ c .before .before .before .before .before .before .before .before .room-of .ensures .1) (c .before .before .before .before .before .before .read .ensures .0) (c .before .before .before .before .before .before .read .ensures .1) z in
-    let n = length-take-le (c .before .before .before .before .before .before .before .before .room-of .result) (s .local .now) (omega arith) in
-    (rw e (holds-words (s .bandwidth) (s .cc1 .now) (s .cc2 .now) (s .words .now) (take (c .before .before .before .before .before .before .before .before .room-of .result) (s .local .now)) _ _ (length-take-le _ _ (omega arith) ∙ c .before .before .before .before .before .before .before .before .room-of .ensures .1) (c .before .before .before .before .before .before .read .ensures .0) (c .before .before .before .before .before .before .read .ensures .1) z (drop (c .before .before .before .before .before .before .before .before .room-of .result) (s .local .now))), omega arith, omega arith)
+    let h = has-read (c .before .before .before .before .before .before) in
+    let e = place-is h z in
+    let r = room-for h z in
+    let n = length-take-le (room-of .result) (s .local .now) (omega arith) in
+    (rw e (holds-words h z (drop (room-of .result) (s .local .now))), omega arith, omega arith)
 
 same-length-2 : tie.Need-same-length-2
 same-length-2 c = search needs
@@ -45,8 +58,13 @@ same-length-3 c = search needs
 
 returns-2 : tie.Need-returns-2
 returns-2 c =
+    let room-of = c .before .before .before .before .before .before .before .before .before .before .before .room-of in
     let s = c .before .before .before .before .before .before .before .before .before .before .before .before .before .before .before .before .args in
-    (answer-is (s .bandwidth) (s .cc1 .now) (s .cc2 .now) (s .words .now) (take (c .before .before .before .before .before .before .before .before .before .before .before .room-of .result) (s .local .now)) _ _ (length-take-le _ _ (omega arith) ∙ c .before .before .before .before .before .before .before .before .before .before .before .room-of .ensures .1) (c .before .before .before .before .before .before .before .before .before .read .ensures .0) (c .before .before .before .before .before .before .before .before .before .read .ensures .1), bytes-are (s .bandwidth) (s .cc1 .now) (s .cc2 .now) (s .words .now) (take (c .before .before .before .before .before .before .before .before .before .before .before .room-of .result) (s .local .now)) _ _ (length-take-le _ _ (omega arith) ∙ c .before .before .before .before .before .before .before .before .before .before .before .room-of .ensures .1) (c .before .before .before .before .before .before .before .before .before .read .ensures .0) (c .before .before .before .before .before .before .before .before .before .read .ensures .1) (c .before .before .before .before .before .if1 .left) (drop (c .before .before .before .before .before .before .before .before .before .before .before .room-of .result) (s .local .now)) _ (c .before .before .put-bytes .ensures))
+    let h = has-read (c .before .before .before .before .before .before .before .before .before) in (
+      answer-is h,
+      bytes-are h (c .before .before .before .before .before .if1 .left) (drop (room-of .result) (s .local .now)) _
+          (c .before .before .put-bytes .ensures),
+    )
 
 pub read-through-spec : {M : Type 1} → statement M
 read-through-spec =

@@ -22,7 +22,14 @@ or-else-requires-2 c κs = search needs
 
 returns : tie.Need-returns
 unfolding early
-returns c = c .or-else2 .ensures ∙ rw (c .before .or-else .ensures, c .before .before .refuse-if3 .ensures, c .before .before .before .refuse-if2 .ensures, c .before .before .before .before .refuse-if .ensures) refl
+returns c =
+    c .or-else2 .ensures
+    ∙ rw (
+      c .before .or-else .ensures,
+      c .before .before .refuse-if3 .ensures,
+      c .before .before .before .refuse-if2 .ensures,
+      c .before .before .before .before .refuse-if .ensures,
+    ) refl
 
 pub refused-early-spec : {M : Type 1} → statement M
 refused-early-spec =

@@ -36,8 +36,11 @@ same-length-3 c = search needs
 
 returns : tie.Need-returns
 returns c =
+    let pre = c .before .before .before .before .before .before .before .before .before .before .before .before .before .before .before .before .pre in
+    let get-words = c .before .before .before .before .before .before .before .before .before .before .get-words in
     let s = c .before .before .before .before .before .before .before .before .before .before .before .before .before .before .before .before .args in
-    let e = ap (take (s .n)) (c .before .before .before .before .before .before .before .before .before .before .get-words .ensures) ∙ take-filled (wordAt (s .words .now)) (s .n) (s .local .now) ∙ ap (build (wordAt (s .words .now))) (c .before .before .before .before .before .before .before .before .before .before .before .before .before .before .before .before .pre .1) in
+    let e =
+    ap (take (s .n)) (get-words .ensures) ∙ take-filled (wordAt (s .words .now)) (s .n) (s .local .now) ∙ ap (build (wordAt (s .words .now))) (pre .1) in
     rw e at (c .before .before .before .before .write .ensures)
 
 pub write-through-spec : {M : Type 1} → statement M

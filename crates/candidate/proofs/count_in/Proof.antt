@@ -53,7 +53,8 @@ loop-again c =
     let a = c .before .before .before .before .before .before .args in
     let l = c .before .before .before .loop in
     let f : ℕ → ℕ = λ i. fieldsOf (valueIn (a .words .now) (a .channel) i) in
-    let e : c .fields-of .result ≡ fieldsOf (valueIn (a .words .now) (a .channel) (l .k)) = c .fields-of .ensures ∙ ap fieldsOf (c .before .value-in .ensures) in
+    let e : c .fields-of .result ≡ fieldsOf (valueIn (a .words .now) (a .channel) (l .k)) =
+    c .fields-of .ensures ∙ ap fieldsOf (c .before .value-in .ensures) in
     (omega arith, (cc (total-next f (l .k))), omega (arith, most c))
 
 returns : tie.Need-returns Inv-loop μ-loop

@@ -38,16 +38,27 @@ same-length c = search needs
 
 returns : tie.Need-returns
 returns c =
-    let a = c .before .before .before .before .before .before .before .before .before .before .before .before .before .before .before .before .before .before .before .before .before .before .before .before .before .before .before .before .before .args in
+    let mid = c .before .before .before .before .before .before .before .before .before .before in
+    let early = mid .before .before .before .before .before .before .before .before .before .before in
+    let pre = early .before .before .before .before .before .before .before .before .before .pre in
+    let word-at = early .before .before .before .before .before .word-at in
+    let overflow-of = early .before .before .before .before .overflow-of in
+    let put-field = early .before .before .before .put-field in
+    let put-values = mid .before .before .before .before .before .before .before .before .before .put-values in
+    let put-users = mid .before .before .before .before .before .put-users in
+    let first-bits = mid .before .first-bits in
+    let put-check = mid .put-check in
+    let put-second-check = c .before .before .before .before .before .before .put-second-check in
+    let a = early .before .before .before .before .before .before .before .before .before .args in
     channel-steps (a .bw) (a .words .now) (a .channel) (a .d .now) (a .first) (a .n) _ _ _ _ _ _ _ _
-    (c .before .before .before .before .before .before .before .before .before .before .before .before .before .before .before .before .before .before .before .before .before .before .before .before .before .before .before .before .before .pre .4) (c .before .before .before .before .before .before .before .before .before .before .before .before .before .before .before .before .before .before .before .before .before .before .before .before .before .before .before .before .before .pre .5)
-    (c .before .before .before .before .before .before .before .before .before .before .before .before .before .before .before .before .before .before .before .before .before .before .before .before .overflow-of .ensures ∙ ap overflowOf (c .before .before .before .before .before .before .before .before .before .before .before .before .before .before .before .before .before .before .before .before .before .before .before .before .before .word-at .ensures))
-    (c .before .before .before .before .before .before .before .before .before .before .before .first-bits .ensures .0)
-    (c .before .before .before .before .before .before .before .before .before .before .before .before .before .before .before .before .before .before .before .before .before .before .before .put-field .ensures)
-    (c .before .before .before .before .before .before .before .before .before .before .before .before .before .before .before .before .before .before .before .put-values .ensures)
-    (c .before .before .before .before .before .before .before .before .before .before .before .before .before .before .before .put-users .ensures)
-    (c .before .before .before .before .before .before .before .before .before .before .put-check .ensures)
-    (c .before .before .before .before .before .before .put-second-check .ensures)
+    (pre .4) (pre .5)
+    (overflow-of .ensures ∙ ap overflowOf (word-at .ensures))
+    (first-bits .ensures .0)
+    (put-field .ensures)
+    (put-values .ensures)
+    (put-users .ensures)
+    (put-check .ensures)
+    (put-second-check .ensures)
     (c .before .before .put-block-checks .ensures)
 
 pub fill-bytes-spec : {M : Type 1} → statement M

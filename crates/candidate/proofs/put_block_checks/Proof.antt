@@ -1,5 +1,5 @@
 -- `candidate::put_block_checks` meets its contract.
-use Rattle.candidate.proofs.Built.{blocks-length}
+use Rattle.candidate.proofs.Seals.{blocks-length}
 use Rattle.candidate.proofs.Steps.{blocks-none, blocks-next}
 use Rattle.candidate.specs.Engine.{sealBlocks}
 use Rattle.channel.specs.Layout.{blocks}
@@ -45,7 +45,12 @@ loop-again c =
     let p = c .before .before .put-check in
     let e : p .last .0 ≡ sealBlocks (a .bw) (a .n) (l .b + 1) (a .d .now) =
     p .ensures
-    ∙ cc (c .before .before .before .covered-bits .ensures .0, c .before .before .before .before .block-bit .ensures .0, l .inv .1, blocks-next (a .bw) (a .n) (a .d .now) (l .b)) in
+    ∙ cc (
+      c .before .before .before .covered-bits .ensures .0,
+      c .before .before .before .before .block-bit .ensures .0,
+      l .inv .1,
+      blocks-next (a .bw) (a .n) (a .d .now) (l .b),
+    ) in
     (search needs, e, ap length e ∙ blocks-length (a .bw) (a .n) (a .d .now) (l .b + 1))
 
 same-length : tie.Need-same-length Inv-loop μ-loop

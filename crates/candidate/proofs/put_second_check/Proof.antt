@@ -23,9 +23,11 @@ same-length c = search needs
 returns : tie.Need-returns
 unfolding sealSecond
 returns c =
+    let has-second = c .before .before .before .before .before .before .before .has-second in
+    let if1 = c .before .before .before .before .before .before .if1 in
     let f = c .before .before .before .before .second-at in
     let s = c .before .before .before .second-bits in
-    let h = sym (c .before .before .before .before .before .before .before .has-second .ensures) ∙ c .before .before .before .before .before .before .if1 .taken in
+    let h = sym (has-second .ensures) ∙ if1 .taken in
     c .before .before .put-check .ensures ∙ rw (h, f .ensures .0, s .ensures .0)
 
 returns-2 : tie.Need-returns-2

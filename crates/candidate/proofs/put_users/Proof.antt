@@ -1,5 +1,5 @@
 -- `candidate::put_users` meets its contract.
-use Rattle.candidate.proofs.Built.{puts-length}
+use Rattle.candidate.proofs.Puts.{puts-length}
 use Rattle.candidate.proofs.Steps.{puts-none, puts-next}
 use Rattle.candidate.specs.Engine.{puts}
 use Rattle.words.specs.Engine.{userField}

@@ -1,8 +1,9 @@
 -- `candidate::put_values` meets its contract.
-use Rattle.candidate.proofs.Built.{puts-length}
+use Rattle.candidate.proofs.Puts.{puts-length}
 use Rattle.candidate.proofs.Steps.{puts-none, puts-next}
 use Rattle.candidate.specs.Engine.{puts, valueIn}
-use Rattle.channel.proofs.Laws.{value-inside, subfieldsIn-le, common-le}
+use Rattle.channel.proofs.Values.{value-inside}
+use Rattle.channel.proofs.Laws.{subfieldsIn-le, common-le}
 use Rattle.channel.specs.Layout.{valueAt}
 use lib.ListN.{length}
 use mathlib.Core.Path.{_≡_, refl, _∙_, ap}
@@ -59,7 +60,12 @@ loop-again c =
     let x = valueIn (a .words .now) (a .channel) in
     let e : p .last .0 ≡ puts (valueAt (a .bw)) 9 x (l .k + 1) (a .d .now) =
     p .ensures
-    ∙ cc (c .before .before .before .value-in .ensures, c .before .before .before .before .value-bit .ensures, l .inv .1, puts-next (valueAt (a .bw)) 9 x (a .d .now) (l .k)) in
+    ∙ cc (
+      c .before .before .before .value-in .ensures,
+      c .before .before .before .before .value-bit .ensures,
+      l .inv .1,
+      puts-next (valueAt (a .bw)) 9 x (a .d .now) (l .k),
+    ) in
     (search needs, e, ap length e ∙ puts-length (valueAt (a .bw)) 9 x (a .d .now) (l .k + 1))
 
 same-length : tie.Need-same-length Inv-loop μ-loop

@@ -1,7 +1,6 @@
 -- `channel::positions_of` meets its contract.
 use lib.Pow.{pow-mono}
-use Prim.Native.Nat.{_^_}
-use Prim.Native.Nat.{_≤_}
+use Prim.Native.Nat.{_^_, _≤_}
 use native.Mathlib.Omega.{arith}
 use Rattle.channel.specs.Layout.{positions}
 use borrow.Author.Needs.{needs}

@@ -29,8 +29,12 @@ returns : tie.Need-returns Inv-loop μ-loop
 unfolding firstUncarried
 returns c =
     let a = c .before .before .before .before .before .before .args in
-    let l = c .before .before .before .loop in
-    (sym (least-stop (uncarried (a .bw) (a .s .now)) (l .k) (subfieldsIn (a .bw) (a .channel)) (omega arith) (l .inv .1) (sym (c .before .is-foreign .ensures) ∙ c .if1 .taken)), omega arith)
+    let l = c .before .before .before .loop in (
+      sym
+          (least-stop (uncarried (a .bw) (a .s .now)) (l .k) (subfieldsIn (a .bw) (a .channel)) (omega arith) (l .inv .1)
+          (sym (c .before .is-foreign .ensures) ∙ c .if1 .taken)),
+      omega arith,
+    )
 
 add-k : tie.Need-add-k Inv-loop μ-loop
 add-k c = search needs

@@ -29,8 +29,12 @@ returns : tie.Need-returns Inv-loop μ-loop
 unfolding firstWrong blocks
 returns c =
     let a = c .before .before .before .before .before .args in
-    let l = c .before .before .before .loop in
-    (sym (least-stop (wrongBlock (a .bw) (a .s .now) (a .n)) (l .b) ((a .n + 1) / 2) (omega arith) (l .inv .1) (sym (c .before .is-wrong-block .ensures) ∙ c .if1 .taken)), omega arith)
+    let l = c .before .before .before .loop in (
+      sym
+          (least-stop (wrongBlock (a .bw) (a .s .now) (a .n)) (l .b) ((a .n + 1) / 2) (omega arith) (l .inv .1)
+          (sym (c .before .is-wrong-block .ensures) ∙ c .if1 .taken)),
+      omega arith,
+    )
 
 add-b : tie.Need-add-b Inv-loop μ-loop
 add-b c = search needs

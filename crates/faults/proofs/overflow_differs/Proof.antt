@@ -21,7 +21,8 @@ is-present-requires c κs = search needs
 returns : tie.Need-returns
 unfolding overflowDiffers
 returns c =
-    let e : present (c .before .before .before .before .before .before .args .bw) 2 ≡ false = sym (c .before .is-present .ensures) ∙ not-true _ (c .if1 .taken) in
+    let a = c .before .before .before .before .before .before .args in
+    let e : present (a .bw) 2 ≡ false = sym (c .before .is-present .ensures) ∙ not-true _ (c .if1 .taken) in
     c .before .before .refuse-if .ensures ∙ rw (e, ← c .before .before .before .field-at .ensures) (sym (or-end _))
 
 overflow-diff-requires : tie.Need-overflow-diff-requires
@@ -36,7 +37,8 @@ or-else-requires c κs = search needs
 returns-2 : tie.Need-returns-2
 unfolding overflowDiffers
 returns-2 c =
-    let e : present (c .before .before .before .before .before .before .before .before .before .args .bw) 2 ≡ true = sym (c .before .before .before .before .is-present .ensures) ∙ not-false _ (c .before .before .before .if1 .left) in
+    let a = c .before .before .before .before .before .before .before .before .before .args in
+    let e : present (a .bw) 2 ≡ true = sym (c .before .before .before .before .is-present .ensures) ∙ not-false _ (c .before .before .before .if1 .left) in
     rw e cc
 
 pub overflow-differs-spec : {M : Type 1} → statement M

@@ -31,8 +31,12 @@ same-length c = search needs
 
 returns : tie.Need-returns
 returns c =
+    let field-at = c .before .before .before .before .before .before .before .before .field-at in
+    let first-bits = c .before .before .before .before .before .before .before .first-bits in
+    let field-at2 = c .before .before .before .before .before .before .field-at2 in
+    let second-check = c .before .before .before .before .before .second-check in
     c .before .before .put-header .ensures
-    ∙ rw (c .before .before .before .before .field-at3 .ensures, c .before .before .before .before .before .second-check .ensures .0, c .before .before .before .before .before .before .field-at2 .ensures, c .before .before .before .before .before .before .before .first-bits .ensures .0, c .before .before .before .before .before .before .before .before .field-at .ensures)
+    ∙ rw (c .before .before .before .before .field-at3 .ensures, second-check .ensures .0, field-at2 .ensures, first-bits .ensures .0, field-at .ensures)
 
 pub put-head-spec : {M : Type 1} → statement M
 put-head-spec =

@@ -47,8 +47,10 @@ loop-again : tie.Need-loop-again Inv-loop μ-loop
 loop-again c =
     let s = c .before .before .before .before .before .before .before .args in
     let l = c .before .before .before .before .loop in
-    let w : c .user-word .result ≡ runWord (s .bw) (s .s .now) (s .j) (s .shared) (l .i) = c .user-word .ensures ∙ rw (c .before .field-at .ensures, c .before .before .user-bit .ensures) refl in
-    let e : set (l .out) (l .i) (c .user-word .result) ≡ filled (runWord (s .bw) (s .s .now) (s .j) (s .shared)) (l .i + 1) (s .out .now) = rw (l .inv .1) (filled-step (runWord (s .bw) (s .s .now) (s .j) (s .shared)) (l .i) (c .user-word .result) (s .out .now) (omega arith) w) in
+    let w : c .user-word .result ≡ runWord (s .bw) (s .s .now) (s .j) (s .shared) (l .i) =
+    c .user-word .ensures ∙ rw (c .before .field-at .ensures, c .before .before .user-bit .ensures) refl in
+    let e : set (l .out) (l .i) (c .user-word .result) ≡ filled (runWord (s .bw) (s .s .now) (s .j) (s .shared)) (l .i + 1) (s .out .now) =
+    rw (l .inv .1) (filled-step (runWord (s .bw) (s .s .now) (s .j) (s .shared)) (l .i) (c .user-word .result) (s .out .now) (omega arith) w) in
     (omega arith, e, simp length-set (l .inv .2))
 
 same-length : tie.Need-same-length Inv-loop μ-loop

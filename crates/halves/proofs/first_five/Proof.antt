@@ -20,7 +20,9 @@ then-overflow-requires c κs = search needs
 
 returns : tie.Need-returns
 unfolding outcome5
-returns c = c .then-overflow .ensures ∙ cc (c .before .then-wrong-common .ensures, c .before .before .then-cut-common .ensures, c .before .before .before .first-checks .ensures)
+returns c =
+    c .then-overflow .ensures
+    ∙ cc (c .before .then-wrong-common .ensures, c .before .before .then-cut-common .ensures, c .before .before .before .first-checks .ensures)
 
 pub first-five-spec : {M : Type 1} → statement M
 first-five-spec =

@@ -28,7 +28,9 @@ or-else-requires c κs = search needs
 
 returns-2 : tie.Need-returns-2
 unfolding check3
-returns-2 c = pass-next (c .before .before .before .enum-told2 .given .1) (c .or-else .ensures ∙ cc (c .before .cut-common2 .ensures, c .before .before .cut-common .ensures))
+returns-2 c =
+    pass-next (c .before .before .before .enum-told2 .given .1)
+    (c .or-else .ensures ∙ cc (c .before .cut-common2 .ensures, c .before .before .cut-common .ensures))
 
 pub then-cut-common-spec : {M : Type 1} → statement M
 then-cut-common-spec =

@@ -22,7 +22,9 @@ station-twice-requires c κs = search needs
 
 returns-2 : tie.Need-returns-2
 unfolding check11
-returns-2 c = pass-next (c .before .enum-told2 .given .1) (c .station-twice .ensures ∙ cc (c .before .before .before .before .before .pre .2, c .before .before .before .before .before .pre .3))
+returns-2 c =
+    let pre = c .before .before .before .before .before .pre in
+    pass-next (c .before .enum-told2 .given .1) (c .station-twice .ensures ∙ cc (pre .2, pre .3))
 
 pub then-twice-spec : {M : Type 1} → statement M
 then-twice-spec =

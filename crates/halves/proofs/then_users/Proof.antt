@@ -37,7 +37,16 @@ then-twice-requires c κs = search needs
 
 returns-2 : tie.Need-returns-2
 unfolding outcome9to11 check9
-returns-2 c = pass-next (c .before .before .before .before .before .enum-told2 .given .1) (c .then-twice .ensures ∙ cc (c .before .then-wrong-users .ensures, c .before .before .or-else .ensures, c .before .before .before .cut-users2 .ensures, c .before .before .before .before .cut-users .ensures))
+returns-2 c =
+    let enum-told2 = c .before .before .before .before .before .enum-told2 in
+    pass-next (enum-told2 .given .1)
+    (c .then-twice .ensures
+    ∙ cc (
+      c .before .then-wrong-users .ensures,
+      c .before .before .or-else .ensures,
+      c .before .before .before .cut-users2 .ensures,
+      c .before .before .before .before .cut-users .ensures,
+    ))
 
 pub then-users-spec : {M : Type 1} → statement M
 then-users-spec =

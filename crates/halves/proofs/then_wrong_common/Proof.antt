@@ -33,7 +33,9 @@ or-else-requires c κs = search needs
 
 returns-3 : tie.Need-returns-3
 unfolding check4
-returns-3 c = pass-next (c .before .before .before .before .enum-told2 .given .1) (c .or-else .ensures ∙ cc (c .before .wrong-common2 .ensures, c .before .before .wrong-common .ensures))
+returns-3 c =
+    pass-next (c .before .before .before .before .enum-told2 .given .1)
+    (c .or-else .ensures ∙ cc (c .before .wrong-common2 .ensures, c .before .before .wrong-common .ensures))
 
 pub then-wrong-common-spec : {M : Type 1} → statement M
 then-wrong-common-spec =

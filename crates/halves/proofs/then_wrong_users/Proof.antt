@@ -33,7 +33,9 @@ or-else-requires c κs = search needs
 
 returns-3 : tie.Need-returns-3
 unfolding check10
-returns-3 c = pass-next (c .before .before .before .before .enum-told2 .given .1) (c .or-else .ensures ∙ cc (c .before .wrong-users2 .ensures, c .before .before .wrong-users .ensures))
+returns-3 c =
+    pass-next (c .before .before .before .before .enum-told2 .given .1)
+    (c .or-else .ensures ∙ cc (c .before .wrong-users2 .ensures, c .before .before .wrong-users .ensures))
 
 pub then-wrong-users-spec : {M : Type 1} → statement M
 then-wrong-users-spec =

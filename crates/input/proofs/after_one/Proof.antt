@@ -19,13 +19,18 @@ enum-known-n : tie.Need-enum-known-n
 enum-known-n c = search needs
 
 after-two-requires : tie.Need-after-two-requires
-after-two-requires c κs = let h = room 9 (length (c .before .before .before .before .before .before .args .s .now)) (c .before .n .given .1) (c .before .before .before .line .ensures .1) in (omega arith, omega arith, c .before .before .before .before .before .before .pre .2)
+after-two-requires c κs =
+    let a = c .before .before .before .before .before .before .args in
+    let pre = c .before .before .before .before .before .before .pre in
+    let h = room 9 (length (a .s .now)) (c .before .n .given .1) (c .before .before .before .line .ensures .1) in (omega arith, omega arith, pre .2)
 
 returns : tie.Need-returns
 returns c = wrong-2 (c .before .before .before .before .before .args .s .now) (c .before .before .line .ensures .0) (c .enum-told .given .1)
 
 returns-2 : tie.Need-returns-2
-returns-2 c = next-2 (c .before .before .before .before .before .before .before .args .s .now) (c .before .before .before .before .line .ensures .0) (c .before .before .n .given .1) (c .after-two .ensures)
+returns-2 c =
+    let a = c .before .before .before .before .before .before .before .args in
+    next-2 (a .s .now) (c .before .before .before .before .line .ensures .0) (c .before .before .n .given .1) (c .after-two .ensures)
 
 pub after-one-spec : {M : Type 1} → statement M
 after-one-spec =

@@ -32,19 +32,30 @@ add-if1 : tie.Need-add-if1
 add-if1 c = search needs
 
 mul-if1-2 : tie.Need-mul-if1-2
-mul-if1-2 c = let h = room (10 + 2 * c .before .before .before .before .before .before .args .n + 4) (length (c .before .before .before .before .before .before .args .s .now)) (c .before .m .given .1) (c .before .before .before .line .ensures .1) in omega arith
+mul-if1-2 c =
+    let a = c .before .before .before .before .before .before .args in
+    let h = room (10 + 2 * a .n + 4) (length (a .s .now)) (c .before .m .given .1) (c .before .before .before .line .ensures .1) in omega arith
 
 add-if1-2 : tie.Need-add-if1-2
-add-if1-2 c = let h = room (10 + 2 * c .before .before .before .before .before .before .args .n + 4) (length (c .before .before .before .before .before .before .args .s .now)) (c .before .m .given .1) (c .before .before .before .line .ensures .1) in omega arith
+add-if1-2 c =
+    let a = c .before .before .before .before .before .before .args in
+    let h = room (10 + 2 * a .n + 4) (length (a .s .now)) (c .before .m .given .1) (c .before .before .before .line .ensures .1) in omega arith
 
 returns : tie.Need-returns
-returns c = wrong-3 (c .before .before .before .before .before .args .s .now) (c .before .before .before .before .before .args .n) (c .before .before .line .ensures .0) (c .enum-told .given .1)
+returns c =
+    let a = c .before .before .before .before .before .args in
+    wrong-3 (a .s .now) (a .n) (c .before .before .line .ensures .0) (c .enum-told .given .1)
 
 returns-2 : tie.Need-returns-2
-returns-2 c = right (c .before .before .before .before .before .before .before .args .s .now) (c .before .before .before .before .before .before .before .args .n) (c .before .before .before .before .line .ensures .0) (c .before .before .m .given .1) (c .if1 .taken) (c .before .before .before .before .before .before .before .pre .2)
+returns-2 c =
+    let a = c .before .before .before .before .before .before .before .args in
+    let pre = c .before .before .before .before .before .before .before .pre in
+    right (a .s .now) (a .n) (c .before .before .before .before .line .ensures .0) (c .before .before .m .given .1) (c .if1 .taken) (pre .2)
 
 returns-3 : tie.Need-returns-3
-returns-3 c = wrong-4 (c .before .before .before .before .before .before .before .args .s .now) (c .before .before .before .before .before .before .before .args .n) (c .before .before .before .before .line .ensures .0) (c .before .before .m .given .1) (c .if1 .left)
+returns-3 c =
+    let a = c .before .before .before .before .before .before .before .args in
+    wrong-4 (a .s .now) (a .n) (c .before .before .before .before .line .ensures .0) (c .before .before .m .given .1) (c .if1 .left)
 
 pub after-two-spec : {M : Type 1} → statement M
 after-two-spec =

@@ -23,7 +23,10 @@ sub-if1 : tie.Need-sub-if1 Inv-loop μ-loop
 sub-if1 c = search needs
 
 returns : tie.Need-returns Inv-loop μ-loop
-returns c = let s = c .before .before .before .args .s .now in let k = c .before .before .before .args .k .now in let at = c .before .before .before .args .at in let j = c .before .before .loop .j in sym (key-short k s j at (omega arith) (omega arith)) ∙ c .before .before .loop .inv .0
+returns c =
+    let a = c .before .before .before .args in
+    let loop = c .before .before .loop in
+    let s = a .s .now in let k = a .k .now in let at = a .at in let j = loop .j in sym (key-short k s j at (omega arith) (omega arith)) ∙ loop .inv .0
 
 add-if2 : tie.Need-add-if2 Inv-loop μ-loop
 add-if2 c = search needs
@@ -35,7 +38,14 @@ shared-slice-read-if2-2 : tie.Need-shared-slice-read-if2-2 Inv-loop μ-loop
 shared-slice-read-if2-2 c = search needs
 
 returns-2 : tie.Need-returns-2 Inv-loop μ-loop
-returns-2 c = let s = c .before .before .before .before .before .before .args .s .now in let k = c .before .before .before .before .before .before .args .k .now in let at = c .before .before .before .before .before .before .args .at in let j = c .before .before .before .before .before .loop .j in sym (key-not k s j at (omega arith) (omega arith) (c .if2 .taken)) ∙ c .before .before .before .before .before .loop .inv .0
+returns-2 c =
+    let a = c .before .before .before .before .before .before .args in
+    let loop = c .before .before .before .before .before .loop in
+    let s = a .s .now in
+    let k = a .k .now in
+    let at = a .at in
+    let j = loop .j in
+    sym (key-not k s j at (omega arith) (omega arith) (c .if2 .taken)) ∙ loop .inv .0
 
 add-j : tie.Need-add-j Inv-loop μ-loop
 add-j c = search needs
@@ -44,10 +54,19 @@ loop-less : tie.Need-loop-less Inv-loop μ-loop
 loop-less c = search needs
 
 loop-again : tie.Need-loop-again Inv-loop μ-loop
-loop-again c = let s = c .before .before .before .before .before .before .args .s .now in let k = c .before .before .before .before .before .before .args .k .now in let at = c .before .before .before .before .before .before .args .at in let j = c .before .before .before .before .before .loop .j in (sym (key-more k s j at (omega arith) (omega arith) (c .if2 .left)) ∙ c .before .before .before .before .before .loop .inv .0, omega arith)
+loop-again c =
+    let a = c .before .before .before .before .before .before .args in
+    let loop = c .before .before .before .before .before .loop in
+    let s = a .s .now in
+    let k = a .k .now in
+    let at = a .at in
+    let j = loop .j in
+    (sym (key-more k s j at (omega arith) (omega arith) (c .if2 .left)) ∙ loop .inv .0, omega arith)
 
 returns-3 : tie.Need-returns-3 Inv-loop μ-loop
-returns-3 c = let s = c .before .before .args .s .now in let k = c .before .before .args .k .now in let at = c .before .before .args .at in let j = c .before .loop .j in sym (key-end k s j at (omega arith)) ∙ c .before .loop .inv .0
+returns-3 c =
+    let a = c .before .before .args in
+    let s = a .s .now in let k = a .k .now in let at = a .at in let j = c .before .loop .j in sym (key-end k s j at (omega arith)) ∙ c .before .loop .inv .0
 
 pub key-at-spec : {M : Type 1} → statement M
 key-at-spec =

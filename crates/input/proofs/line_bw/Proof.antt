@@ -14,16 +14,25 @@ byte-at-requires : tie.Need-byte-at-requires
 byte-at-requires c κs = search needs
 
 returns : tie.Need-returns
-returns c = bw-low (c .before .before .before .before .before .before .args .s .now) (c .before .before .before .key-at .ensures) (c .before .before .if1 .taken) (c .before .byte-at .ensures) (c .if2 .taken)
+returns c =
+    let a = c .before .before .before .before .before .before .args in
+    bw-low (a .s .now) (c .before .before .before .key-at .ensures) (c .before .before .if1 .taken) (c .before .byte-at .ensures) (c .if2 .taken)
 
 byte-at-requires-2 : tie.Need-byte-at-requires-2
 byte-at-requires-2 c κs = search needs
 
 returns-2 : tie.Need-returns-2
-returns-2 c = bw-end (c .before .before .before .before .before .before .before .before .args .s .now) (c .before .before .before .before .before .key-at .ensures) (c .before .before .before .before .if1 .taken) (c .before .before .before .byte-at .ensures) (c .before .before .if2 .left) (c .before .if3 .taken) (c .byte-at2 .ensures)
+returns-2 c =
+    let a = c .before .before .before .before .before .before .before .before .args in
+    let key-at = c .before .before .before .before .before .key-at in
+    bw-end (a .s .now) (key-at .ensures) (c .before .before .before .before .if1 .taken) (c .before .before .before .byte-at .ensures)
+    (c .before .before .if2 .left) (c .before .if3 .taken) (c .byte-at2 .ensures)
 
 returns-3 : tie.Need-returns-3
-returns-3 c = bw-high (c .before .before .before .before .before .before .before .args .s .now) (c .before .before .before .before .key-at .ensures) (c .before .before .before .if1 .taken) (c .before .before .byte-at .ensures) (c .before .if2 .left) (c .if3 .left)
+returns-3 c =
+    let a = c .before .before .before .before .before .before .before .args in
+    bw-high (a .s .now) (c .before .before .before .before .key-at .ensures) (c .before .before .before .if1 .taken) (c .before .before .byte-at .ensures)
+    (c .before .if2 .left) (c .if3 .left)
 
 returns-4 : tie.Need-returns-4
 returns-4 c = bw-none (c .before .before .before .before .args .s .now) (c .before .key-at .ensures) (c .if1 .left)

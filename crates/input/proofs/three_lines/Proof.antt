@@ -14,16 +14,23 @@ byte-at-requires : tie.Need-byte-at-requires
 byte-at-requires c κs = search needs
 
 sub-after-one : tie.Need-sub-after-one
-sub-after-one c = let e = c .byte-at .ensures in let d = bw-digit (c .before .before .before .before .args .s .now) (sym (c .before .before .line-bw .ensures) ∙ c .before .if1 .taken) in omega arith
+sub-after-one c =
+    let e = c .byte-at .ensures in
+    let d = bw-digit (c .before .before .before .before .args .s .now) (sym (c .before .before .line-bw .ensures) ∙ c .before .if1 .taken) in
+    omega arith
 
 cast-after-one : tie.Need-cast-after-one
 cast-after-one c = search needs
 
 after-one-requires : tie.Need-after-one-requires
-after-one-requires c κs = let l = bw-long (c .before .before .before .before .args .s .now) (sym (c .before .before .line-bw .ensures) ∙ c .before .if1 .taken) in (omega arith, omega arith, ap (λ x. x - 48) (c .byte-at .ensures))
+after-one-requires c κs =
+    let l = bw-long (c .before .before .before .before .args .s .now) (sym (c .before .before .line-bw .ensures) ∙ c .before .if1 .taken) in
+    (omega arith, omega arith, ap (λ x. x - 48) (c .byte-at .ensures))
 
 returns : tie.Need-returns
-returns c = next-1 (c .before .before .before .before .before .args .s .now) (c .before .before .before .line-bw .ensures) (c .before .before .if1 .taken) (c .after-one .ensures)
+returns c =
+    let a = c .before .before .before .before .before .args in
+    next-1 (a .s .now) (c .before .before .before .line-bw .ensures) (c .before .before .if1 .taken) (c .after-one .ensures)
 
 returns-2 : tie.Need-returns-2
 returns-2 c = wrong-1 (c .before .before .before .args .s .now) (c .before .line-bw .ensures) (c .if1 .left)

@@ -44,7 +44,11 @@ pair-requires : tie.Need-pair-requires Inv-loop μ-loop
 pair-requires c κs = search needs
 
 slice-write-out : tie.Need-slice-write-out Inv-loop μ-loop
-slice-write-out c = let a = c .before .before .before .before .before .before .before .args in let e = ap length (c .before .before .before .before .loop .inv .1) ∙ filled-length (byteOf (a .s .now) (a .at)) (c .before .before .before .before .loop .i) (a .out .now) (omega arith) in omega arith
+slice-write-out c =
+    let loop = c .before .before .before .before .loop in
+    let a = c .before .before .before .before .before .before .before .args in
+    let e = ap length (loop .inv .1) ∙ filled-length (byteOf (a .s .now) (a .at)) (loop .i) (a .out .now) (omega arith) in
+    omega arith
 
 add-i : tie.Need-add-i Inv-loop μ-loop
 add-i c = search needs
@@ -54,16 +58,25 @@ loop-less c = search needs
 
 loop-again : tie.Need-loop-again Inv-loop μ-loop
 loop-again c =
+    let loop = c .before .before .before .before .loop in
     let a = c .before .before .before .before .before .before .before .args in
-    let i = c .before .before .before .before .loop .i in
-    let e : c .pair .result ≡ byteOf (a .s .now) (a .at) i = c .pair .ensures ∙ unfold byteOf in ap (λ x. pairOf x (c .before .byte-at2 .result)) (c .before .before .byte-at .ensures) ∙ unfold byteOf in ap (λ y. pairOf (getD (a .s .now) (a .at + 2 * i) 0) y) (c .before .byte-at2 .ensures) in
-    (omega arith, ap (λ l. set l i (c .pair .result)) (c .before .before .before .before .loop .inv .1) ∙ filled-step (byteOf (a .s .now) (a .at)) i (c .pair .result) (a .out .now) (omega arith) e)
+    let i = loop .i in
+    let e : c .pair .result ≡ byteOf (a .s .now) (a .at) i = c .pair .ensures ∙ unfold byteOf in
+    ap (λ x. pairOf x (c .before .byte-at2 .result)) (c .before .before .byte-at .ensures) ∙ unfold byteOf in
+    ap (λ y. pairOf (getD (a .s .now) (a .at + 2 * i) 0) y) (c .before .byte-at2 .ensures) in (
+      omega arith,
+      ap (λ l. set l i (c .pair .result)) (loop .inv .1)
+          ∙ filled-step (byteOf (a .s .now) (a .at)) i (c .pair .result) (a .out .now) (omega arith) e,
+    )
 
 same-length : tie.Need-same-length Inv-loop μ-loop
-same-length c = let a = c .before .before .before .before .args in ap length (c .before .loop .inv .1) ∙ filled-length (byteOf (a .s .now) (a .at)) (c .before .loop .i) (a .out .now) (omega arith)
+same-length c =
+    let a = c .before .before .before .before .args in
+    ap length (c .before .loop .inv .1) ∙ filled-length (byteOf (a .s .now) (a .at)) (c .before .loop .i) (a .out .now) (omega arith)
 
 returns : tie.Need-returns Inv-loop μ-loop
-returns c = let a = c .before .before .before .before .args in c .before .loop .inv .1 ∙ ap (λ k. filled (byteOf (a .s .now) (a .at)) k (a .out .now)) (omega arith)
+returns c =
+    let a = c .before .before .before .before .args in c .before .loop .inv .1 ∙ ap (λ k. filled (byteOf (a .s .now) (a .at)) k (a .out .now)) (omega arith)
 
 pub unhex-spec : {M : Type 1} → statement M
 unhex-spec =

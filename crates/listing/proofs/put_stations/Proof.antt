@@ -20,7 +20,7 @@ returns : tie.Need-returns
 returns c =
     let s = c .before .before .before .before .before .before .before .before .before .before .before .before .args in
     let q = c .before .before .before .before .before .before .before .before .before .before .before .before .pre in
-    rw (← both-channels (s .bw) (s .row .now) (s .a .now) (s .b .now) (s .m) (s .k) (q .1) (q .2)) (after {t = upto (ownedLine (s .bw) (s .a .now) (ownersIn (s .row .now) 0)) (s .m)} {u = upto (ownedLine (s .bw) (s .b .now) (ownersIn (s .row .now) 1)) (s .k)} (c .before .before .before .before .before .before .put-owned .ensures .0) (c .before .before .put-owned2 .ensures .0))
+    rw (← both-channels (s .bw) (s .row .now) (s .a .now) (s .b .now) (s .m) (s .k) (q .1) (q .2)) (after {t = upto (ownedLine (s .bw) (s .a .now) (ownersIn (s .row .now) 1)) (s .m)} {u = upto (ownedLine (s .bw) (s .b .now) (ownersIn (s .row .now) 2)) (s .k)} (c .before .before .before .before .before .before .put-owned .ensures .0) (c .before .before .put-owned2 .ensures .0))
 
 pub put-stations-spec : {M : Type 1} → statement M
 put-stations-spec =

@@ -38,7 +38,8 @@ loop-again : tie.Need-loop-again Inv-loop μ-loop
 loop-again c =
     let s = c .before .before .before .before .before .args in
     let l = c .before .before .loop in
-    let e : set (l .local) (l .i) (c .word-in .result) ≡ filled (wordAt (s .bytes .now)) (l .i + 1) (s .local .now) = rw (l .inv .1) (filled-step (wordAt (s .bytes .now)) (l .i) (c .word-in .result) (s .local .now) (omega arith) (c .word-in .ensures)) in
+    let e : set (l .local) (l .i) (c .word-in .result) ≡ filled (wordAt (s .bytes .now)) (l .i + 1) (s .local .now) =
+    rw (l .inv .1) (filled-step (wordAt (s .bytes .now)) (l .i) (c .word-in .result) (s .local .now) (omega arith) (c .word-in .ensures)) in
     (omega arith, e, simp length-set (l .inv .2))
 
 same-length : tie.Need-same-length Inv-loop μ-loop

@@ -60,7 +60,9 @@ add-result-3 c = search needs
 
 returns : tie.Need-returns
 unfolding wordAt
-returns c = cc (c .wide4 .ensures .1, c .before .before .wide3 .ensures .1, c .before .before .before .before .wide2 .ensures .1, c .before .before .before .before .before .before .wide .ensures .1)
+returns c =
+    let wide = c .before .before .before .before .before .before .wide in
+    cc (c .wide4 .ensures .1, c .before .before .wide3 .ensures .1, c .before .before .before .before .wide2 .ensures .1, wide .ensures .1)
 
 pub word-in-spec : {M : Type 1} → statement M
 word-in-spec =

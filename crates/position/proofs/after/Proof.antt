@@ -1,5 +1,7 @@
--- `position::after` meets its contract: a walk of its MIR, by hand. A struct is made anew of the slice that the one passed holds, and the number that the common field passed has last.
--- The struct is Copy: what it owns is had twice, one copy is kept whole for the exit, and the other, with that number's facts in the place of `bit`'s, is what the result owns.
+-- `position::after` meets its contract: a walk of its MIR, by hand. A struct is made anew of the slice that the one passed holds,
+-- and the number that the common field passed has last.
+-- The struct is Copy: what it owns is had twice, one copy is kept whole for the exit, and the other, with that number's facts in
+-- the place of `bit`'s, is what the result owns.
 --
 use mathlib.Core.Path.{refl}
 use Prim.Native.Nat.{_<_, _^_}
@@ -14,18 +16,17 @@ use prog.Memory.{Memory}
 use prog.Routine.{Routine}
 use prog.Wp.{Heap, Calls, Loops, WpFn, Tables}
 use ghost.Atoms.{Atoms}
-use contract.Lifetimes.{Lfts}
 use contract.Monad.{Fun}
 use contract.Running.{givenOf, tables, tablesOf}
-use types.Kit.{Given, ‵, _⊛_, _$_, _∵_, !, qed, by, move, use1, split, fsplit, fjoin, suffices, frame}
+use types.Kit.{Item, Given, ‵, _⊛_, _$_, _∵_, !, qed, by, move, use1, split, fsplit, fjoin, suffices, frame}
 use types.Part.{whole, sub, look-in, agg}
-use types.Run.{look, init, forget, stop, fld, from, load, of-opd, and-then, no-more, assigns, returns, enter, alloc1, alloc0, params1, pass1, pass0, free1, free0}
+use types.Run.{look, init, forget, stop, fld, from, load, of-opd, and-then, no-more, assigns}
+use types.Run.{returns, enter, alloc1, alloc0, params1, pass1, pass0, free1, free0}
 use sound.WpLaws.{WpFn-mono}
-use denote.RattleType.{RattleType, owns}
+use denote.RattleType.{owns}
 use denote.Laws.{Is}
 use denote.Plain.{uint-makes}
 use denote.Builtin.{usize}
-use denote.Signature.{namedLft}
 use denote.Steps.{owned}
 use denote.Struct.Laws as LL
 use denote.Struct.Rest.{own-put}
@@ -36,7 +37,7 @@ use denote.Triple.Walked.{says, Stays, stay-none, walkOf, goes-none, Walks, ends
 use denote.Exit.{yes}
 use Rattle.position.specs.declared.CommonField.{CommonField}
 use Rattle.position.specs.declared.Position.{Position}
-use Rattle.position.proofs.Position as T
+use Rattle.position.proofs.Lent.{D, L, B, Whole, twice}
 use Rattle.position.proofs.Position.Laws as T′
 use Rattle.position.proofs.CommonField as R
 use Rattle.position.proofs.CommonField.Laws as R′
@@ -45,14 +46,11 @@ use Rattle.position.proofs.after as after
 use Rattle.position.proofs.after.Statement as stated
 use Rattle.position.proofs.after.Code as code
 
--- the struct's type, over the signature's lifetimes
-abbrev B : Lfts 1 → RattleType
-B κs = T.the-row (namedLft 1 0 tt κs)
-
 abbrev stayed : Stays (after.ended .signature .params) (after.ended .kept)
 stayed = (stay-none B yes, (stay-none (λ _. R.the-row) yes, tt))
 
-module _ {M : Type 1} (𝓤 : URA M) (H : Heap 𝓤) (A : Atoms 𝓤) (W : Given 𝓤 H A) (mem : Memory → SProp 𝓤) (run : Routine → Fun 𝓤) (κ : Lft) (q : Share) (d : Position) (c : CommonField) (ok : c .next < 2 ^ 64) where
+module _ {M : Type 1} (𝓤 : URA M) (H : Heap 𝓤) (A : Atoms 𝓤) (W : Given 𝓤 H A) (mem : Memory → SProp 𝓤) (run : Routine → Fun 𝓤) (κ : Lft) (q : Share)
+    (d : Position) (c : CommonField) (ok : c .next < 2 ^ 64) where
   abbrev mach : Val
   mach = T′.lowered d
 
@@ -70,36 +68,62 @@ module _ {M : Type 1} (𝓤 : URA M) (H : Heap 𝓤) (A : Atoms 𝓤) (W : Given
   Post = walkOf 𝓤 H A after.ended stayed (after.clauses 𝓤 H A mem run) .post (((κ, tt), (q, tt), tt, (d, (c, tt)), at), tt)
 
   abbrev Own : Fml
-  Own = B (κ, tt) .own d (mach ∷ [])
+  Own = Whole κ d
 
-  exits : ent 𝓤 (onEntry 𝓤 H A after.signature (κ, tt) (q, tt) (d, (c, tt)) at) (Post (T′.lowered d′))
+  -- the lifetime's token
+  abbrev token : Item 𝓤
+  token = ‵ (flft κ q) ⊛ ‵ ftrue
+
+  -- what the function is given
+  abbrev entry : SProp 𝓤
+  entry = onEntry 𝓤 H A after.signature (κ, tt) (q, tt) (d, (c, tt)) at
+
+  exits : ent 𝓤 entry (Post (T′.lowered d′))
   exits =
-      qed W ((‵ (flft κ q) ⊛ ‵ ftrue) ∷ ‵ (owns (B (κ, tt) ∷ R.the-row ∷ []) (d, (c, tt)) at) ∷ []) ∵
-      suffices ! _ (ends-at 𝓤 H A after.ended stayed (after.clauses 𝓤 H A mem run) W (((κ, tt), (q, tt), tt, (d, (c, tt)), at), tt) (T′.lowered d′) d′ (tt, (tt, tt)) (tt, (tt, tt))) $ says ! (refl, refl) $
-      frame ! $ fsplit ! $ use1 W (‵ Own ⊛ ‵ Own) (LL.copy (T.the-type (namedLft 1 0 tt (κ, tt))) (T′.the-copy (namedLft 1 0 tt (κ, tt))) 𝓤 H A W .twice d (mach ∷ [])) $ split ! $ move ! (0 ∷ 2 ∷ []) $ fjoin ! $ frame ! $
+      qed W (token ∷ ‵ (owns (B (κ, tt) ∷ R.the-row ∷ []) (d, (c, tt)) at) ∷ []) ∵
+      suffices ! _
+      (ends-at 𝓤 H A after.ended stayed (after.clauses 𝓤 H A mem run) W (((κ, tt), (q, tt), tt, (d, (c, tt)), at), tt) (T′.lowered d′) d′
+      (tt, (tt, tt)) (tt, (tt, tt))) $
+      says ! (refl, refl) $
+      frame ! $ fsplit ! $
+      use1 W (‵ Own ⊛ ‵ Own) (twice 𝓤 H A W κ d) $
+      split ! $ move ! (0 ∷ 2 ∷ []) $ fjoin ! $ frame ! $
       -- [what the struct owns]: the number's facts take the place of bit's
-      owned ! usize (Is usize) (uint-makes 𝓤 H A W w64) (c .next) _ (refl, ok) $ move ! (1 ∷ 0 ∷ []) $ by ! (own-put 𝓤 H A W (T.the-type (namedLft 1 0 tt (κ, tt))) (T′.the-laws (namedLft 1 0 tt (κ, tt))) 1 (d .channel, (d .bit, tt)) (c .next) mach)
+      owned ! usize (Is usize) (uint-makes 𝓤 H A W w64) (c .next) _ (refl, ok) $ move ! (1 ∷ 0 ∷ []) $
+      by ! (own-put 𝓤 H A W (D (κ, tt)) (L (κ, tt)) 1 (d .channel, (d .bit, tt)) (c .next) mach)
 
   module _ (C : Calls 𝓤 H) (Λ : Loops 𝓤 H) where
-    walk : Holds (hasTy (T′.mir (named 0)) mach) × WT mach → Holds (hasTy R′.mir mc) × WT mc → ent 𝓤 (onEntry 𝓤 H A after.signature (κ, tt) (q, tt) (d, (c, tt)) at) (WpFn 𝓤 H C Λ code.function (mach ∷ mc ∷ []) Post)
+    walk : Holds (hasTy (T′.mir (named 0)) mach) × WT mach → Holds (hasTy R′.mir mc) × WT mc → ent 𝓤 entry (WpFn 𝓤 H C Λ code.function (mach ∷ mc ∷ []) Post)
     walk wt wc =
-        qed W ((‵ (flft κ q) ⊛ ‵ ftrue) ∷ ‵ (owns (B (κ, tt) ∷ R.the-row ∷ []) (d, (c, tt)) at) ∷ []) ∵ enter ! C Λ code.function (mach ∷ mc ∷ []) _ $
-        alloc1 ! (λ l₀. alloc1 ! (λ l₁. alloc1 ! (λ l₂. alloc1 ! (λ l₃. alloc0 ! $ params1 ! $ pass1 ! (init ! 4 refl wt) $ pass1 ! (init ! 2 refl wc) $ pass0 ! $
+        qed W (token ∷ ‵ (owns (B (κ, tt) ∷ R.the-row ∷ []) (d, (c, tt)) at) ∷ []) ∵ enter ! C Λ code.function (mach ∷ mc ∷ []) _ $
+        alloc1 ! (λ l₀. alloc1 ! (λ l₁. alloc1 ! (λ l₂. alloc1 ! (λ l₃. alloc0 ! $ params1 ! $
+        pass1 ! (init ! 4 refl wt) $ pass1 ! (init ! 2 refl wc) $ pass0 ! $
         assigns ! (of-opd ! (load ! (from ! (fld ! refl (stop !))) (look-in ! 4 (sub ! 0 refl (whole !))))) (from ! (stop !)) (init ! 0 refl (tt, wt .1 .0)) $
-        assigns ! (agg ! (and-then ! (load ! (from ! (stop !)) (look ! 0 refl)) (and-then ! (load ! (from ! (fld ! refl (stop !))) (look-in ! 2 (sub ! 3 refl (whole !)))) (no-more !)))) (from ! (stop !)) (init ! 6 refl (tt, (wt .1 .0, (record { fits = ok }, tt)))) $
+        assigns !
+        (agg !
+        (and-then ! (load ! (from ! (stop !)) (look ! 0 refl))
+        (and-then ! (load ! (from ! (fld ! refl (stop !))) (look-in ! 2 (sub ! 3 refl (whole !)))) (no-more !))))
+        (from ! (stop !)) (init ! 6 refl (tt, (wt .1 .0, (record { fits = ok }, tt)))) $
         returns ! (look ! 6 refl) $ forget ! 0 refl $ forget ! 2 refl $ forget ! 4 refl $ forget ! 6 refl $
         move ! (6 ∷ 7 ∷ []) $ free1 ! $ move ! (4 ∷ 5 ∷ []) $ free1 ! $ move ! (2 ∷ 3 ∷ []) $ free1 ! $ free1 ! $ free0 ! $ by ! exits))))
 
 module _ {M : Type 1} (𝓤 : URA M) (H : Heap 𝓤) (A : Atoms 𝓤) (W : Given 𝓤 H A) (mem : Memory → SProp 𝓤) (run : Routine → Fun 𝓤) where
   after-walks : (C : Calls 𝓤 H) (Λ : Loops 𝓤 H) → Walks 𝓤 H A after.ended stayed (WpFn 𝓤 H C Λ code.function) (after.clauses 𝓤 H A mem run)
-  after-walks C Λ = walked 𝓤 H A after.ended stayed (after.clauses 𝓤 H A mem run) (WpFn 𝓤 H C Λ code.function) (λ κs. (LL.vals (T.the-type (namedLft 1 0 tt κs)) (T′.the-laws (namedLft 1 0 tt κs)), (LL.vals R.the-type R′.the-laws, tt))) (λ κs. (LL.tells (T.the-type (namedLft 1 0 tt κs)) (T′.the-laws (namedLft 1 0 tt κs)), (LL.tells R.the-type R′.the-laws, tt)))
+  after-walks C Λ =
+      walked 𝓤 H A after.ended stayed (after.clauses 𝓤 H A mem run) (WpFn 𝓤 H C Λ code.function)
+      (λ κs. (LL.vals (D κs) (L κs), (LL.vals R.the-type R′.the-laws, tt)))
+      (λ κs. (LL.tells (D κs) (L κs), (LL.tells R.the-type R′.the-laws, tt)))
       (λ κs qs bounds a g are.
       let wc = LL.lawful R.the-type R′.the-laws 𝓤 H A W .typed (a .1 .0) _ (are .1 .0) .0 in
-      via 𝓤 _ (fst∗ 𝓤 _ (emp 𝓤)) (walk 𝓤 H A W mem run (κs .0) (qs .0) (a .0) (a .1 .0) (wc .1 .1 .1 .1 .0 .fits) C Λ (LL.lawful (T.the-type (namedLft 1 0 tt κs)) (T′.the-laws (namedLft 1 0 tt κs)) 𝓤 H A W .typed (a .0) _ (are .0) .0) wc))
+      via 𝓤 _ (fst∗ 𝓤 _ (emp 𝓤))
+      (walk 𝓤 H A W mem run (κs .0) (qs .0) (a .0) (a .1 .0) (wc .1 .1 .1 .1 .0 .fits) C Λ
+      (LL.lawful (D κs) (L κs) 𝓤 H A W .typed (a .0) _ (are .0) .0) wc))
 
 after-meets : {M : Type 1} (𝓤 : URA M) (H : Heap 𝓤) (A : Atoms 𝓤) → Given 𝓤 H A → (mem : Memory → SProp 𝓤) (run : Routine → Fun 𝓤) (𝓣 : Tables 𝓤 H)
     → Meets 𝓤 H A after.signature (WpFn 𝓤 H (𝓣 .C) (𝓣 .Λ) code.function) (after.spec 𝓤 H A mem run)
-after-meets 𝓤 H A W mem run 𝓣 = walk-meets 𝓤 H A after.ended stayed W (goes-none 𝓤 H A W 1 B yes (λ κs x f. refl), (goes-none 𝓤 H A W 1 (λ _. R.the-row) yes (λ κs x f. refl), tt)) (after.clauses 𝓤 H A mem run) (WpFn 𝓤 H (𝓣 .C) (𝓣 .Λ) code.function) (WpFn-mono 𝓤 H (W .laws) 𝓣 code.function) (after-walks 𝓤 H A W mem run (𝓣 .C) (𝓣 .Λ))
+after-meets 𝓤 H A W mem run 𝓣 =
+    walk-meets 𝓤 H A after.ended stayed W (goes-none 𝓤 H A W 1 B yes (λ κs x f. refl), (goes-none 𝓤 H A W 1 (λ _. R.the-row) yes (λ κs x f. refl), tt))
+    (after.clauses 𝓤 H A mem run) (WpFn 𝓤 H (𝓣 .C) (𝓣 .Λ) code.function) (WpFn-mono 𝓤 H (W .laws) 𝓣 code.function) (after-walks 𝓤 H A W mem run (𝓣 .C) (𝓣 .Λ))
 
 pub after-spec : {M : Type 1} → stated.statement M
 unfolding code.routine tablesOf

@@ -32,7 +32,10 @@ returns c =
     let f = c .before .before .first-lacking in
     let e : u .result .next ≡ endFrom (a .at) (a .c .count) = ap (λ (x : Users). x .next) (u .ensures) in
     let us : u .result .users ≡ filled (userFrom (a .s .now) (a .at)) (a .c .count) (replicate 72 0) = ap (λ (x : Users). x .users) (u .ensures) in
-    let h : f .result ≡ firstLacking (lacks (a .s .now) 0 (a .at)) (lacks (a .s .now) 0 (endFrom (a .at) (a .c .count))) = f .ensures ∙ ap (λ (x : ℕ). firstLacking x (m .result)) (l .ensures) ∙ ap (firstLacking (lacks (a .s .now) 0 (a .at))) (m .ensures ∙ ap (lacks (a .s .now) 0) e) in
+    let h : f .result ≡ firstLacking (lacks (a .s .now) 0 (a .at)) (lacks (a .s .now) 0 (endFrom (a .at) (a .c .count))) =
+    f .ensures
+    ∙ ap (λ (x : ℕ). firstLacking x (m .result)) (l .ensures)
+    ∙ ap (firstLacking (lacks (a .s .now) 0 (a .at))) (m .ensures ∙ ap (lacks (a .s .now) 0) e) in
     rw (us, e, h)
 
 pub blocks-at-spec : {M : Type 1} → statement M

@@ -21,7 +21,8 @@ use Rattle.position.proofs.common_at.Tie as tie
 
 abbrev Inv-loop : tie.InvT-loop
 Inv-loop s at bw overflow check n values₀ count₀ next₀ k₀ values count next k =
-    (k ≤ n) × (values ≡ filled (valueFrom s at bw) k (replicate 8 0)) × (count ≡ total (λ i. fieldsOf (valueFrom s at bw i)) k) × (count ≤ 9 * k) × (next ≡ at + reached bw k)
+    (k ≤ n) × (values ≡ filled (valueFrom s at bw) k (replicate 8 0)) × (count ≡ total (λ i. fieldsOf (valueFrom s at bw i)) k) × (count ≤ 9 * k)
+    × (next ≡ at + reached bw k)
 
 abbrev μ-loop : tie.MeasureT-loop
 μ-loop s at bw overflow check n values₀ count₀ next₀ k₀ values count next k = n - k
@@ -42,7 +43,10 @@ add-next : tie.Need-add-next Inv-loop μ-loop
 add-next c = search needs
 
 -- the next subfield's first bit, and its value
-here : (c : tie.After-past-check Inv-loop μ-loop) → c .past-check .result ≡ c .before .before .before .before .before .before .before .args .at + valueAt (c .before .before .before .before .before .before .before .args .bw) (c .before .before .loop .k)
+here : (c : tie.After-past-check Inv-loop μ-loop)
+    → c .past-check .result
+    ≡ c .before .before .before .before .before .before .before .args .at + valueAt (c .before .before .before .before .before .before .before .args .bw)
+    (c .before .before .loop .k)
 here c =
     let a = c .before .before .before .before .before .before .before .args in
     let l = c .before .before .loop in
@@ -52,7 +56,11 @@ here c =
     ∙ ap (λ (x : ℕ). pastCheck (a .at + reached (a .bw) (l .k)) (a .at + x)) (f .ensures .0)
     ∙ value-reached (a .bw) (a .at) (l .k)
 
-read : (c : tie.After-value-from Inv-loop μ-loop) → c .value-from .result ≡ valueFrom (c .before .before .before .before .before .before .before .before .args .s .now) (c .before .before .before .before .before .before .before .before .args .at) (c .before .before .before .before .before .before .before .before .args .bw) (c .before .before .before .loop .k)
+read : (c : tie.After-value-from Inv-loop μ-loop)
+    → c .value-from .result
+    ≡ valueFrom (c .before .before .before .before .before .before .before .before .args .s .now)
+    (c .before .before .before .before .before .before .before .before .args .at)
+    (c .before .before .before .before .before .before .before .before .args .bw) (c .before .before .before .loop .k)
 unfolding valueFrom
 read c = c .value-from .ensures ∙ ap (λ (x : ℕ). field (c .before .before .before .before .before .before .before .before .args .s .now) x 9) (here (c .before))
 
@@ -135,7 +143,8 @@ returns c =
     let f = valueFrom (a .s .now) (a .at) (a .bw) in
     let vs : l .values ≡ filled f (subfields (a .bw)) (replicate 8 0) = l .inv .1 ∙ ap (λ (k : ℕ). filled f k (replicate 8 0)) e in
     let t : l .count ≡ total (λ i. fieldsOf (f i)) (subfields (a .bw)) = l .inv .2 ∙ ap (total (λ i. fieldsOf (f i))) e in
-    let x : l .next + 10 ≡ a .at + common (a .bw) = ap (λ (y : ℕ). y + 10) (l .inv .4 ∙ ap (λ (k : ℕ). a .at + reached (a .bw) k) e) ∙ reached-all (a .bw) (a .at) in
+    let x : l .next + 10 ≡ a .at + common (a .bw) =
+    ap (λ (y : ℕ). y + 10) (l .inv .4 ∙ ap (λ (k : ℕ). a .at + reached (a .bw) k) e) ∙ reached-all (a .bw) (a .at) in
     rw (c .before .before .before .before .field-at .ensures, vs, t, x)
 
 pub common-at-spec : {M : Type 1} → statement M

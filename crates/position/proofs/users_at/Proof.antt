@@ -50,7 +50,8 @@ loop-again c =
     let a = c .before .before .before .before .before .args in
     let l = c .before .before .before .loop in
     let h : l .i < a .n = omega arith in
-    let e : c .before .field-at .result ≡ userFrom (a .s .now) (a .at) (l .i) = c .before .field-at .ensures ∙ ap (λ (x : ℕ). field (a .s .now) x 22) (l .inv .2 ∙ stands-user (a .at) (a .n) (l .i) h) in (
+    let e : c .before .field-at .result ≡ userFrom (a .s .now) (a .at) (l .i) =
+    c .before .field-at .ensures ∙ ap (λ (x : ℕ). field (a .s .now) x 22) (l .inv .2 ∙ stands-user (a .at) (a .n) (l .i) h) in (
       omega arith,
       ap (λ (r : List ℕ). set r (l .i) (c .before .field-at .result)) (l .inv .1)
           ∙ filled-step (userFrom (a .s .now) (a .at)) (l .i) (c .before .field-at .result) (replicate 72 0) (omega arith) e,
@@ -63,7 +64,8 @@ returns c =
     let a = c .before .before .before .args in
     let l = c .before .loop in
     let e : l .i ≡ a .n = omega arith in
-    let u : l .users ≡ filled (userFrom (a .s .now) (a .at)) (a .n) (replicate 72 0) = l .inv .1 ∙ ap (λ (k : ℕ). filled (userFrom (a .s .now) (a .at)) k (replicate 72 0)) e in
+    let u : l .users ≡ filled (userFrom (a .s .now) (a .at)) (a .n) (replicate 72 0) =
+    l .inv .1 ∙ ap (λ (k : ℕ). filled (userFrom (a .s .now) (a .at)) k (replicate 72 0)) e in
     let n : l .next ≡ a .at + 54 * (a .n / 2) + 32 * (a .n % 2) = l .inv .2 ∙ ap (stands (a .at) (a .n)) e ∙ stands-last (a .at) (a .n) in
     rw (u, n)
 

@@ -25,7 +25,9 @@ returns : tie.Need-returns
 unfolding answerOf wordsAfter
 returns c =
     let s = c .before .before .before .before .before .before .before .args in
-    let e = first-refuses (s .bandwidth) (s .cc1 .now) (s .cc2 .now) (length (s .words .now)) (c .before .before .before .plan-frame .ensures) _ (c .before .planned .given .1) in
+    let e =
+    first-refuses (s .bandwidth) (s .cc1 .now) (s .cc2 .now) (length (s .words .now)) (c .before .before .before .plan-frame .ensures) _
+    (c .before .planned .given .1) in
     (rw e, rw e)
 
 enum-told : tie.Need-enum-told
@@ -33,10 +35,11 @@ enum-told c = search needs
 
 check-users-requires : tie.Need-check-users-requires
 check-users-requires c κs =
+    let pre = c .before .before .before .before .before .before .pre in
     let s = c .before .before .before .before .before .before .args in
     let q = c .before .before .plan-frame .ensures in
     let m = planned-made (s .bandwidth) (s .cc1 .now) (s .cc2 .now) _ q (c .enum-told .given .1) in
-    (c .before .before .before .before .before .before .pre, common-pass (s .bandwidth) (s .cc1 .now) (s .cc2 .now) (m .common) .short, m .most1, m .most2, m .count1, m .count2)
+    (pre, common-pass (s .bandwidth) (s .cc1 .now) (s .cc2 .now) (m .common) .short, m .most1, m .most2, m .count1, m .count2)
 
 enum-known-outcome : tie.Need-enum-known-outcome
 enum-known-outcome c = search needs
@@ -44,9 +47,12 @@ enum-known-outcome c = search needs
 returns-2 : tie.Need-returns-2
 unfolding answerOf wordsAfter
 returns-2 c =
+    let plan-frame = c .before .before .before .before .before .before .plan-frame in
     let s = c .before .before .before .before .before .before .before .before .before .before .args in
-    let q = c .before .before .before .before .before .before .plan-frame .ensures in
-    let e = second-says (s .bandwidth) (s .cc1 .now) (s .cc2 .now) (length (s .words .now)) q _ _ (c .before .before .before .before .enum-told .given .1) (c .before .before .before .check-users .ensures) (c .before .outcome .given .1) in
+    let q = plan-frame .ensures in
+    let e =
+    second-says (s .bandwidth) (s .cc1 .now) (s .cc2 .now) (length (s .words .now)) q _ _ (c .before .before .before .before .enum-told .given .1)
+    (c .before .before .before .check-users .ensures) (c .before .outcome .given .1) in
     (rw e, rw e)
 
 enum-told-2 : tie.Need-enum-told-2
@@ -61,10 +67,14 @@ positions-of-requires c κs =
 
 array-share-prefix-row : tie.Need-array-share-prefix-row
 array-share-prefix-row c =
+    let plan-frame = c .before .before .before .before .before .before .before .before .plan-frame in
+    let enum-told = c .before .before .before .before .before .before .enum-told in
     let s = c .before .before .before .before .before .before .before .before .before .before .before .before .args in
-    let q = c .before .before .before .before .before .before .before .before .plan-frame .ensures in
-    let m = planned-made (s .bandwidth) (s .cc1 .now) (s .cc2 .now) _ q (c .before .before .before .before .before .before .enum-told .given .1) in
-    let l : length (c .before .before .before .before .before .before .before .before .plan-frame .result .row) ≡ 16 = ap length (m .the-row) ∙ sixteen (s .bandwidth) (s .cc1 .now) (s .cc2 .now) (common-pass (s .bandwidth) (s .cc1 .now) (s .cc2 .now) (m .common) .known) in
+    let q = plan-frame .ensures in
+    let m = planned-made (s .bandwidth) (s .cc1 .now) (s .cc2 .now) _ q (enum-told .given .1) in
+    let l : length (plan-frame .result .row) ≡ 16 =
+    ap length (m .the-row)
+    ∙ sixteen (s .bandwidth) (s .cc1 .now) (s .cc2 .now) (common-pass (s .bandwidth) (s .cc1 .now) (s .cc2 .now) (m .common) .known) in
     omega (arith, c .before .positions-of .ensures .1)
 
 slice-aggregate-put-frame : tie.Need-slice-aggregate-put-frame
@@ -77,26 +87,41 @@ slice-aggregate-put-frame c =
 
 put-frame-requires : tie.Need-put-frame-requires
 put-frame-requires c κs =
+    let plan-frame = c .before .before .before .before .before .before .before .before .before .plan-frame in
+    let enum-told = c .before .before .before .before .before .before .before .enum-told in
+    let check-users = c .before .before .before .before .before .before .check-users in
     let s = c .before .before .before .before .before .before .before .before .before .before .before .before .before .args in
-    let q = c .before .before .before .before .before .before .before .before .before .plan-frame .ensures in
-    let m = planned-made (s .bandwidth) (s .cc1 .now) (s .cc2 .now) _ q (c .before .before .before .before .before .before .before .enum-told .given .1) in
+    let q = plan-frame .ensures in
+    let m = planned-made (s .bandwidth) (s .cc1 .now) (s .cc2 .now) _ q (enum-told .given .1) in
     let f = front (s .bandwidth) (s .cc1 .now) (s .cc2 .now) _ _ (c .before .before .positions-of .ensures .0) (m .the-row) in
-    let e = second-says (s .bandwidth) (s .cc1 .now) (s .cc2 .now) (length (s .words .now)) q _ _ (c .before .before .before .before .before .before .before .enum-told .given .1) (c .before .before .before .before .before .before .check-users .ensures) (c .before .before .before .before .enum-told2 .given .1) in
-    let k = common-pass (s .bandwidth) (s .cc1 .now) (s .cc2 .now) (m .common) .known in
-    (reading-pass (s .bandwidth) (s .cc1 .now) (s .cc2 .now) (length (s .words .now)) e .room-enough, k, f, formats (s .bandwidth) (s .cc1 .now) (s .cc2 .now) _ m f, m .count1, m .count2)
+    let e =
+    second-says (s .bandwidth) (s .cc1 .now) (s .cc2 .now) (length (s .words .now)) q _ _ (enum-told .given .1) (check-users .ensures)
+    (c .before .before .before .before .enum-told2 .given .1) in
+    let k = common-pass (s .bandwidth) (s .cc1 .now) (s .cc2 .now) (m .common) .known in (
+      reading-pass (s .bandwidth) (s .cc1 .now) (s .cc2 .now) (length (s .words .now)) e .room-enough,
+      k,
+      f,
+      formats (s .bandwidth) (s .cc1 .now) (s .cc2 .now) _ m f,
+      m .count1,
+      m .count2,
+    )
 
 add-t15 : tie.Need-add-t15
 add-t15 c =
+    let plan-frame = c .before .before .before .before .before .before .before .before .before .before .before .before .plan-frame in
+    let enum-told = c .before .before .before .before .before .before .before .before .before .before .enum-told in
     let s = c .before .before .before .before .before .before .before .before .before .before .before .before .before .before .before .before .args in
-    let q = c .before .before .before .before .before .before .before .before .before .before .before .before .plan-frame .ensures in
-    let m = planned-made (s .bandwidth) (s .cc1 .now) (s .cc2 .now) _ q (c .before .before .before .before .before .before .before .before .before .before .enum-told .given .1) in
+    let q = plan-frame .ensures in
+    let m = planned-made (s .bandwidth) (s .cc1 .now) (s .cc2 .now) _ q (enum-told .given .1) in
     omega (arith, m .most1, m .most2)
 
 add-t21 : tie.Need-add-t21
 add-t21 c =
+    let plan-frame = c .before .before .before .before .before .before .before .before .before .before .before .before .plan-frame in
+    let enum-told = c .before .before .before .before .before .before .before .before .before .before .enum-told in
     let s = c .before .before .before .before .before .before .before .before .before .before .before .before .before .before .before .before .args in
-    let q = c .before .before .before .before .before .before .before .before .before .before .before .before .plan-frame .ensures in
-    let m = planned-made (s .bandwidth) (s .cc1 .now) (s .cc2 .now) _ q (c .before .before .before .before .before .before .before .before .before .before .enum-told .given .1) in
+    let q = plan-frame .ensures in
+    let m = planned-made (s .bandwidth) (s .cc1 .now) (s .cc2 .now) _ q (enum-told .given .1) in
     omega (arith, m .most1, m .most2)
 
 same-length : tie.Need-same-length
@@ -105,11 +130,18 @@ same-length c = search needs
 returns-3 : tie.Need-returns-3
 unfolding answerOf wordsAfter wordsOf
 returns-3 c =
+    let plan-frame = c .before .before .before .before .before .before .before .before .before .before .before .before .plan-frame in
+    let enum-told = c .before .before .before .before .before .before .before .before .before .before .enum-told in
+    let check-users = c .before .before .before .before .before .before .before .before .before .check-users in
+    let enum-told2 = c .before .before .before .before .before .before .before .enum-told2 in
+    let positions-of = c .before .before .before .before .before .positions-of in
     let s = c .before .before .before .before .before .before .before .before .before .before .before .before .before .before .before .before .args in
-    let q = c .before .before .before .before .before .before .before .before .before .before .before .before .plan-frame .ensures in
-    let m = planned-made (s .bandwidth) (s .cc1 .now) (s .cc2 .now) _ q (c .before .before .before .before .before .before .before .before .before .before .enum-told .given .1) in
-    let f = front (s .bandwidth) (s .cc1 .now) (s .cc2 .now) _ _ (c .before .before .before .before .before .positions-of .ensures .0) (m .the-row) in
-    let e = second-says (s .bandwidth) (s .cc1 .now) (s .cc2 .now) (length (s .words .now)) q _ _ (c .before .before .before .before .before .before .before .before .before .before .enum-told .given .1) (c .before .before .before .before .before .before .before .before .before .check-users .ensures) (c .before .before .before .before .before .before .before .enum-told2 .given .1) in
+    let q = plan-frame .ensures in
+    let m = planned-made (s .bandwidth) (s .cc1 .now) (s .cc2 .now) _ q (enum-told .given .1) in
+    let f = front (s .bandwidth) (s .cc1 .now) (s .cc2 .now) _ _ (positions-of .ensures .0) (m .the-row) in
+    let e =
+    second-says (s .bandwidth) (s .cc1 .now) (s .cc2 .now) (length (s .words .now)) q _ _ (enum-told .given .1) (check-users .ensures)
+    (enum-told2 .given .1) in
     let need = counted (s .bandwidth) (s .cc1 .now) (s .cc2 .now) _ _ (m .count1) (m .count2) in
     (rw (e, need), rw e (c .before .before .put-frame .ensures ∙ rw f))
 

@@ -44,7 +44,11 @@ loop-less : tie.Need-loop-less Inv-loop μ-loop
 loop-less c = search needs
 
 loop-again : tie.Need-loop-again Inv-loop μ-loop
-loop-again c = (omega arith, entered-more _ _ _ _ _ _ (rw (← c .before .user-bit .ensures) (c .field-at .ensures)) (omega arith) (c .before .before .before .loop .inv .1))
+loop-again c = (
+  omega arith,
+  entered-more _ _ _ _ _ _ (rw (← c .before .user-bit .ensures) (c .field-at .ensures)) (omega arith)
+      (c .before .before .before .loop .inv .1),
+)
 
 returns : tie.Need-returns Inv-loop μ-loop
 returns c = let e : c .before .loop .i ≡ c .before .before .before .args .n = omega arith in rw (← e) (c .before .loop .inv .1)

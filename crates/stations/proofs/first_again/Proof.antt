@@ -46,7 +46,10 @@ returns c =
     let l = c .before .before .before .before .loop in (
       omega arith,
       sym (least-stop (repeated (stationIn (a .ids .now))) (l .j) (a .t) (omega arith) (l .inv .2)
-          (sym (seen (stationIn (a .ids .now)) (l .marks) (l .j) (stationIn (a .ids .now) (l .j)) _ refl (station-lt (a .ids .now) (l .j)) (l .inv .3) (c .before .is-marked .ensures)) ∙ c .if1 .taken)),
+          (sym
+          (seen (stationIn (a .ids .now)) (l .marks) (l .j) (stationIn (a .ids .now) (l .j)) _ refl (station-lt (a .ids .now) (l .j)) (l .inv .3)
+          (c .before .is-marked .ensures))
+          ∙ c .if1 .taken)),
     )
 
 with-mark-requires : tie.Need-with-mark-requires Inv-loop μ-loop
@@ -73,12 +76,17 @@ loop-again c =
       search needs,
       simp length-set (l .inv .1),
       least-step (repeated (stationIn (a .ids .now))) (l .j) (l .inv .2)
-          (sym (seen (stationIn (a .ids .now)) (l .marks) (l .j) x _ refl (station-lt (a .ids .now) (l .j)) (l .inv .3) (c .before .before .is-marked .ensures)) ∙ c .before .if1 .left),
+          (sym
+          (seen (stationIn (a .ids .now)) (l .marks) (l .j) x _ refl (station-lt (a .ids .now) (l .j)) (l .inv .3)
+          (c .before .before .is-marked .ensures))
+          ∙ c .before .if1 .left),
       rw (c .with-mark .ensures) (marked-more (stationIn (a .ids .now)) (l .marks) (l .j) x refl (station-lt (a .ids .now) (l .j)) (l .inv .1) (l .inv .3)),
     )
 
 returns-2 : tie.Need-returns-2 Inv-loop μ-loop
-returns-2 c = (omega arith, sym (least-end (repeated (stationIn (c .before .before .args .ids .now))) (c .before .loop .j) (c .before .before .args .t) (omega arith) (c .before .loop .inv .2)))
+returns-2 c =
+    let a = c .before .before .args in
+    (omega arith, sym (least-end (repeated (stationIn (a .ids .now))) (c .before .loop .j) (a .t) (omega arith) (c .before .loop .inv .2)))
 
 pub first-again-spec : {M : Type 1} → statement M
 first-again-spec =

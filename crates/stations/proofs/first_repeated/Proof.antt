@@ -38,8 +38,12 @@ returns-2 : tie.Need-returns-2
 unfolding firstRepeated
 returns-2 c =
     let a = c .before .before .before .before .before .before .before .args in
-    let id = stationOf (a .bw) (a .a .now) (a .b .now) (a .n) in
-    (sym (sym (repeat-in id _ (a .n + a .m) (station-low (a .bw) (a .a .now) (a .b .now) (a .n)) (c .before .before .before .stations-of .ensures .1)) ∙ none-again _ (a .n + a .m) (sym (c .before .any-again .ensures) ∙ not-true _ (c .if2 .taken))), omega arith)
+    let id = stationOf (a .bw) (a .a .now) (a .b .now) (a .n) in (
+      sym
+          (sym (repeat-in id _ (a .n + a .m) (station-low (a .bw) (a .a .now) (a .b .now) (a .n)) (c .before .before .before .stations-of .ensures .1))
+          ∙ none-again _ (a .n + a .m) (sym (c .before .any-again .ensures) ∙ not-true _ (c .if2 .taken))),
+      omega arith,
+    )
 
 add-first-again : tie.Need-add-first-again
 add-first-again c = search needs
@@ -50,8 +54,13 @@ first-again-requires c κs = search needs
 returns-3 : tie.Need-returns-3
 unfolding firstRepeated
 returns-3 c =
-    let a = c .before .before .before .before .before .before .before .before .before .args in
-    (c .first-again .ensures .1 ∙ repeat-in (stationOf (a .bw) (a .a .now) (a .b .now) (a .n)) _ (a .n + a .m) (station-low (a .bw) (a .a .now) (a .b .now) (a .n)) (c .before .before .before .before .before .stations-of .ensures .1), omega arith)
+    let stations-of = c .before .before .before .before .before .stations-of in
+    let a = c .before .before .before .before .before .before .before .before .before .args in (
+      c .first-again .ensures .1
+          ∙ repeat-in (stationOf (a .bw) (a .a .now) (a .b .now) (a .n)) _ (a .n + a .m) (station-low (a .bw) (a .a .now) (a .b .now) (a .n))
+          (stations-of .ensures .1),
+      omega arith,
+    )
 
 pub first-repeated-spec : {M : Type 1} → statement M
 first-repeated-spec =

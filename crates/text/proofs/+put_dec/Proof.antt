@@ -74,7 +74,12 @@ put-dec-put-digit-requires : (t : ℕ) → put-dec-lts.Need-put-digit-requires (
   put-digit-reads.Asked,
   put-digit-reads.Learnt,
 ) (put-dec-at t) put-dec.Post
-put-dec-put-digit-requires t c κs = omega (arith, dec-fit 18 (c .before .before .before .before .before .before .before .args .n / 10) (omega arith), c .before .before .before .put-dec .ensures .0 .next)
+put-dec-put-digit-requires t c κs =
+    omega (
+      arith,
+      dec-fit 18 (c .before .before .before .before .before .before .before .args .n / 10) (omega arith),
+      c .before .before .before .put-dec .ensures .0 .next,
+    )
 
 put-dec-same-length-2 : (t : ℕ) → put-dec-lts.Need-same-length-2 (
   put-four-reads.Asked,
@@ -95,7 +100,9 @@ put-dec-returns-2 : (t : ℕ) → put-dec-lts.Need-returns-2 (
   put-digit-reads.Learnt,
 ) (put-dec-at t) put-dec.Post
 put-dec-returns-2 t c =
-    let w = dec-more (c .before .before .before .before .before .before .before .before .before .before .args .n) (omega arith) (omega arith) (c .before .before .before .before .before .before .put-dec .ensures .0) (c .before .before .put-digit .ensures) in
+    let w =
+    dec-more (c .before .before .before .before .before .before .before .before .before .before .args .n) (omega arith) (omega arith)
+    (c .before .before .before .before .before .before .put-dec .ensures .0) (c .before .before .put-digit .ensures) in
     (w, omega (arith, dec-short (c .before .before .before .before .before .before .before .before .before .before .args .n), w .next))
 
 pub +put-dec-spec : {M : Type 1} → statement M

@@ -26,19 +26,27 @@ same-length : tie.Need-same-length
 same-length c = search needs
 
 returns-2 : tie.Need-returns-2
-returns-2 c = digit-one 20 (c .before .before .before .before .before .before .before .args .n) (λ (e : 20 ≡ 0). omega arith) (c .before .before .before .before .if2 .taken) (c .before .before .put-digit .ensures)
+returns-2 c =
+    let a = c .before .before .before .before .before .before .before .args in
+    digit-one 20 (a .n) (λ (e : 20 ≡ 0). omega arith) (c .before .before .before .before .if2 .taken) (c .before .before .put-digit .ensures)
 
 put-three-requires : tie.Need-put-three-requires
 put-three-requires c κs = search needs
 
 put-digit-requires-2 : tie.Need-put-digit-requires-2
-put-digit-requires-2 c κs = omega (arith, decs-short 19 (c .before .before .before .before .before .before .before .before .args .n / 10), c .before .before .before .put-three .ensures .next)
+put-digit-requires-2 c κs =
+    let a = c .before .before .before .before .before .before .before .before .args in
+    omega (arith, decs-short 19 (a .n / 10), c .before .before .before .put-three .ensures .next)
 
 same-length-2 : tie.Need-same-length-2
 same-length-2 c = search needs
 
 returns-3 : tie.Need-returns-3
-returns-3 c = digit-more 20 (c .before .before .before .before .before .before .before .before .before .before .before .args .n) (λ (e : 20 ≡ 0). omega arith) (c .before .before .before .before .before .before .before .before .if2 .left) (c .before .before .before .before .before .before .put-three .ensures) (c .before .before .put-digit2 .ensures)
+returns-3 c =
+    let a = c .before .before .before .before .before .before .before .before .before .before .before .args in
+    let if2 = c .before .before .before .before .before .before .before .before .if2 in
+    let put-three = c .before .before .before .before .before .before .put-three in
+    digit-more 20 (a .n) (λ (e : 20 ≡ 0). omega arith) (if2 .left) (put-three .ensures) (c .before .before .put-digit2 .ensures)
 
 pub put-four-spec : {M : Type 1} → statement M
 put-four-spec =

@@ -21,7 +21,10 @@ same-length : tie.Need-same-length
 same-length c = search needs
 
 returns : tie.Need-returns
-returns c = (rw (signed-low _ _ (c .before .before .before .before .before .before .before .before .if1 .taken)) (after (c .before .before .before .before .before .before .put .ensures) (c .before .before .put-dec .ensures .0)), omega arith)
+returns c =
+    let if1 = c .before .before .before .before .before .before .before .before .if1 in
+    let put = c .before .before .before .before .before .before .put in
+    (rw (signed-low _ _ (if1 .taken)) (after (put .ensures) (c .before .before .put-dec .ensures .0)), omega arith)
 
 same-length-2 : tie.Need-same-length-2
 same-length-2 c = search needs

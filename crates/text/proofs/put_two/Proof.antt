@@ -14,7 +14,9 @@ same-length : tie.Need-same-length
 same-length c = search needs
 
 returns : tie.Need-returns
-returns c = digit-one 18 (c .before .before .before .before .before .before .args .n) (λ (e : 18 ≡ 0). omega arith) (c .before .before .before .before .if1 .taken) (c .before .before .put-digit .ensures)
+returns c =
+    let a = c .before .before .before .before .before .before .args in
+    digit-one 18 (a .n) (λ (e : 18 ≡ 0). omega arith) (c .before .before .before .before .if1 .taken) (c .before .before .put-digit .ensures)
 
 cast-put : tie.Need-cast-put
 cast-put c = search needs
@@ -32,7 +34,12 @@ same-length-2 : tie.Need-same-length-2
 same-length-2 c = search needs
 
 returns-2 : tie.Need-returns-2
-returns-2 c = digit-more 18 (c .before .before .before .before .before .before .before .before .before .before .args .n) (λ (e : 18 ≡ 0). omega arith) (c .before .before .before .before .before .before .before .before .if1 .left) (digit-alone 16 (c .before .before .before .before .before .before .before .before .before .before .args .n / 10) (omega arith) (c .before .before .before .before .before .before .put .ensures)) (c .before .before .put-digit2 .ensures)
+returns-2 c =
+    let a = c .before .before .before .before .before .before .before .before .before .before .args in
+    let if1 = c .before .before .before .before .before .before .before .before .if1 in
+    let put = c .before .before .before .before .before .before .put in
+    digit-more 18 (a .n) (λ (e : 18 ≡ 0). omega arith) (if1 .left) (digit-alone 16 (a .n / 10) (omega arith) (put .ensures))
+    (c .before .before .put-digit2 .ensures)
 
 pub put-two-spec : {M : Type 1} → statement M
 put-two-spec =

@@ -70,8 +70,22 @@ same-length c = simp length-set (omega arith)
 
 returns : tie.Need-returns
 returns c =
+    let known-word = c .before .before .before .before .before .before .before .before .known-word in
+    let overflow-word = c .before .before .before .before .before .before .before .overflow-word in
+    let first-word = c .before .before .before .before .before .before .first-word in
+    let triple-word = c .before .before .before .before .before .triple-word in
     let a = c .before .before .before .before .before .before .before .before .before .before .before .args in
-    rw (c .second-word .ensures, c .before .triple-word5 .ensures, c .before .before .triple-word4 .ensures, c .before .before .before .triple-word3 .ensures, c .before .before .before .before .triple-word2 .ensures, c .before .before .before .before .before .triple-word .ensures, c .before .before .before .before .before .before .first-word .ensures, c .before .before .before .before .before .before .before .overflow-word .ensures, c .before .before .before .before .before .before .before .before .known-word .ensures)
+    rw (
+      c .second-word .ensures,
+      c .before .triple-word5 .ensures,
+      c .before .before .triple-word4 .ensures,
+      c .before .before .before .triple-word3 .ensures,
+      c .before .before .before .before .triple-word2 .ensures,
+      triple-word .ensures,
+      first-word .ensures,
+      overflow-word .ensures,
+      known-word .ensures,
+    )
     (sets-eq (header (a .bw) (a .v) (a .t) (a .t2) (at (a .row .now)) (length (a .row .now))) (a .words .now) 0 (omega arith))
 
 pub put-header-spec : {M : Type 1} → statement M

@@ -36,7 +36,9 @@ returns : tie.Need-returns Inv-loop μ-loop
 returns c =
     let a = c .before .before .before .before .before .args in
     let l = c .before .before .before .before .loop in
-    sym (least-stop (unlike (a .v .now) (a .w .now)) (l .i) (length (a .v .now)) (omega arith) (l .inv .1) (unlike-yes (a .v .now) (a .w .now) (l .i) (c .if1 .taken)))
+    sym
+    (least-stop (unlike (a .v .now) (a .w .now)) (l .i) (length (a .v .now)) (omega arith) (l .inv .1)
+    (unlike-yes (a .v .now) (a .w .now) (l .i) (c .if1 .taken)))
 
 add-i : tie.Need-add-i Inv-loop μ-loop
 add-i c = search needs

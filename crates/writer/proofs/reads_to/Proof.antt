@@ -36,7 +36,8 @@ slice-aggregate-same-words c =
     let r = c .before .before .before .before .read-sealed .ensures in
     let e = sym (ap (λ (x : Answer). x .number) (r .0)) ∙ c .before .if1 .left in
     let n = ap (λ (x : Answer). x .place) (r .0) ∙ back-count (a .bw) (a .a .now) (a .b .now) 154 (omega arith) e in
-    let t = words-front (a .bw) (a .a .now) (a .b .now) _ _ _ n (r .1 ∙ back-words (a .bw) (a .a .now) (a .b .now) 154 (omega arith) e (replicate 154 0) refl) in
+    let t =
+    words-front (a .bw) (a .a .now) (a .b .now) _ _ _ n (r .1 ∙ back-words (a .bw) (a .a .now) (a .b .now) 154 (omega arith) e (replicate 154 0) refl) in
     sym (ap length t ∙ words-length (a .bw) (a .a .now) (a .b .now) ∙ sym n)
 
 same-words-requires : tie.Need-same-words-requires
@@ -44,12 +45,15 @@ same-words-requires c κs = search needs
 
 returns-2 : tie.Need-returns-2
 returns-2 c =
+    let read-sealed = c .before .before .before .before .before .read-sealed in
     let a = c .before .before .before .before .before .before .before .before .before .before .args in
-    let r = c .before .before .before .before .before .read-sealed .ensures in
+    let r = read-sealed .ensures in
     let e = sym (ap (λ (x : Answer). x .number) (r .0)) ∙ c .before .before .if1 .left in
     let n = ap (λ (x : Answer). x .place) (r .0) ∙ back-count (a .bw) (a .a .now) (a .b .now) 154 (omega arith) e in
-    let t = words-front (a .bw) (a .a .now) (a .b .now) _ _ _ n (r .1 ∙ back-words (a .bw) (a .a .now) (a .b .now) 154 (omega arith) e (replicate 154 0) refl) in
-    reads-yes (a .bw) (a .a .now) (a .b .now) (a .words .now) _ _ _ refl (back-accepted (a .bw) (a .a .now) (a .b .now) 154 (omega arith) e) t (c .same-words .ensures)
+    let t =
+    words-front (a .bw) (a .a .now) (a .b .now) _ _ _ n (r .1 ∙ back-words (a .bw) (a .a .now) (a .b .now) 154 (omega arith) e (replicate 154 0) refl) in
+    reads-yes (a .bw) (a .a .now) (a .b .now) (a .words .now) _ _ _ refl (back-accepted (a .bw) (a .a .now) (a .b .now) 154 (omega arith) e) t
+    (c .same-words .ensures)
 
 pub reads-to-spec : {M : Type 1} → statement M
 reads-to-spec =

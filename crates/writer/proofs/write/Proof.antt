@@ -27,7 +27,10 @@ array-borrow-prefix-b : tie.Need-array-borrow-prefix-b
 array-borrow-prefix-b c = search needs
 
 slice-aggregate-write-in-2 : tie.Need-slice-aggregate-write-in-2
-slice-aggregate-write-in-2 c = room-length (c .before .before .before .before .bytes-in .result) (omega (arith, c .before .before .before .before .bytes-in .ensures .1, c .before .before .before .before .before .bytes-for .ensures .1))
+slice-aggregate-write-in-2 c =
+    let bytes-for = c .before .before .before .before .before .bytes-for in
+    let bytes-in = c .before .before .before .before .bytes-in in
+    room-length (bytes-in .result) (omega (arith, bytes-in .ensures .1, bytes-for .ensures .1))
 
 write-in-requires : tie.Need-write-in-requires
 write-in-requires c κs =
@@ -40,7 +43,8 @@ write-in-requires c κs =
       (n .ensures .1, m .ensures .1, n .ensures .0, m .ensures .0, e),
       (
         room-zeros (k .result) _ (k .ensures .1) (bytes-1 (a .bandwidth) (a .words .now) (k .result) e),
-        room-zeros (k2 .result) _ (omega (arith, k2 .ensures .1, k .ensures .1)) (bytes-2 (a .bandwidth) (a .words .now) (k .result) (k2 .result) e (k2 .ensures .0)),
+        room-zeros (k2 .result) _ (omega (arith, k2 .ensures .1, k .ensures .1))
+            (bytes-2 (a .bandwidth) (a .words .now) (k .result) (k2 .result) e (k2 .ensures .0)),
       ),
     )
 

@@ -29,8 +29,9 @@ fill-requires-2 c κs =
 
 judge-requires : tie.Need-judge-requires
 judge-requires c κs =
+    let fill = c .before .before .before .before .before .before .before .before .fill in
     let s = c .before .before .before .before .before .before .before .before .before .before .before .before .before .before .before in
-    let ea = candidate-is (s .args .bw) (s .args .words .now) 1 _ _ (s .pre .1 .0) (c .before .before .before .before .before .before .before .before .fill .ensures) in
+    let ea = candidate-is (s .args .bw) (s .args .words .now) 1 _ _ (s .pre .1 .0) (fill .ensures) in
     let eb = candidate-is (s .args .bw) (s .args .words .now) 2 _ _ (s .pre .1 .1) (c .before .before .before .before .fill2 .ensures) in
     rw (ea, eb) (candidate-sealed (s .args .bw) (s .args .words .now))
 
@@ -46,10 +47,16 @@ same-length-2 c = search needs
 returns : tie.Need-returns
 unfolding answerOf channelAfter
 returns c =
-    let s = c .before .before .before .before .before .before .before .before .before .before .before .before .before .before .before .before .before .before .before in
-    let ea = candidate-is (s .args .bw) (s .args .words .now) 1 _ _ (s .pre .1 .0) (c .before .before .before .before .before .before .before .before .before .before .before .before .fill .ensures) in
-    let eb = candidate-is (s .args .bw) (s .args .words .now) 2 _ _ (s .pre .1 .1) (c .before .before .before .before .before .before .before .before .fill2 .ensures) in
-    let e = writing-is (s .args .bw) (s .args .words .now) (length (s .args .cc1 .now)) (length (s .args .cc2 .now)) (s .args .need) _ _ _ ea eb (s .pre .0 .4) (c .before .before .before .judge .ensures) ∙ c .before .outcome .given .1 in
+    let fill = c .before .before .before .before .before .before .before .before .before .before .before .before .fill in
+    let fill2 = c .before .before .before .before .before .before .before .before .fill2 in
+    let s =
+    c .before .before .before .before .before .before .before .before .before .before .before .before .before .before .before .before .before .before .before in
+    let ea = candidate-is (s .args .bw) (s .args .words .now) 1 _ _ (s .pre .1 .0) (fill .ensures) in
+    let eb = candidate-is (s .args .bw) (s .args .words .now) 2 _ _ (s .pre .1 .1) (fill2 .ensures) in
+    let e =
+    writing-is (s .args .bw) (s .args .words .now) (length (s .args .cc1 .now)) (length (s .args .cc2 .now)) (s .args .need) _ _ _ ea eb (s .pre .0 .4)
+    (c .before .before .before .judge .ensures)
+    ∙ c .before .outcome .given .1 in
     (rw e, (rw e, rw e))
 
 enum-told : tie.Need-enum-told
@@ -57,18 +64,33 @@ enum-told c = search needs
 
 put-front-requires : tie.Need-put-front-requires
 put-front-requires c κs =
-    let s = c .before .before .before .before .before .before .before .before .before .before .before .before .before .before .before .before .before .before .before .before in
-    let ea = candidate-is (s .args .bw) (s .args .words .now) 1 _ _ (s .pre .1 .0) (c .before .before .before .before .before .before .before .before .before .before .before .before .before .fill .ensures) in
-    let eb = candidate-is (s .args .bw) (s .args .words .now) 2 _ _ (s .pre .1 .1) (c .before .before .before .before .before .before .before .before .before .fill2 .ensures) in
-    let e = writing-is (s .args .bw) (s .args .words .now) (length (s .args .cc1 .now)) (length (s .args .cc2 .now)) (s .args .need) _ _ _ ea eb (s .pre .0 .4) (c .before .before .before .before .judge .ensures) ∙ c .before .before .enum-told .given .1 in
+    let mid = c .before .before .before .before .before .before .before .before .before .before in
+    let fill = mid .before .before .before .fill in
+    let fill2 = c .before .before .before .before .before .before .before .before .before .fill2 in
+    let s = mid .before .before .before .before .before .before .before .before .before .before in
+    let ea = candidate-is (s .args .bw) (s .args .words .now) 1 _ _ (s .pre .1 .0) (fill .ensures) in
+    let eb = candidate-is (s .args .bw) (s .args .words .now) 2 _ _ (s .pre .1 .1) (fill2 .ensures) in
+    let e =
+    writing-is (s .args .bw) (s .args .words .now) (length (s .args .cc1 .now)) (length (s .args .cc2 .now)) (s .args .need) _ _ _ ea eb (s .pre .0 .4)
+    (c .before .before .before .before .judge .ensures)
+    ∙ c .before .before .enum-told .given .1 in
     rw ea (writing-room (s .args .bw) (s .args .words .now) (length (s .args .cc1 .now)) (length (s .args .cc2 .now)) e .room-1)
 
 put-front-requires-2 : tie.Need-put-front-requires-2
 put-front-requires-2 c κs =
-    let s = c .before .before .before .before .before .before .before .before .before .before .before .before .before .before .before .before .before .before .before .before .before .before .before .before .before in
-    let ea = candidate-is (s .args .bw) (s .args .words .now) 1 _ _ (s .pre .1 .0) (c .before .before .before .before .before .before .before .before .before .before .before .before .before .before .before .before .before .before .fill .ensures) in
-    let eb = candidate-is (s .args .bw) (s .args .words .now) 2 _ _ (s .pre .1 .1) (c .before .before .before .before .before .before .before .before .before .before .before .before .before .before .fill2 .ensures) in
-    let e = writing-is (s .args .bw) (s .args .words .now) (length (s .args .cc1 .now)) (length (s .args .cc2 .now)) (s .args .need) _ _ _ ea eb (s .pre .0 .4) (c .before .before .before .before .before .before .before .before .before .judge .ensures) ∙ c .before .before .before .before .before .before .before .enum-told .given .1 in
+    let mid = c .before .before .before .before .before .before .before .before .before .before in
+    let early = mid .before .before .before .before .before .before .before .before .before .before in
+    let fill = mid .before .before .before .before .before .before .before .before .fill in
+    let fill2 = mid .before .before .before .before .fill2 in
+    let judge = c .before .before .before .before .before .before .before .before .before .judge in
+    let enum-told = c .before .before .before .before .before .before .before .enum-told in
+    let s = early .before .before .before .before .before in
+    let ea = candidate-is (s .args .bw) (s .args .words .now) 1 _ _ (s .pre .1 .0) (fill .ensures) in
+    let eb = candidate-is (s .args .bw) (s .args .words .now) 2 _ _ (s .pre .1 .1) (fill2 .ensures) in
+    let e =
+    writing-is (s .args .bw) (s .args .words .now) (length (s .args .cc1 .now)) (length (s .args .cc2 .now)) (s .args .need) _ _ _ ea eb (s .pre .0 .4)
+    (judge .ensures)
+    ∙ enum-told .given .1 in
     rw eb (writing-room (s .args .bw) (s .args .words .now) (length (s .args .cc1 .now)) (length (s .args .cc2 .now)) e .room-2)
 
 same-length-3 : tie.Need-same-length-3
@@ -86,13 +108,23 @@ same-length-6 c = search needs
 returns-2 : tie.Need-returns-2
 unfolding answerOf channelAfter
 returns-2 c =
-    let s = c .before .before .before .before .before .before .before .before .before .before .before .before .before .before .before .before .before .before .before .before .before .before .before .before .before .before .before .before in
-    let ea = candidate-is (s .args .bw) (s .args .words .now) 1 _ _ (s .pre .1 .0) (c .before .before .before .before .before .before .before .before .before .before .before .before .before .before .before .before .before .before .before .before .before .fill .ensures) in
-    let eb = candidate-is (s .args .bw) (s .args .words .now) 2 _ _ (s .pre .1 .1) (c .before .before .before .before .before .before .before .before .before .before .before .before .before .before .before .before .before .fill2 .ensures) in
-    let e = writing-is (s .args .bw) (s .args .words .now) (length (s .args .cc1 .now)) (length (s .args .cc2 .now)) (s .args .need) _ _ _ ea eb (s .pre .0 .4) (c .before .before .before .before .before .before .before .before .before .before .before .before .judge .ensures) ∙ c .before .before .before .before .before .before .before .before .before .before .enum-told .given .1 in (
+    let mid = c .before .before .before .before .before .before .before .before .before .before in
+    let early = mid .before .before .before .before .before .before .before .before .before .before in
+    let fill = early .before .fill in
+    let fill2 = mid .before .before .before .before .before .before .before .fill2 in
+    let judge = mid .before .before .judge in
+    let enum-told = mid .enum-told in
+    let put-front = c .before .before .before .before .before .before .before .put-front in
+    let s = early .before .before .before .before .before .before .before .before in
+    let ea = candidate-is (s .args .bw) (s .args .words .now) 1 _ _ (s .pre .1 .0) (fill .ensures) in
+    let eb = candidate-is (s .args .bw) (s .args .words .now) 2 _ _ (s .pre .1 .1) (fill2 .ensures) in
+    let e =
+    writing-is (s .args .bw) (s .args .words .now) (length (s .args .cc1 .now)) (length (s .args .cc2 .now)) (s .args .need) _ _ _ ea eb (s .pre .0 .4)
+    (judge .ensures)
+    ∙ enum-told .given .1 in (
       rw (e, s .pre .0 .4),
       (
-        rw e (c .before .before .before .before .before .before .before .put-front .ensures ∙ ap (λ (t : List ℕ). front t (s .args .cc1 .now)) ea),
+        rw e (put-front .ensures ∙ ap (λ (t : List ℕ). front t (s .args .cc1 .now)) ea),
         rw e (c .before .before .put-front2 .ensures ∙ ap (λ (t : List ℕ). front t (s .args .cc2 .now)) eb),
       ),
     )

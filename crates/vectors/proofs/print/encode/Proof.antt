@@ -1,8 +1,7 @@
 -- `vectors::print::encode` meets its contract: the buffer keeps its length, and what it counts lies within it.
 use Prim.Native.Nat.{_≤_, _*_, _-_}
 use mathlib.Core.Path.{_≡_, sym}
-use lib.ListN.{length}
-use lib.ListN.{length-set}
+use lib.ListN.{length, length-set}
 use lib.Seq.{length-take-le}
 use native.Mathlib.Omega.{arith}
 use borrow.Author.Needs.{needs}
