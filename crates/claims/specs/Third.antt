@@ -39,7 +39,7 @@ abbrev pub NotPunctured : (ℕ → ℕ) → (ℕ → ℕ) → ℕ → Type 0
 NotPunctured o row n =
     (i q : ℕ) (k : ℤ) → i < length (recordsFrom o row n) → q < n → row q ≡ 26 → Punctured n q k → Tone o row n i k → ⊥
 
--- each has as many subcarriers as its name says, so none is apart for want of them, in rising maximal runs
+-- each has as many subcarriers as its name says, in rising maximal runs: none is apart for want of them
 abbrev pub RightTones : (ℕ → ℕ) → (ℕ → ℕ) → ℕ → Type 0
 RightTones o row n = (i : ℕ) → i < length (recordsFrom o row n) → RightRecord n (getD (recordsFrom o row n) i blank)
 
