@@ -24,7 +24,7 @@ use Rattle.resource.specs.declared.Resource.the-variants.{Single, Joined}
 use Rattle.resource.specs.Names.{numberOf}
 use Rattle.resource.specs.declared.Piece.the-variants.{Part}
 use Rattle.resource.specs.Index.{indexOf, resourceAt, positionOf, placeOf}
-use Rattle.resource.specs.Tones.{Span, none, tonesAt, tonesLeavingOut, tonesOf}
+use Rattle.resource.specs.Tones.{none, tonesAt, tonesOf}
 use Rattle.resource.specs.Values.{within, carried, pieces, fieldsOf, divides, pieceFields, ownPieces}
 use Rattle.resource.proofs.Few.{tones-few}
 use Rattle.resource.proofs.Test.{both-left, both-right, wherever, met, below, every-below}
@@ -220,7 +220,8 @@ module _ (b p : ℕ) (h : b < 5) (l : p < 2 ^ b) where
   zero-most v d =
       leb→le (most (2 ^ b) p v) (most (2 ^ b) p 0)
       (met (divides v) (leb (most (2 ^ b) p v) (most (2 ^ b) p 0))
-      (every-below (λ v. wherever (divides v) (leb (most (2 ^ b) p v) (most (2 ^ b) p 0))) 51 (both-right (leb 456 (most (2 ^ b) p 0)) _ here) v (divided-low v d))
+      (every-below (λ v. wherever (divides v) (leb (most (2 ^ b) p v) (most (2 ^ b) p 0))) 51
+      (both-right (leb 456 (most (2 ^ b) p 0)) _ here) v (divided-low v d))
       (rw d tt))
 
 one-listed : (c p v : ℕ) → divides v ≡ false → listed c p v ≤ 1

@@ -1,14 +1,12 @@
 -- The subcarriers that the program finds for the resources of an accepted frame are 01's, so what it writes is the frame's listing.
 use mathlib.Core.Path.{_≡_, sym, ap, subst}
-use mathlib.Core.List.{List, map}
-use Prim.Native.Nat.{ℕ, _+_, _^_, _<_}
+use mathlib.Core.List.{List}
+use Prim.Native.Nat.{ℕ, _+_, _<_}
 use native.Mathlib.Omega.{arith}
 use lib.ListN.{length, getD}
 use Rattle.answer.specs.Lists.{at}
 use Rattle.answer.specs.declared.Outcome.the-variants.{Pass}
-use Rattle.text.specs.Text.{upto}
 use Rattle.text.proofs.Laws.{upto-cong}
-use Rattle.resource.specs.Tones.{Span}
 use Rattle.plan.specs.Signals.{Signals}
 use Rattle.plan.specs.Engine.{onlyPlan}
 use Rattle.records.specs.Records.{recordsFrom, blank}

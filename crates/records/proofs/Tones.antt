@@ -1,9 +1,9 @@
 -- No two resources of a plan share a subcarrier, none has one in a punctured position, each lies inside the channel, and has as many as its
 -- name says, in rising maximal runs: 01's spans, for every bandwidth and every plan that signals the row.
-use mathlib.Core.Path.{_≡_, sym, subst}
+use mathlib.Core.Path.{_≡_, subst}
 use mathlib.Core.Logic.{_≢_}
 use mathlib.Core.List.{map}
-use Prim.Native.Nat.{ℕ, _*_, _/_, _%_, _^_, _<_}
+use Prim.Native.Nat.{ℕ, _*_, _^_, _<_}
 use native.Mathlib.Omega.{arith}
 use lib.IntN.{ℤ, pos}
 use lib.ListN.{length}
@@ -11,7 +11,7 @@ use lib.Signed.{_≤ℤ_, _<ℤ_}
 use Rattle.resource.specs.declared.Size.the-variants.{S242}
 use Rattle.resource.specs.declared.Piece.the-variants.{Part}
 use Rattle.resource.specs.declared.Resource.{Resource}
-use Rattle.resource.specs.Index.{resourceAt, isPiece, fromPositions}
+use Rattle.resource.specs.Index.{isPiece, fromPositions}
 use Rattle.resource.specs.Tones.{minus, tonesOf, Among}
 use Rattle.resource.specs.Engine.{signed, spanOf, runsOf}
 use Rattle.resource.proofs.Edge.{In, among-in, among-counted, inside-edges}

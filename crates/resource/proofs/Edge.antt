@@ -9,7 +9,7 @@ use native.Mathlib.Omega.{arith}
 use borrow.Author.Tests.{lt-ltb, le-ltb}
 use lib.Dec.{T, leb→le, le→leb, lt→ltb}
 use lib.IntN.{ℤ, pos, negsuc, subℕ, _-ℤ_}
-use lib.Signed.{leZ, ltZ, _≤ℤ_, _<ℤ_}
+use lib.Signed.{leZ, _≤ℤ_, _<ℤ_}
 use Rattle.resource.specs.declared.Run.{Run}
 use Rattle.resource.specs.Tones.{minus, Among}
 use Rattle.resource.specs.Engine.{signed, spanOf}

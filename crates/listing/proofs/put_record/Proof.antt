@@ -1,5 +1,4 @@
 -- `listing::put_record` meets its contract.
-use native.Mathlib.Omega.{arith}
 use Rattle.resource.specs.Engine.{runsOf}
 use Rattle.resource.proofs.Held.{runs-few, held-few}
 use Rattle.lines.proofs.Held.{held-spans}
