@@ -202,9 +202,9 @@ fn print_plan(row: &[u16], kinds: &[u16; 16])
     });
     print_records(row, kinds);
     text(b" ;");
-    let first = records::owners_of(kinds, &before, row, 0);
+    let first = records::owners_of(kinds, &before, row, 1);
     print_owners(&first);
-    let second = records::owners_of(kinds, &before, row, 1);
+    let second = records::owners_of(kinds, &before, row, 2);
     print_owners(&second);
 }
 
