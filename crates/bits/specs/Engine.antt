@@ -1,4 +1,4 @@
--- Engine: how a field is merged into a window. The contracts of the code cite it; nobody has to believe it: `proofs/Writes.antt`.
+-- Engine: how a field is merged into a window. The contracts of the code cite it; nobody has to believe it: `proofs/Stores.antt`.
 use Prim.Native.Nat.{ℕ, _+_, _*_, _/_, _%_, _^_}
 
 -- ---- one byte

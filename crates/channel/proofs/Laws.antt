@@ -91,6 +91,13 @@ common-le bw = go (hasSecond bw)
     go true = omega (arith, firsts-le bw, seconds-le bw)
     go false = omega (arith, firsts-le bw)
 
+-- 257 bytes hold any channel's blocks
+pub end-le : (bw n : ℕ) → n ≤ 72 → endOf bw n ≤ 2053
+unfolding endOf
+end-le bw n h = omega (arith, common-le bw)
+
+-- ---- positions and their subfields
+
 -- 20 MHz has one position, and channel 1 its subfield
 pub one-position : positions 0 ≡ 1
 unfolding positions
@@ -217,8 +224,3 @@ row-lt bw a b p = go (eqb (p % 2) 0)
 pub row16-front : (bw : ℕ) (a b : List ℕ) → take (positions bw) (rowIn16 bw a b) ≡ row bw a b
 unfolding rowIn16 row
 row16-front bw a b = take-filled (rowAt bw a b) (positions bw) (replicate 16 0)
-
--- 257 bytes hold any channel's blocks
-pub end-le : (bw n : ℕ) → n ≤ 72 → endOf bw n ≤ 2053
-unfolding endOf
-end-le bw n h = omega (arith, common-le bw)
