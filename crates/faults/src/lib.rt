@@ -89,7 +89,7 @@ pub fn overflow_differs(bw: u32, a: &[u8], b: &[u8]) -> Outcome
     answer::or_else(first, answer::refuse_if(k < 17, 5, 2, k))
 }
 
-fn is_foreign(bw: u32, s: &[u8], k: usize) -> bool
+fn is_uncarried(bw: u32, s: &[u8], k: usize) -> bool
     requires { ⌜ k ≤ 8 ⌝ }
     ensures { λ r. ⌜ r ≡ uncarried bw (now (s .entry)) k ⌝ }
 {
@@ -103,7 +103,7 @@ fn first_uncarried(bw: u32, channel: u32, s: &[u8]) -> usize
     let n = channel::subfields_of(bw, channel);
     let mut k: usize = 0;
     while k < n {
-        if is_foreign(bw, s, k) {
+        if is_uncarried(bw, s, k) {
             return k;
         }
         k += 1;

@@ -22,8 +22,8 @@ subfields-of-requires c κs = search needs
 loop-holds : tie.Need-loop-holds Inv-loop μ-loop
 loop-holds c = (search needs, least-start _)
 
-is-foreign-requires : tie.Need-is-foreign-requires Inv-loop μ-loop
-is-foreign-requires c κs = search needs
+is-uncarried-requires : tie.Need-is-uncarried-requires Inv-loop μ-loop
+is-uncarried-requires c κs = search needs
 
 returns : tie.Need-returns Inv-loop μ-loop
 unfolding firstUncarried
@@ -32,7 +32,7 @@ returns c =
     let l = c .before .before .before .loop in (
       sym
           (least-stop (uncarried (a .bw) (a .s .now)) (l .k) (subfieldsIn (a .bw) (a .channel)) (omega arith) (l .inv .1)
-          (sym (c .before .is-foreign .ensures) ∙ c .if1 .taken)),
+          (sym (c .before .is-uncarried .ensures) ∙ c .if1 .taken)),
       omega arith,
     )
 
@@ -45,7 +45,7 @@ loop-less c = search needs
 loop-again : tie.Need-loop-again Inv-loop μ-loop
 loop-again c =
     let l = c .before .before .before .loop in
-    (search needs, least-step _ _ (l .inv .1) (sym (c .before .is-foreign .ensures) ∙ c .if1 .left))
+    (search needs, least-step _ _ (l .inv .1) (sym (c .before .is-uncarried .ensures) ∙ c .if1 .left))
 
 returns-2 : tie.Need-returns-2 Inv-loop μ-loop
 unfolding firstUncarried
@@ -62,7 +62,7 @@ first-uncarried-spec =
     μ-loop
     subfields-of-requires
     loop-holds
-    is-foreign-requires
+    is-uncarried-requires
     returns
     add-k
     loop-less

@@ -1,8 +1,8 @@
--- `faults::is_foreign` meets its contract.
+-- `faults::is_uncarried` meets its contract.
 use Rattle.faults.specs.Checks.{uncarried}
 use borrow.Author.Needs.{needs}
-use Rattle.faults.proofs.is_foreign.Statement.{statement}
-use Rattle.faults.proofs.is_foreign.Tie as tie
+use Rattle.faults.proofs.is_uncarried.Statement.{statement}
+use Rattle.faults.proofs.is_uncarried.Tie as tie
 
 value-of-requires : tie.Need-value-of-requires
 value-of-requires c κs = search needs
@@ -14,5 +14,5 @@ returns : tie.Need-returns
 unfolding uncarried
 returns c = cc
 
-pub is-foreign-spec : {M : Type 1} → statement M
-is-foreign-spec = tie.close (tie.spec value-of-requires is-carried-requires returns)
+pub is-uncarried-spec : {M : Type 1} → statement M
+is-uncarried-spec = tie.close (tie.spec value-of-requires is-carried-requires returns)
