@@ -23,7 +23,7 @@ use Rattle.plan.specs.Signals.{Place, Fits, Signals}
 use Rattle.plan.specs.Fields.{share, fieldsIn, total, shared}
 use Rattle.plan.specs.Answers.{Laid}
 use Rattle.plan.specs.Engine.{planOutcome}
-use Rattle.plan.proofs.Table.{equal-or}
+use Rattle.plan.proofs.Tests.{equal-or}
 use Rattle.plan.proofs.Laid.{outcome-laid}
 use Rattle.plan.proofs.Demand.{accepted-plan, only-plan}
 use Rattle.records.specs.declared.Record.{Record}
@@ -33,7 +33,10 @@ use Rattle.records.specs.Engine.{lowest, ownerOf}
 use Rattle.records.proofs.Listing.{recordAt, Located, located-record, own-record, larger-record}
 use Rattle.records.proofs.Lead.{lowest-only, itself-place}
 use Rattle.records.proofs.Owners.{before-next, before-rise, in-own, one-owner, owner-owns}
-use Rattle.records.proofs.Shares.{low-share, share-fields, own-fieldsIn, home-piece, home-whole, owner-listed}
+use Rattle.records.proofs.Gives.{low-share, share-fields}
+use Rattle.records.proofs.Spans.{own-fieldsIn}
+use Rattle.records.proofs.Homes.{home-piece, home-whole}
+use Rattle.records.proofs.Shares.{owner-listed}
 use Rattle.channel.specs.Layout.{row, count, userAt}
 use Rattle.words.specs.Words.{userWord}
 use Rattle.halves.specs.Table.{outcome11, outcome6}

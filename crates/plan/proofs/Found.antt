@@ -11,9 +11,13 @@ use Rattle.resource.proofs.Test.{below-or}
 use Rattle.plan.specs.Kinds.{family, span, takes, blankAt, mustName}
 use Rattle.plan.specs.Signals.{Place, Fits, own, blank, smaller, Signals}
 use Rattle.plan.specs.Engine.{firstNamed, tells, choose, onlyPlan, fitting}
-use Rattle.plan.proofs.Tests.{decided, refuted}
-use Rattle.plan.proofs.Table.{by-test, not-both, span-0, span-1, span-2, named-high, family-high, span-four, place-segment, leaf}
-use Rattle.plan.proofs.Only.{First, first-view, Told, tells-told, Chosen, left, joined, whole, half, alone, chosen, only-known, Ends}
+use Rattle.plan.proofs.Tests.{decided, refuted, by-test, not-both}
+use Rattle.plan.proofs.Table.{span-0, span-1, span-2, named-high, family-high, span-four}
+use Rattle.plan.proofs.Places.{place-segment}
+use Rattle.plan.proofs.Fitting.{leaf}
+use Rattle.plan.proofs.Named.{First, first-view}
+use Rattle.plan.proofs.Chosen.{Told, tells-told, Chosen, left, joined, whole, half, alone, chosen}
+use Rattle.plan.proofs.Only.{only-known, Ends}
 
 -- ---- the test of `Fits`
 pub fitting-fits : (c p v : ℕ) → fitting c p v ≡ true → Fits c p v

@@ -18,8 +18,8 @@ use Rattle.plan.specs.Signals.{Place, Fits, Signals}
 use Rattle.plan.specs.Fields.{total}
 use Rattle.plan.specs.Answers.{segments, segmentEnd, SomePlan, SomePlanOfEight, SegmentPlan, SegmentPlanOfEight, Laid, accepted, no-plan, over-eight}
 use Rattle.plan.specs.Engine.{onlyPlan, fitting, rightAt, wrongAt, overAt, firstWrong, firstOver, planOutcome}
-use Rattle.plan.proofs.Tests.{Tested, ltb-decides}
-use Rattle.plan.proofs.Table.{not-both, place-segment, within-yes, yes-within}
+use Rattle.plan.proofs.Tests.{Tested, ltb-decides, not-both}
+use Rattle.plan.proofs.Places.{place-segment, within-yes, yes-within}
 use Rattle.plan.proofs.Only.{Ends, signalled, only-known}
 use Rattle.plan.proofs.Found.{fitting-fits, fits-fitting, right-signals}
 use Rattle.plan.proofs.Parts.{restrict}

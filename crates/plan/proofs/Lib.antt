@@ -1,7 +1,11 @@
 pub mod Tests
 pub mod Table
+pub mod Places
+pub mod Fitting
 pub mod Ranges
 pub mod Steps
+pub mod Named
+pub mod Chosen
 pub mod Only
 pub mod Found
 pub mod Parts

@@ -1,126 +1,21 @@
--- A plan that signals a row is the only plan, whatever the row's length.
-use mathlib.Core.Path.{_≡_, refl, sym, _∙_, ap, subst}
-use mathlib.Core.Logic.{_≢_, _⊎_, inl, inr, ⊎-elim}
+-- The only plan gives each position to a kind of the table that the position is a place of; and a plan that signals a row is
+-- the only plan, whatever the row's length.
+use mathlib.Core.Path.{_≡_, refl, sym, _∙_, subst}
+use mathlib.Core.Logic.{_≢_, inl, inr, ⊎-elim}
 use mathlib.Core.Bool.{Bool, true, false, cond}
-use Prim.Native.Nat.{ℕ, zero, suc, _+_, _-_, _*_, _/_, _%_, _≤_, _<_}
+use Prim.Native.Nat.{ℕ, _+_, _-_, _*_, _/_, _%_, _≤_, _<_}
 use native.Mathlib.Omega.{arith}
-use lib.Dec.{ltb, eqb}
-use borrow.Author.Tests.{eqb-true}
-use Rattle.answer.proofs.Least.{least-holds, least-le}
+use lib.Dec.{ltb}
 use Rattle.resource.proofs.Test.{below-or}
-use Rattle.plan.specs.Kinds.{family, span, takes, blankAt, mustName}
+use Rattle.plan.specs.Kinds.{span, takes}
 use Rattle.plan.specs.Signals.{Place, Fits, Signals}
-use Rattle.plan.specs.Engine.{kindOf, nameOf, orElse, firstNamed, tells, choose, onlyPlan}
-use Rattle.plan.proofs.Tests.{Tested, move, eqb-decides, ltb-decides, or-tested}
-use Rattle.plan.proofs.Table.{not-both, equal-or, takes-known, known, span-some, span-1, span-2, named-high, high-named, family-back, family-high, span-four, beside, meets, plain-family, full, plain-blank, place-mod, fits-takes, names-fits, Leaf, leaf}
-use Rattle.plan.proofs.Steps.{orElse-low, orElse-high}
-
--- ---- the kind that a value names
--- v names the kind c
-abbrev pub Names : ℕ → ℕ → Type 0
-Names v c = (c < 7) × (3 ≤ c) × (v / 8 ≡ family c)
-
-abbrev pub Nameless : ℕ → Type 0
-Nameless v = (c : ℕ) → Names v c → ⊥
-
-kind-has : (f : ℕ) → kindOf f < 7 → family (kindOf f) ≡ f
-unfolding kindOf
-kind-has f l = eqb-true _ _ (least-holds (λ c. eqb (family c) f) 7 l)
-
-kind-most : (f : ℕ) → kindOf f ≤ 7
-unfolding kindOf
-kind-most f = least-le (λ c. eqb (family c) f) 7
-
-name-view : (v : ℕ) → ((nameOf v ≡ 7) × Nameless v) ⊎ Names v (nameOf v)
-unfolding nameOf
-name-view v = go (mustName (kindOf (v / 8))) refl (below-or (kindOf (v / 8)) 7)
-  where
-    is-kind : (c : ℕ) → Names v c → kindOf (v / 8) ≡ c
-    is-kind c n = ap kindOf (n .2) ∙ family-back c (n .0)
-
-    go : (t : Bool) → mustName (kindOf (v / 8)) ≡ t → (kindOf (v / 8) < 7) ⊎ (7 ≤ kindOf (v / 8))
-        → ((cond t (kindOf (v / 8)) 7 ≡ 7) × Nameless v) ⊎ Names v (cond t (kindOf (v / 8)) 7)
-    go true e (inl l) = inr (l, named-high (kindOf (v / 8)) l e, sym (kind-has (v / 8) l))
-    go true e (inr l) = inl (omega (arith, kind-most (v / 8)), λ c n. omega (arith, is-kind c n))
-    go false e l = inl (refl, λ c n. not-both (mustName c) (high-named c (n .0) (n .1)) (sym (ap mustName (is-kind c n)) ∙ e))
-
--- ---- the first that is named
-module _ (row : ℕ → ℕ) where
-  -- q is one of the n from b on, and names c
-  abbrev pub Named-at : ℕ → ℕ → ℕ → ℕ → Type 0
-  Named-at b n c q = (b ≤ q) × (q < b + n) × Names (row q) c
-
-  abbrev pub None-at : ℕ → ℕ → Type 0
-  None-at b n = (q : ℕ) → b ≤ q → q < b + n → Nameless (row q)
-
-  abbrev pub First : ℕ → ℕ → ℕ → Type 0
-  First b n c = ((c ≡ 7) × None-at b n) ⊎ ((q : ℕ) × Named-at b n c q)
-
-  none-more : (b n : ℕ) → None-at b n → Nameless (row (b + n)) → None-at b (suc n)
-  none-more b n h g q l u = ⊎-elim (λ (e : q ≡ b + n). rw e g) (λ (e : q ≢ b + n). h q l (omega arith)) (equal-or q (b + n))
-
-  pub first-view : (b n : ℕ) → First b n (firstNamed row b n)
-  first-view b zero = inl (refl, λ q l u. absurd (omega arith))
-  first-view b (suc n) = go (first-view b n) (name-view (row (b + n)))
-    where
-      go : First b n (firstNamed row b n) → ((nameOf (row (b + n)) ≡ 7) × Nameless (row (b + n))) ⊎ Names (row (b + n)) (nameOf (row (b + n)))
-          → First b (suc n) (orElse (firstNamed row b n) (nameOf (row (b + n))))
-      go (inr w) v = inr (w .0, rw (← orElse-low _ (nameOf (row (b + n))) (w .1 .2 .0)) (w .1 .0, omega arith, w .1 .2))
-      go (inl h) (inl g) = inl (sym (orElse-high _ _ (omega (arith, h .0))) ∙ g .0, none-more b n (h .1) (g .1))
-      go (inl h) (inr g) = inr (b + n, rw (← orElse-high (firstNamed row b n) (nameOf (row (b + n))) (omega (arith, h .0))) (omega arith, omega arith, g))
-
--- ---- what a value tells of one of the first three
-abbrev pub Told : ℕ → ℕ → Type 0
-Told d v = (v ≡ 28 + d) ⊎ (v / 8 ≡ 8 + d)
-
-pub tells-told : (d v : ℕ) → d < 3 → Tested (tells d v) (Told d v)
-unfolding tells
-tells-told d v h =
-    move (tells d v) ((v / 8 ≡ family d) ⊎ (v ≡ blankAt d 0)) (Told d v) to back
-    (or-tested (eqb (v / 8) (family d)) (eqb v (blankAt d 0)) (v / 8 ≡ family d) (v ≡ blankAt d 0) (eqb-decides (v / 8) (family d)) (eqb-decides v (blankAt d 0)))
-  where
-    first-blank : blankAt d 0 ≡ 28 + d
-    first-blank = plain-blank d h 0 (span-some d (omega arith))
-
-    to : (v / 8 ≡ family d) ⊎ (v ≡ blankAt d 0) → Told d v
-    to (inl e) = inr (e ∙ plain-family d h)
-    to (inr e) = inl (e ∙ first-blank)
-
-    back : Told d v → (v / 8 ≡ family d) ⊎ (v ≡ blankAt d 0)
-    back (inl e) = inr (e ∙ sym first-blank)
-    back (inr e) = inl (e ∙ sym (plain-family d h))
-
-leaf-told : (c v : ℕ) → c < 3 → c ≢ 0 → Leaf c v → Told c v
-leaf-told c v h n (inl x) = x
-leaf-told c v h n (inr x) = absurd (n (x .0))
-
-leaf-is : (c d v : ℕ) → c < 3 → d < 3 → Leaf c v → Told d v → c ≡ d
-leaf-is c d v h i (inl (inl e)) (inl f) = omega arith
-leaf-is c d v h i (inl (inl e)) (inr f) = absurd (omega arith)
-leaf-is c d v h i (inl (inr e)) (inl f) = absurd (omega arith)
-leaf-is c d v h i (inl (inr e)) (inr f) = omega arith
-leaf-is c d v h i (inr (e, x)) (inl f) = absurd (⊎-elim (λ y. omega arith) (⊎-elim (λ y. omega arith) (λ y. omega arith)) x)
-leaf-is c d v h i (inr (e, x)) (inr f) = absurd (⊎-elim (λ y. omega arith) (⊎-elim (λ y. omega arith) (λ y. omega arith)) x)
-
--- what a choice rests on: the kind that is named, if it is one, the segment's and the pair's first value, and the place
-pub data Chosen (k u v j : ℕ) : ℕ → Type 0 where
-  left : k < 7 → takes k j ≡ false → Chosen k u v j 0
-  joined : k < 7 → takes k j ≡ true → Chosen k u v j k
-  whole : 7 ≤ k → Told 2 u → Chosen k u v j 2
-  half : 7 ≤ k → (Told 2 u → ⊥) → Told 1 v → Chosen k u v j 1
-  alone : 7 ≤ k → (Told 2 u → ⊥) → (Told 1 v → ⊥) → Chosen k u v j 0
-
-pub chosen : (k u v j : ℕ) → Chosen k u v j (choose k u v j)
-unfolding choose
-chosen k u v j = go (ltb k 7) (takes k j) (tells 2 u) (tells 1 v) (ltb-decides k 7) refl (tells-told 2 u (omega arith)) (tells-told 1 v (omega arith))
-  where
-    go : (a b c d : Bool) → Tested a (k < 7) → takes k j ≡ b → Tested c (Told 2 u) → Tested d (Told 1 v)
-        → Chosen k u v j (cond a (cond b k 0) (cond c 2 (cond d 1 0)))
-    go true true c d p q r s = joined p q
-    go true false c d p q r s = left p q
-    go false b true d p q r s = whole (omega arith) r
-    go false b false true p q r s = half (omega arith) r s
-    go false b false false p q r s = alone (omega arith) r s
+use Rattle.plan.specs.Engine.{firstNamed, tells, choose, onlyPlan}
+use Rattle.plan.proofs.Tests.{not-both, equal-or}
+use Rattle.plan.proofs.Table.{takes-known, span-1, span-2, high-named, family-high, span-four, beside, meets, full}
+use Rattle.plan.proofs.Fitting.{known, fits-takes, names-fits, leaf}
+use Rattle.plan.proofs.Places.{place-mod}
+use Rattle.plan.proofs.Named.{Names, None-at, First, first-view}
+use Rattle.plan.proofs.Chosen.{Told, leaf-told, leaf-is, Chosen, left, joined, whole, half, alone, chosen}
 
 -- ---- the only plan gives each position to a kind of the table that the position is a place of
 -- one of the first three has every place, the rest those of a segment's four

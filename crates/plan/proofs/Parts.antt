@@ -4,7 +4,8 @@ use mathlib.Core.Logic.{_⊎_, ⊎-elim}
 use Prim.Native.Nat.{ℕ, _%_, _≤_}
 use native.Mathlib.Omega.{arith}
 use Rattle.plan.specs.Signals.{Signals}
-use Rattle.plan.proofs.Table.{known, place-segment}
+use Rattle.plan.proofs.Fitting.{known}
+use Rattle.plan.proofs.Places.{place-segment}
 
 -- a plan of the whole is one of each part that ends with a segment
 pub restrict : (o : ℕ → ℕ) (row : ℕ → ℕ) (a b c d : ℕ) → a ≤ c → d ≤ b → c % 4 ≡ 0 → (d % 4 ≡ 0) ⊎ (d ≡ b) → Signals o row a b → Signals o row c d

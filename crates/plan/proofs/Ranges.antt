@@ -12,7 +12,10 @@ use Rattle.resource.proofs.Test.{both-right, below, every-below, every-between}
 use mir.Facts.{or-yes}
 use Rattle.plan.specs.Kinds.{kinds, kindAt, family, span, mask, takes, takesBlock, blankAt, mustName}
 use Rattle.plan.specs.Signals.{Place, Fits, own, blank, smaller}
-use Rattle.plan.proofs.Table.{equal-or, not-both, family-low, family-most, span-0, span-1, span-2, span-four, named-high, high-named, place-mod, plain-family, plain-blank, full, leaf, smaller-view}
+use Rattle.plan.proofs.Tests.{equal-or, not-both}
+use Rattle.plan.proofs.Table.{family-low, family-most, span-0, span-1, span-2, span-four, named-high, high-named, plain-family, plain-blank, full}
+use Rattle.plan.proofs.Places.{place-mod}
+use Rattle.plan.proofs.Fitting.{leaf, smaller-view}
 
 -- each follows from the other
 abbrev Same : Type 0 → Type 0 → Type 0

@@ -17,7 +17,8 @@ use Rattle.resource.proofs.Test.{below-or, below, every-below, Missed, key-or, 
 use Rattle.plan.specs.Kinds.{kinds, kindAt, family, span, mask, takes, takesBlock, blankAt, mustName}
 use Rattle.plan.specs.Signals.{Place}
 use Rattle.plan.specs.Engine.{kindOf, nameOf, orElse, tells, choose, fitting, within}
-use Rattle.plan.proofs.Table.{family-back, family-most, high-named, spans, span-0, plain-family, plain-blank, full, place-mod, yes-within}
+use Rattle.plan.proofs.Table.{family-back, family-most, high-named, spans, span-0, plain-family, plain-blank, full}
+use Rattle.plan.proofs.Places.{place-mod, yes-within}
 use Rattle.plan.specs.Fields.{gives, share, channelShare, shares, fieldsIn, total}
 
 -- ---- the blank of a place below 4
@@ -174,10 +175,6 @@ module _ (c p v : ℕ) where
   pub fitting-place : place ≡ true → true ≡ fitting c p v
   unfolding fitting
   fitting-place e = rw e
-
-  pub fitting-itself : place ≡ false → c ≡ 0 → smallerAt (p % 4) v ≡ fitting c p v
-  unfolding fitting
-  fitting-itself e f = rw (e, eq-eqb c 0 f)
 
   pub fitting-none : place ≡ false → (c ≡ 0 → ⊥) → false ≡ fitting c p v
   unfolding fitting

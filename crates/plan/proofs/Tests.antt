@@ -1,14 +1,43 @@
 -- Tests and what they decide.
 use mathlib.Core.Path.{_≡_, refl}
-use mathlib.Core.Logic.{_⊎_, inl, inr, ⊎-elim}
-use mathlib.Core.Bool.{Bool, true, false, not, _&&_, _||_}
-use Prim.Native.Nat.{ℕ, _≤_, _<_}
+use mathlib.Core.Logic.{_⊎_, inl, inr, ⊎-elim, _≢_}
+use mathlib.Core.Bool.{Bool, true, false, _&&_, _||_}
+use Prim.Native.Nat.{ℕ, _<_, zero, suc}
 use native.Mathlib.Omega.{arith}
-use lib.Dec.{ltb, leb, eqb}
-use borrow.Author.Tests.{ltb-true, ltb-false, eqb-true, eqb-false, leb-true, leb-false}
+use lib.Dec.{ltb, eqb, T}
+use borrow.Author.Tests.{ltb-true, ltb-false, eqb-true, eqb-false}
 use Rattle.plan.specs.Decides.{Decides}
+use Rattle.resource.proofs.Test.{below}
 
--- what a test's outcome says
+-- ---- tests as facts
+pub holds : (t : Bool) → t ≡ true → T t
+holds true e = tt
+holds false e = let z : _≡_ {A = ℕ} 0 1 = cc in absurd (omega arith)
+
+pub is-true : (t : Bool) → T t → t ≡ true
+is-true true h = refl
+is-true false h = absurd h
+
+pub both : (s t : Bool) → T s → T t → T (s && t)
+both true t h i = i
+both false t h i = h
+
+pub by-test : {X : Type 0} (t : Bool) → (t ≡ true → X) → (t ≡ false → X) → X
+by-test true f g = f refl
+by-test false f g = g refl
+
+pub not-both : {X : Type 0} (t : Bool) → t ≡ true → t ≡ false → X
+not-both true e f = let z : _≡_ {A = ℕ} 0 1 = cc in absurd (omega arith)
+not-both false e f = let z : _≡_ {A = ℕ} 0 1 = cc in absurd (omega arith)
+
+pub equal-or : (a b : ℕ) → (a ≡ b) ⊎ (a ≢ b)
+equal-or a b = by-test (eqb a b) (λ e. inl (eqb-true a b e)) (λ e. inr (eqb-false a b e))
+
+pub all-of : (f : ℕ → Bool) (n : ℕ) → ((k : ℕ) → k < n → T (f k)) → T (below f n)
+all-of f zero h = tt
+all-of f (suc n) h = both (f n) (below f n) (h n (omega arith)) (all-of f n (λ k l. h k (omega arith)))
+
+-- ---- what a test's outcome says
 abbrev pub Tested : Bool → Type 0 → Type 0
 Tested true A = A
 Tested false A = A → ⊥
@@ -25,29 +54,10 @@ pub refuted : (t : Bool) (A : Type 0) → Tested t A → (A → ⊥) → t ≡ f
 refuted true A d h = absurd (h d)
 refuted false A d h = refl
 
--- two tests of one fact agree
-pub same-test : {t u : Bool} {A : Type 0} → Decides t A → Decides u A → t ≡ u
-same-test {t} {u} {A} d e = go t u refl refl
-  where
-    go : (x y : Bool) → t ≡ x → u ≡ y → x ≡ y
-    go true true p q = refl
-    go true false p q = absurd (e .no q (d .yes p))
-    go false true p q = absurd (d .no p (e .yes q))
-    go false false p q = refl
-
 -- one test decides two facts that follow from one another
-pub carry : {t : Bool} {A B : Type 0} → (A → B) → (B → A) → Decides t A → Decides t B
-carry f g d = record { yes = λ e. f (d .yes e); no = λ e b. d .no e (g b) }
-
 pub move : (t : Bool) (A B : Type 0) → (A → B) → (B → A) → Tested t A → Tested t B
 move true A B f g d = f d
 move false A B f g d = λ b. d (g b)
-
-pub is-yes : {A : Type 0} → A → Decides true A
-is-yes {A} a = decides true A a
-
-pub is-no : {A : Type 0} → (A → ⊥) → Decides false A
-is-no {A} n = decides false A n
 
 -- ---- the tests of numbers
 pub eqb-decides : (a b : ℕ) → Tested (eqb a b) (a ≡ b)
@@ -64,17 +74,7 @@ ltb-decides a b = go (ltb a b) refl
     go true e = ltb-true a b e
     go false e = λ h. omega (arith, ltb-false)
 
-pub leb-decides : (a b : ℕ) → Tested (leb a b) (a ≤ b)
-leb-decides a b = go (leb a b) refl
-  where
-    go : (t : Bool) → leb a b ≡ t → Tested t (a ≤ b)
-    go true e = leb-true a b e
-    go false e = λ h. omega (arith, leb-false)
-
-pub eqb-is : (a b : ℕ) → Decides (eqb a b) (a ≡ b)
-eqb-is a b = decides (eqb a b) (a ≡ b) (eqb-decides a b)
-
--- ---- or, and, not
+-- ---- or, and
 pub or-tested : (s t : Bool) (A B : Type 0) → Tested s A → Tested t B → Tested (s || t) (A ⊎ B)
 or-tested true t A B p q = inl p
 or-tested false true A B p q = inr q
@@ -84,11 +84,3 @@ pub and-tested : (s t : Bool) (A B : Type 0) → Tested s A → Tested t B → T
 and-tested true true A B p q = (p, q)
 and-tested true false A B p q = λ h. q (h .1)
 and-tested false t A B p q = λ h. p (h .0)
-
-pub not-tested : (t : Bool) (A : Type 0) → Tested t A → Tested (not t) (A → ⊥)
-not-tested true A d = λ h. h d
-not-tested false A d = d
-
-pub not-is : (t : Bool) {A : Type 0} → Decides t A → Decides (not t) (A → ⊥)
-not-is true {A} d = is-no (λ h. h (d .yes refl))
-not-is false {A} d = is-yes (d .no refl)

@@ -20,8 +20,9 @@ use Rattle.resource.specs.Values.{fieldsOf}
 use Rattle.resource.proofs.Fields.{fields-most as most-fields}
 use Rattle.answer.specs.Lists.{at}
 use Rattle.plan.specs.Fields.{total, shared, fieldsTo}
-use Rattle.plan.specs.Engine.{firstNamed, choose, onlyPlan, fitting, within, rightAt, wrongAt, overAt, firstWrong, firstOver, planOutcome, sharedTo, kindsOf, planOf}
-use Rattle.plan.proofs.Table.{equal-or}
+use Rattle.plan.specs.Engine.{firstNamed, choose, onlyPlan, fitting, within, rightAt, wrongAt}
+use Rattle.plan.specs.Engine.{overAt, firstWrong, firstOver, planOutcome, sharedTo, kindsOf, planOf}
+use Rattle.plan.proofs.Tests.{equal-or}
 use Rattle.plan.proofs.Only.{only-known}
 use Rattle.plan.proofs.Laid.{none-over}
 

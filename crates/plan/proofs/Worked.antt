@@ -19,8 +19,7 @@ use Rattle.plan.specs.Fields.{total}
 use Rattle.plan.specs.Answers.{segments, segmentEnd, SegmentPlan, SegmentPlanOfEight, Laid, accepted, no-plan, over-eight}
 use Rattle.plan.specs.Engine.{onlyPlan, rightAt, wrongAt, overAt, everyFrom, segmentRight, segmentWithin, planOutcome}
 use Rattle.plan.specs.Worked.{thePlan, hasPlan, hasPlanOfEight, lowestWithout, outcome7, outcome8, Worked}
-use Rattle.plan.proofs.Tests.{Tested, decides, and-tested, move}
-use Rattle.plan.proofs.Table.{not-both}
+use Rattle.plan.proofs.Tests.{Tested, decides, and-tested, move, not-both}
 use Rattle.plan.proofs.Only.{signalled}
 use Rattle.plan.proofs.Laid.{row-ends, segment-right, right-segment, segment-total, whole-signals, laid-same, laid-is}
 
@@ -87,10 +86,6 @@ module _ (has : ℕ → Bool) (P : ℕ → Type 0) (n : ℕ) (tested : (s : ℕ)
 
   lacks : (s : ℕ) → s < n → has s ≡ false → P s → ⊥
   lacks s h e = decides (has s) (P s) (tested s h) .no e
-
-  pub lowest-most : lowestWithout has n ≤ n
-  unfolding lowestWithout
-  lowest-most = least-le (λ s. not (has s)) n
 
   pub lowest-lacks : lowestWithout has n < n → P (lowestWithout has n) → ⊥
   unfolding lowestWithout

@@ -20,7 +20,8 @@ use Rattle.resource.proofs.Edge.{In}
 use Rattle.resource.proofs.Agree.{AgreesAt, agrees-test, tested-agrees, piece-agrees, tones-found}
 use Rattle.plan.specs.Kinds.{kinds, kindAt, span, mask, takes}
 use Rattle.plan.specs.Signals.{Place}
-use Rattle.plan.proofs.Table.{both, is-true, spans}
+use Rattle.plan.proofs.Tests.{both, is-true}
+use Rattle.plan.proofs.Table.{spans}
 use Rattle.records.specs.Records.{resourceColumn, larger}
 use Rattle.records.specs.Engine.{placesOf}
 

@@ -14,7 +14,9 @@ use Rattle.answer.proofs.Least.{least-holds, least-le, least-below}
 use Rattle.resource.proofs.Test.{below-or, both-left, both-right, below, every-below}
 use Rattle.plan.specs.Kinds.{kind, kinds, kindAt, spanIn, span, mask, takes}
 use Rattle.plan.specs.Signals.{Place}
-use Rattle.plan.proofs.Table.{holds, is-true, by-test, at-span, at-place, span-some, spans, span-0, place-mod, takes-known}
+use Rattle.plan.proofs.Tests.{holds, is-true, by-test}
+use Rattle.plan.proofs.Places.{at-span, at-place, place-mod}
+use Rattle.plan.proofs.Table.{span-some, spans, span-0, takes-known}
 use Rattle.records.specs.Records.{lead}
 use Rattle.records.specs.Engine.{lowest}
 

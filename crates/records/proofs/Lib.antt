@@ -6,6 +6,10 @@ pub mod Sums
 pub mod Owners
 pub mod Entering
 pub mod Subcarriers
+pub mod Gives
+pub mod Spans
+pub mod Homes
+pub mod Owned
 pub mod Shares
 pub mod Sizes
 pub mod Tones

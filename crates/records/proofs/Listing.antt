@@ -13,7 +13,8 @@ use lib.ListN.{length, getD, length-append, length-map, List·getD-append}
 use lib.Seq.{getD-append-add}
 use Rattle.plan.specs.Kinds.{span}
 use Rattle.plan.specs.Engine.{onlyPlan}
-use Rattle.plan.proofs.Table.{by-test, span-0}
+use Rattle.plan.proofs.Tests.{by-test}
+use Rattle.plan.proofs.Table.{span-0}
 use Rattle.resource.specs.Values.{ownPieces}
 use Rattle.resource.specs.Engine.{noPiece, pieceAt}
 use Rattle.resource.proofs.Test.{below-or}

@@ -11,7 +11,8 @@ use lib.Dec.{eqb, eqb→eq}
 use lib.ListN.{length}
 use Rattle.plan.specs.Kinds.{span}
 use Rattle.plan.specs.Signals.{Fits, own, blank, smaller, Signals}
-use Rattle.plan.proofs.Table.{known, takes-known, family-low, blank-least, blank-most}
+use Rattle.plan.proofs.Fitting.{known, blank-least, blank-most}
+use Rattle.plan.proofs.Table.{takes-known, family-low}
 use Rattle.resource.specs.Values.{pieces, fieldsOf, divides}
 use Rattle.resource.proofs.Test.{below-or, every-between}
 use Rattle.resource.proofs.Pieces.{divided-low, divided-fields, divided-not, some-pieces, no-pieces-left, none-left}

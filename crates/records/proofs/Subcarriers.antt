@@ -9,7 +9,10 @@ use native.Mathlib.Nat.{div-add-mod}
 use lib.ListN.{length, getD}
 use Rattle.plan.specs.Kinds.{span}
 use Rattle.plan.specs.Signals.{Place, Fits, own, blank, smaller, Signals}
-use Rattle.plan.proofs.Table.{equal-or, known, takes-known, family-low, blank-least, full, place-mod}
+use Rattle.plan.proofs.Tests.{equal-or}
+use Rattle.plan.proofs.Fitting.{known, blank-least}
+use Rattle.plan.proofs.Table.{takes-known, family-low, full}
+use Rattle.plan.proofs.Places.{place-mod}
 use Rattle.resource.specs.declared.Size.the-variants.{S242}
 use Rattle.resource.specs.declared.Piece.the-variants.{Part}
 use Rattle.resource.specs.Values.{pieces, ownPieces}

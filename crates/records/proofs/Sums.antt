@@ -20,6 +20,10 @@ pub sum-cong : (g h : ℕ → ℕ) (n : ℕ) → ((p : ℕ) → p < n → g p �
 sum-cong g h zero e = refl
 sum-cong g h (suc n) e = rw (sum-cong g h n (λ p l. e p (omega arith)), e n (omega arith))
 
+pub sum-first : (g : ℕ → ℕ) (n : ℕ) → sumTo g (suc n) ≡ g 0 + sumTo (λ i. g (suc i)) n
+sum-first g zero = omega arith
+sum-first g (suc n) = omega (arith, sum-first g n)
+
 pub sum-zero : (g : ℕ → ℕ) (n : ℕ) → ((p : ℕ) → p < n → g p ≡ 0) → sumTo g n ≡ 0
 sum-zero g zero e = refl
 sum-zero g (suc n) e = omega (arith, sum-zero g n (λ p l. e p (omega arith)), e n (omega arith))

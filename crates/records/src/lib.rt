@@ -183,9 +183,11 @@ fn enter_owners(
     j: usize,
 ) -> usize
     requires { ⌜ (length (now row) ≤ 16) × (p < length (now row)) × (now kinds ≡ kindsOf (now row)) × (now before ≡ numbersOf (now row)) ⌝ }
-    requires { ⌜ (j ≡ fieldsBefore channel (at (now row)) p) × (now owners ≡ filled (ownerOf (onlyPlan (at (now row))) (at (now row)) channel (length (now row))) j (replicate 72 144)) ⌝ }
+    requires { ⌜ (j ≡ fieldsBefore channel (at (now row)) p)
+        × (now owners ≡ filled (ownerOf (onlyPlan (at (now row))) (at (now row)) channel (length (now row))) j (replicate 72 144)) ⌝ }
     ensures { λ r. ⌜ r ≡ fieldsBefore channel (at (now (row .entry))) (p + 1) ⌝ }
-    ensures { λ r. ⌜ now (owners .exit) ≡ filled (ownerOf (onlyPlan (at (now (row .entry)))) (at (now (row .entry))) channel (length (now (row .entry)))) r (replicate 72 144) ⌝ }
+    ensures { λ r. ⌜ now (owners .exit)
+        ≡ filled (ownerOf (onlyPlan (at (now (row .entry)))) (at (now (row .entry))) channel (length (now (row .entry)))) r (replicate 72 144) ⌝ }
 {
     let v = value_at(row, p);
     let f = in_channel(channel, p, resource::fields_of(v)) as usize;
