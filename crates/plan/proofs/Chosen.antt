@@ -19,7 +19,8 @@ pub tells-told : (d v : ℕ) → d < 3 → Tested (tells d v) (Told d v)
 unfolding tells
 tells-told d v h =
     move (tells d v) ((v / 8 ≡ family d) ⊎ (v ≡ blankAt d 0)) (Told d v) to back
-    (or-tested (eqb (v / 8) (family d)) (eqb v (blankAt d 0)) (v / 8 ≡ family d) (v ≡ blankAt d 0) (eqb-decides (v / 8) (family d)) (eqb-decides v (blankAt d 0)))
+    (or-tested (eqb (v / 8) (family d)) (eqb v (blankAt d 0)) (v / 8 ≡ family d) (v ≡ blankAt d 0)
+    (eqb-decides (v / 8) (family d)) (eqb-decides v (blankAt d 0)))
   where
     first-blank : blankAt d 0 ≡ 28 + d
     first-blank = plain-blank d h 0 (span-some d (omega arith))

@@ -1,6 +1,6 @@
 -- The only plan signals a row where its tests say so, whatever the row's length.
 use mathlib.Core.Path.{_≡_, refl, subst}
-use mathlib.Core.Logic.{_⊎_, inl, inr, ⊎-elim}
+use mathlib.Core.Logic.{inl, inr, ⊎-elim}
 use mathlib.Core.Bool.{Bool, true, false, _&&_, _||_}
 use Prim.Native.Nat.{ℕ, _*_, _/_, _%_, _≤_, _<_}
 use native.Mathlib.Omega.{arith}
@@ -123,8 +123,10 @@ module _ (row : ℕ → ℕ) (a b : ℕ) (ends : Ends row a b)
               let z : onlyPlan row q ≡ 0 = at-other row p q 0 (omega arith) (left k y) in
               let f = subst (λ (c : ℕ). Fits c q (row q)) z (fit q (inn .0) (inn .1)) in
               let g = family-high x k h in
-              ⊎-elim (λ i. ⊎-elim (λ j. omega (arith, w .2 .2)) (λ j. omega (arith, w .2 .2)) i)
-              (λ i. ⊎-elim (λ j. omega (arith, w .2 .2)) (⊎-elim (λ j. omega (arith, w .2 .2)) (λ j. omega (arith, w .2 .2))) (i .1)) (leaf 0 q (row q) (omega arith) f)
+              ⊎-elim
+              (λ i. ⊎-elim (λ j. omega (arith, w .2 .2)) (λ j. omega (arith, w .2 .2)) i)
+              (λ i. ⊎-elim (λ j. omega (arith, w .2 .2)) (⊎-elim (λ j. omega (arith, w .2 .2)) (λ j. omega (arith, w .2 .2))) (i .1))
+              (leaf 0 q (row q) (omega arith) f)
       go x e h (left k t) f = absurd (omega arith)
       go x e h (whole k t) f = absurd (omega arith)
       go x e h (half k n t) f = absurd (omega arith)

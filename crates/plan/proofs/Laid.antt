@@ -138,7 +138,8 @@ module _ (row : List ℕ) where
       go true b e f =
           let l = ltb-true (firstWrong row) (length row) e in
           no-plan (firstWrong row / 4) (omega arith)
-          (λ w. not-both (rightAt (at row) (length row) (firstWrong row)) (segment-right row (firstWrong row / 4) (omega arith) w (firstWrong row) (omega arith) (omega arith)) (wrong-is l))
+          (λ w. not-both (rightAt (at row) (length row) (firstWrong row))
+          (segment-right row (firstWrong row / 4) (omega arith) w (firstWrong row) (omega arith) (omega arith)) (wrong-is l))
           (λ t m. (onlyPlan (at row), right-segment row t (omega arith) (λ p k u. right-before p (omega arith))))
       go false true e f =
           let l = ltb-true (firstOver row) (length row) f in

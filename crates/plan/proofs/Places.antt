@@ -63,7 +63,9 @@ module _ (c p n : ℕ) (h : c < 7) (l : p < n) where
   place-at q w = sym (div-add-mod q (span c)) ∙ ap (λ (k : ℕ). span c * k + q % span c) (w .0)
 
   same-tests : (d : ℕ) → d < 4 → ltb (mask c) (2 ^ d) ≡ below (λ j. wherever (takes c j) (ltb j d)) 4
-  same-tests d m = go (ltb (mask c) (2 ^ d)) (below (λ j. wherever (takes c j) (ltb j d)) 4) (every-below (within-test c) 4 (every-below (λ c. below (within-test c) 4) 7 withins-tested c h) d m)
+  same-tests d m =
+      go (ltb (mask c) (2 ^ d)) (below (λ j. wherever (takes c j) (ltb j d)) 4)
+      (every-below (within-test c) 4 (every-below (λ c. below (within-test c) 4) 7 withins-tested c h) d m)
     where
       go : (s t : Bool) → T (eqb (cond s 1 0) (cond t 1 0)) → s ≡ t
       go true true e = refl
@@ -84,7 +86,8 @@ module _ (c p n : ℕ) (h : c < 7) (l : p < n) where
       small : n - start < 4 → q < n
       small k =
           let t : T (below (λ j. wherever (takes c j) (ltb j (n - start))) 4) = holds _ (sym (same-tests (n - start) k) ∙ e) in
-          let u = met (takes c (q % span c)) (ltb (q % span c) (n - start)) (every-below (λ j. wherever (takes c j) (ltb j (n - start))) 4 t (q % span c) m) (holds _ (w .1)) in
+          let v = every-below (λ j. wherever (takes c j) (ltb j (n - start))) 4 t (q % span c) m in
+          let u = met (takes c (q % span c)) (ltb (q % span c) (n - start)) v (holds _ (w .1)) in
           let z : q % span c < n - start = ltb-true _ _ (is-true _ u) in
           omega (arith, place-at q w)
 
@@ -99,7 +102,8 @@ module _ (c p n : ℕ) (h : c < 7) (l : p < n) where
 
       there : (j : ℕ) → j < 4 → takes c j ≡ true → start + j < n
       there j m t =
-          let k : j < span c = ltb-true _ _ (is-true _ (met (takes c j) (ltb j (span c)) (every-below (inside-test c) 4 (every-below (λ c. below (inside-test c) 4) 7 insides-tested c h) j m) (holds _ t))) in
+          let v = every-below (inside-test c) 4 (every-below (λ c. below (inside-test c) 4) 7 insides-tested c h) j m in
+          let k : j < span c = ltb-true _ _ (is-true _ (met (takes c j) (ltb j (span c)) v (holds _ t))) in
           f (start + j) (at-span (span c) (span-some c h) p j k, rw (at-place (span c) (span-some c h) p j k) t)
 
       small : n - start < 4 → ltb (mask c) (2 ^ (n - start)) ≡ true

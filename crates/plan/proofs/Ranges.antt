@@ -3,7 +3,7 @@
 use mathlib.Core.Path.{_≡_, refl, sym, _∙_}
 use mathlib.Core.Logic.{_≢_, _⊎_, inl, inr, ⊎-elim}
 use mathlib.Core.Bool.{Bool, true, false, cond, not, _&&_, _||_}
-use Prim.Native.Nat.{ℕ, _+_, _-_, _*_, _/_, _%_, _≤_, _<_}
+use Prim.Native.Nat.{ℕ, _+_, _*_, _/_, _%_, _≤_, _<_}
 use native.Mathlib.Omega.{arith}
 use lib.Dec.{T, eqb, eqb→eq}
 use borrow.Author.Tests.{eq-eqb, ne-eqb, le-leb}
@@ -64,7 +64,11 @@ itself-holds p v = (to, back)
     to (smaller e) = smaller-ranges p v (e .1)
 
     back : Itself p v → Fits 0 p v
-    back (inl l) = ⊎-elim (λ (e : v ≡ 28). plain-from 0 p v (omega arith) (inl e)) (λ (e : v ≢ 28). smaller (refl, unfold smallerAt in rw (le-leb v 27 (omega arith)))) (equal-or v 28)
+    back (inl l) =
+        ⊎-elim
+        (λ (e : v ≡ 28). plain-from 0 p v (omega arith) (inl e))
+        (λ (e : v ≢ 28). smaller (refl, unfold smallerAt in rw (le-leb v 27 (omega arith))))
+        (equal-or v 28)
     back (inr (inl (e, n))) = smaller (refl, unfold smallerAt in rw (e, ne-eqb (p % 4) 3 n))
     back (inr (inr (inl (e, n)))) = smaller (refl, unfold smallerAt in rw (e, ne-eqb (p % 4) 2 n))
     back (inr (inr (inr (l, u)))) = plain-from 0 p v (omega arith) (inr (omega arith))
@@ -89,8 +93,11 @@ module _ (k : ℕ) (h : k < 4) where
   own-family : family (3 + k) ≡ 12 + k
   own-family = eqb→eq _ _ (every-below own-test 4 owns-tested k h)
 
+  left-line : (j : ℕ) → j < 4 → T (left-test k j)
+  left-line j l = every-below (left-test k) 4 (every-below (λ k. below (left-test k) 4) 4 lefts-tested k h) j l
+
   takes-is : (j : ℕ) → j < 4 → takes (3 + k) j ≡ not (eqb j k)
-  takes-is j l = go (takes (3 + k) j) (eqb j k) (every-below (left-test k) 4 (every-below (λ k. below (left-test k) 4) 4 lefts-tested k h) j l)
+  takes-is j l = go (takes (3 + k) j) (eqb j k) (left-line j l)
     where
       go : (s t : Bool) → T (eqb (cond s 1 0) (cond t 0 1) && eqb (blankAt (3 + k) j) (cond (eqb (j / 2) (k / 2)) 28 29)) → s ≡ not t
       go true true e = absurd e
@@ -99,7 +106,7 @@ module _ (k : ℕ) (h : k < 4) where
       go false false e = absurd e
 
   blank-is : (j : ℕ) → j < 4 → blankAt (3 + k) j ≡ cond (eqb (j / 2) (k / 2)) 28 29
-  blank-is j l = eqb→eq _ _ (both-right (eqb (cond (takes (3 + k) j) 1 0) (cond (eqb j k) 0 1)) _ (every-below (left-test k) 4 (every-below (λ k. below (left-test k) 4) 4 lefts-tested k h) j l))
+  blank-is j l = eqb→eq _ _ (both-right (eqb (cond (takes (3 + k) j) 1 0) (cond (eqb j k) 0 1)) _ (left-line j l))
 
   span-is : span (3 + k) ≡ 4
   span-is = span-four (3 + k) (omega arith) (omega arith)
@@ -126,7 +133,10 @@ module _ (k : ℕ) (h : k < 4) where
       to (own t e) = let f = e ∙ own-family in (taken p t, inl (omega arith, omega arith))
       to (blank t e) = (
         taken p t,
-        inr (⊎-elim (λ f. inl (f, e ∙ b ∙ rw (eq-eqb (p % 4 / 2) (k / 2) f))) (λ f. inr (f, e ∙ b ∙ rw (ne-eqb (p % 4 / 2) (k / 2) f))) (equal-or (p % 4 / 2) (k / 2))),
+        inr (⊎-elim
+            (λ f. inl (f, e ∙ b ∙ rw (eq-eqb (p % 4 / 2) (k / 2) f)))
+            (λ f. inr (f, e ∙ b ∙ rw (ne-eqb (p % 4 / 2) (k / 2) f)))
+            (equal-or (p % 4 / 2) (k / 2))),
       )
       to (smaller e) = absurd (omega (arith, e .0))
 

@@ -101,7 +101,10 @@ pub name-none : (v r : ℕ) → r ≡ v / 8 → Missed four r → 7 ≡ nameOf v
 unfolding nameOf
 name-none v r e m =
     rw (← e)
-    (⊎-elim (λ h. sym (eqb→eq _ _ (no-key lone four r (every-below (key-or lone four) 16 four-tested r h) m))) (λ h. rw (no-kind r h) none-is-none) (below-or r 16))
+    (⊎-elim
+    (λ h. sym (eqb→eq _ _ (no-key lone four r (every-below (key-or lone four) 16 four-tested r h) m)))
+    (λ h. rw (no-kind r h) none-is-none)
+    (below-or r 16))
 
 pub orElse-low : (x y : ℕ) → x < 7 → x ≡ orElse x y
 unfolding orElse
@@ -161,7 +164,8 @@ total-same c row p h z l = go (span c) (spans c h) l
     go n (inr (inl e)) l = let m = rw e at l in let f : (p - 1) / 2 ≡ p / 2 = omega arith in rw (e, f)
     go n (inr (inr e)) l = let m = rw e at l in let f : (p - 1) / 4 ≡ p / 4 = omega arith in rw (e, f)
 
-pub total-reused : (t before c p : ℕ) (row : ℕ → ℕ) → c < 7 → (0 < p → t ≡ total before row (p - 1)) → c ≡ before → span c * (p / span c) < p → t ≡ total c row p
+pub total-reused : (t before c p : ℕ) (row : ℕ → ℕ) → c < 7 → (0 < p → t ≡ total before row (p - 1)) → c ≡ before
+    → span c * (p / span c) < p → t ≡ total c row p
 total-reused t before c p row h f e l = f (omega arith) ∙ ap (λ (k : ℕ). total k row (p - 1)) (sym e) ∙ total-same c row p h (omega arith) l
 
 -- ---- what fits

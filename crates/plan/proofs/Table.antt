@@ -139,14 +139,20 @@ module _ (c : ℕ) (h : c < 7) where
   pub span-most : span c ≤ 4
   span-most = ⊎-elim (λ e. omega arith) (⊎-elim (λ e. omega arith) (λ e. omega arith)) spans
 
+  family-line : T (family-test c)
+  family-line = every-below family-test 7 families-tested c h
+
+  family-range : T (leb 8 (family c) && ltb (family c) 16)
+  family-range = both-right (eqb (kindOf (family c)) c) _ family-line
+
   pub family-back : kindOf (family c) ≡ c
-  family-back = eqb→eq _ _ (both-left (eqb (kindOf (family c)) c) _ (every-below family-test 7 families-tested c h))
+  family-back = eqb→eq _ _ (both-left (eqb (kindOf (family c)) c) _ family-line)
 
   pub family-low : 8 ≤ family c
-  family-low = leb-true _ _ (is-true _ (both-left (leb 8 (family c)) _ (both-right (eqb (kindOf (family c)) c) _ (every-below family-test 7 families-tested c h))))
+  family-low = leb-true _ _ (is-true _ (both-left (leb 8 (family c)) _ family-range))
 
   pub family-most : family c < 16
-  family-most = ltb-true _ _ (is-true _ (both-right (leb 8 (family c)) _ (both-right (eqb (kindOf (family c)) c) _ (every-below family-test 7 families-tested c h))))
+  family-most = ltb-true _ _ (is-true _ (both-right (leb 8 (family c)) _ family-range))
 
   pub mask-most : mask c ≤ 15
   mask-most = leb-true _ _ (is-true _ (every-below mask-test 7 masks-tested c h))

@@ -34,7 +34,8 @@ kind-held row kinds p h e =
     (rw f (only-known (at row) p), f)
 
 -- what the code asks at position p, given to this kind
-pub wrong-at : (row : List ℕ) (p kind : ℕ) (r : Bool) → kind ≡ onlyPlan (at row) p → r ≡ (fitting kind p (at row p) && within kind p (length row)) → wrongAt row p ≡ not r
+pub wrong-at : (row : List ℕ) (p kind : ℕ) (r : Bool) → kind ≡ onlyPlan (at row) p
+    → r ≡ (fitting kind p (at row p) && within kind p (length row)) → wrongAt row p ≡ not r
 unfolding rightAt
 wrong-at row p kind r e f = rw (f, e)
 
@@ -86,7 +87,8 @@ bit-unset s n h = rw (div-eq-of-lt h)
 bit-under : (s n p : ℕ) → p < n → (s + 2 ^ n) / 2 ^ p % 2 ≡ s / 2 ^ p % 2
 bit-under s n p h =
     let d = n - (p + 1) in
-    let e : 2 ^ n ≡ 2 ^ p * (2 * 2 ^ d) = ap (λ (k : ℕ). 2 ^ k) (the n (p + (1 + d)) (omega arith)) ∙ pow-add 2 p (1 + d) ∙ ap (λ (k : ℕ). 2 ^ p * k) (pow-add 2 1 d) in
+    let m : 2 ^ n ≡ 2 ^ (p + (1 + d)) = ap (λ (k : ℕ). 2 ^ k) (the n (p + (1 + d)) (omega arith)) in
+    let e : 2 ^ n ≡ 2 ^ p * (2 * 2 ^ d) = m ∙ pow-add 2 p (1 + d) ∙ ap (λ (k : ℕ). 2 ^ p * k) (pow-add 2 1 d) in
     let f : (2 ^ p * (2 * 2 ^ d) + s) / 2 ^ p ≡ 2 * 2 ^ d + s / 2 ^ p = mul-add-div (pow-pos p) (2 * 2 ^ d) s in
     let g : s + 2 ^ n ≡ 2 ^ p * (2 * 2 ^ d) + s = omega arith in
     rw (g, f) (mul-add-mod-self-left 2 (2 ^ d) (s / 2 ^ p))

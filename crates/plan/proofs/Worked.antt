@@ -1,5 +1,5 @@
 -- What the engine works out is 01's: `Worked`, of every row.
-use mathlib.Core.Path.{_≡_, refl, sym, _∙_, subst}
+use mathlib.Core.Path.{_≡_, refl, sym, subst}
 use mathlib.Core.Bool.{Bool, true, false, not, _&&_}
 use mathlib.Core.List.{List}
 use Prim.Native.Nat.{ℕ, _+_, _-_, _*_, _/_, _≤_, _<_}
@@ -10,15 +10,11 @@ use borrow.Author.Tests.{eqb-true, eq-eqb, ltb-true, ltb-false, le-ltb, not-true
 use Rattle.answer.specs.Answer.{no, refuseIf, _or_}
 use Rattle.answer.specs.Least.{least}
 use Rattle.answer.specs.Lists.{at}
-use Rattle.answer.specs.declared.Outcome.{Outcome}
 use Rattle.answer.specs.declared.Outcome.the-variants.{Pass}
 use Rattle.answer.proofs.Least.{least-none, least-holds, least-before, least-le}
-use Rattle.plan.specs.Decides.{Decides}
-use Rattle.plan.specs.Signals.{Signals}
-use Rattle.plan.specs.Fields.{total}
 use Rattle.plan.specs.Answers.{segments, segmentEnd, SegmentPlan, SegmentPlanOfEight, Laid, accepted, no-plan, over-eight}
-use Rattle.plan.specs.Engine.{onlyPlan, rightAt, wrongAt, overAt, everyFrom, segmentRight, segmentWithin, planOutcome}
-use Rattle.plan.specs.Worked.{thePlan, hasPlan, hasPlanOfEight, lowestWithout, outcome7, outcome8, Worked}
+use Rattle.plan.specs.Engine.{onlyPlan, wrongAt, overAt, everyFrom, segmentRight, segmentWithin, planOutcome}
+use Rattle.plan.specs.Worked.{hasPlan, hasPlanOfEight, lowestWithout, outcome7, outcome8, Worked}
 use Rattle.plan.proofs.Tests.{Tested, decides, and-tested, move, not-both}
 use Rattle.plan.proofs.Only.{signalled}
 use Rattle.plan.proofs.Laid.{row-ends, segment-right, right-segment, segment-total, whole-signals, laid-same, laid-is}
@@ -107,7 +103,11 @@ module _ (row : List ℕ) where
   parts-of-eight : ((s : ℕ) → s < segments row → SegmentPlanOfEight row s) → Laid row Pass
   parts-of-eight f =
       let g : (s : ℕ) → s < segments row → SegmentPlan row s = λ s h. (f s h .0, f s h .1) in
-      accepted (onlyPlan (at row), whole-signals row g, λ p l u. segment-total row (p / 4) (omega arith) (f (p / 4) (omega arith)) p (omega arith) (omega arith))
+      accepted (
+        onlyPlan (at row),
+        whole-signals row g,
+        λ p l u. segment-total row (p / 4) (omega arith) (f (p / 4) (omega arith)) p (omega arith) (omega arith),
+      )
 
   pub outcomes-laid : Laid row (outcome7 row or outcome8 row)
   unfolding outcome7 outcome8 _or_

@@ -174,7 +174,8 @@ module _ (o row : ℕ → ℕ) (n : ℕ) (s : Signals o row 0 n) (i q m : ℕ) (
             → inChannel c p (G p) ≡ H c p
         by (inl f) (inl t) =
             let a = place-all p h (f, t) in
-            let g : share (o q) p (row p) ≡ fieldsOf (row p) = share-fields (o q) p (row p) (subst (λ (x : ℕ). Fits x p (row p)) (a .1) (fit o row n s p h)) (a .2) in
+            let b = subst (λ (x : ℕ). Fits x p (row p)) (a .1) (fit o row n s p h) in
+            let g : share (o q) p (row p) ≡ fieldsOf (row p) = share-fields (o q) p (row p) b (a .2) in
             ap (inChannel c p) (a .0 ∙ sym g) ∙ sym (in-window c p f)
         by (inl f) (inr t) = rw (no-place p h (λ l. t (l .1))) (none-in c p) ∙ sym (in-window c p f ∙ not-taken c p t)
         by (inr f) t = rw (no-place p h (λ l. f (l .0))) (none-in c p) ∙ sym (off-window c p f)

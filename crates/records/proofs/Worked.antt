@@ -11,7 +11,7 @@ use Rattle.plan.specs.Worked.{thePlan}
 use Rattle.plan.proofs.Laid.{part-plan, whole-signals}
 use Rattle.plan.proofs.Demand.{only-plan}
 use Rattle.records.specs.declared.Record.{Record}
-use Rattle.records.specs.Records.{lead, recordsFrom}
+use Rattle.records.specs.Records.{lead}
 use Rattle.records.specs.Owns.{fieldsBefore, number, Owns, of-piece, of-place}
 use Rattle.records.specs.Worked.{theOwner, Worked}
 use Rattle.records.proofs.Demand.{only-list}

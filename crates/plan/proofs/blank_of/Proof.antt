@@ -20,10 +20,14 @@ shr-if2 : tie.Need-shr-if2
 shr-if2 c = search needs
 
 returns-2 : tie.Need-returns-2
-returns-2 c = blank-29 _ (c .before .before .before .args .j) _ (c .before .before .before .pre) (c .before .before .mask-of .ensures .1) (c .before .if1 .left) (c .if2 .taken)
+returns-2 c =
+    let s = c .before .before .before in
+    blank-29 _ (s .args .j) _ (s .pre) (c .before .before .mask-of .ensures .1) (c .before .if1 .left) (c .if2 .taken)
 
 returns-3 : tie.Need-returns-3
-returns-3 c = blank-28 _ (c .before .before .before .args .j) _ (c .before .before .before .pre) (c .before .before .mask-of .ensures .1) (c .before .if1 .left) (c .if2 .left)
+returns-3 c =
+    let s = c .before .before .before in
+    blank-28 _ (s .args .j) _ (s .pre) (c .before .before .mask-of .ensures .1) (c .before .if1 .left) (c .if2 .left)
 
 pub blank-of-spec : {M : Type 1} → statement M
 blank-of-spec = tie.close (tie.spec mask-of-requires returns mul-if2 cast-if2 shr-if2 returns-2 returns-3)

@@ -49,14 +49,19 @@ loop-less : tie.Need-loop-less Inv-loop μ-loop
 loop-less c = search needs
 
 loop-again : tie.Need-loop-again Inv-loop μ-loop
-loop-again c = (
-  omega arith,
-  omega arith,
-  cc (c .before .before .before .loop .inv .2, c .fields-of .ensures) ∙ fields-next (c .before .before .before .before .before .args .channel) (at (c .before .before .before .before .before .args .row .now)) (c .before .before .before .loop .p) (c .before .before .before .loop .inv .1),
-)
+loop-again c =
+    let s = c .before .before .before .before .before .args in
+    let l = c .before .before .before .loop in (
+      omega arith,
+      omega arith,
+      cc (l .inv .2, c .fields-of .ensures) ∙ fields-next (s .channel) (at (s .row .now)) (l .p) (l .inv .1),
+    )
 
 returns : tie.Need-returns Inv-loop μ-loop
-returns c = c .before .loop .inv .2 ∙ fields-end (c .before .before .before .args .channel) (at (c .before .before .before .args .row .now)) (length (c .before .before .before .args .row .now)) (c .before .loop .p) (omega arith) (omega arith) (c .before .loop .inv .1)
+returns c =
+    let s = c .before .before .before .args in
+    let l = c .before .loop in
+    l .inv .2 ∙ fields-end (s .channel) (at (s .row .now)) (length (s .row .now)) (l .p) (omega arith) (omega arith) (l .inv .1)
 
 pub channel-fields-spec : {M : Type 1} → statement M
 channel-fields-spec =

@@ -26,10 +26,16 @@ returns-3 : tie.Need-returns-3
 returns-3 c = (omega arith, choose-whole _ _ _ _ (search needs) (sym (c .before .tells-kind .ensures) ∙ c .if3 .taken))
 
 returns-4 : tie.Need-returns-4
-returns-4 c = (omega arith, choose-told _ _ _ _ (search needs) false true (sym (c .before .before .before .tells-kind .ensures) ∙ c .before .before .if3 .left) (sym (c .before .tells-kind2 .ensures) ∙ c .if4 .taken))
+returns-4 c =
+    let two = sym (c .before .before .before .tells-kind .ensures) ∙ c .before .before .if3 .left in
+    let one = sym (c .before .tells-kind2 .ensures) ∙ c .if4 .taken in
+    (omega arith, choose-told _ _ _ _ (search needs) false true two one)
 
 returns-5 : tie.Need-returns-5
-returns-5 c = (omega arith, choose-told _ _ _ _ (search needs) false false (sym (c .before .before .before .tells-kind .ensures) ∙ c .before .before .if3 .left) (sym (c .before .tells-kind2 .ensures) ∙ c .if4 .left))
+returns-5 c =
+    let two = sym (c .before .before .before .tells-kind .ensures) ∙ c .before .before .if3 .left in
+    let one = sym (c .before .tells-kind2 .ensures) ∙ c .if4 .left in
+    (omega arith, choose-told _ _ _ _ (search needs) false false two one)
 
 pub choice-spec : {M : Type 1} → statement M
 choice-spec =

@@ -31,7 +31,9 @@ segment-end-requires : tie.Need-segment-end-requires Inv-loop μ-loop
 segment-end-requires c κs = (omega arith, omega arith)
 
 loop-holds : tie.Need-loop-holds Inv-loop μ-loop
-loop-holds c = (omega arith, omega arith, rw (c .before .before .before .before .pre .3) (filled-length _ _ _ (omega arith)), c .before .before .before .before .pre .3)
+loop-holds c =
+    let e = c .before .before .before .before .pre .3 in
+    (omega arith, omega arith, rw e (filled-length _ _ _ (omega arith)), e)
 
 mul-value-at : tie.Need-mul-value-at Inv-loop μ-loop
 mul-value-at c = search needs
@@ -59,11 +61,15 @@ loop-again c =
     let s = c .before .before .before .before .before .before .before .before in
     let l = c .before .before .before .loop in
     let row = s .args .row .now in
-    let e = enter-kind row (s .args .b) (l .p) _ _ _ _ (s .pre .2) (l .inv .0) (omega arith) (c .before .before .before .before .before .before .first-named .ensures .1) refl (c .before .value-at .ensures) (c .choice .ensures .1) in (
+    let x = c .choice .result in
+    let first = c .before .before .before .before .before .before .first-named .ensures .1 in
+    let e = enter-kind row (s .args .b) (l .p) _ _ _ _ (s .pre .2) (l .inv .0) (omega arith)
+    first refl (c .before .value-at .ensures) (c .choice .ensures .1) in (
       omega arith,
       omega arith,
-      length-set (l .kinds) (l .p) (c .choice .result) ∙ l .inv .2,
-      ap (λ (w : List ℕ). set w (l .p) (c .choice .result)) (l .inv .3) ∙ filled-step (onlyPlan (at row)) (l .p) (c .choice .result) (replicate 16 0) (omega (arith, length-replicate {A = ℕ} 16 0)) e,
+      length-set (l .kinds) (l .p) x ∙ l .inv .2,
+      ap (λ (w : List ℕ). set w (l .p) x) (l .inv .3)
+          ∙ filled-step (onlyPlan (at row)) (l .p) x (replicate 16 0) (omega (arith, length-replicate {A = ℕ} 16 0)) e,
     )
 
 returns : tie.Need-returns Inv-loop μ-loop

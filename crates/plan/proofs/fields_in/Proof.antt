@@ -47,11 +47,16 @@ loop-less : tie.Need-loop-less Inv-loop μ-loop
 loop-less c = search needs
 
 loop-again : tie.Need-loop-again Inv-loop μ-loop
-loop-again c = (omega arith, omega arith, rw (add-one (c .before .before .before .loop .i)) (cc (c .channel-share .ensures .1, c .before .value-at .ensures, c .before .before .before .loop .inv .2)))
+loop-again c =
+    let l = c .before .before .before .loop in
+    (omega arith, omega arith, rw (add-one (l .i)) (cc (c .channel-share .ensures .1, c .before .value-at .ensures, l .inv .2)))
 
 returns : tie.Need-returns Inv-loop μ-loop
 unfolding fieldsIn
-returns c = (omega arith, (let e : c .before .loop .i ≡ span (c .before .before .before .before .before .args .kind) = omega arith in c .before .loop .inv .2 ∙ cc (e, c .before .before .before .span-of .ensures .2, c .before .before .start-of .ensures .1)))
+returns c =
+    let l = c .before .loop in
+    let e : l .i ≡ span (c .before .before .before .before .before .args .kind) = omega arith in
+    (omega arith, l .inv .2 ∙ cc (e, c .before .before .start-of .ensures .1))
 
 pub fields-in-spec : {M : Type 1} → statement M
 fields-in-spec =

@@ -34,7 +34,11 @@ loop-less : tie.Need-loop-less Inv-loop μ-loop
 loop-less c = search needs
 
 loop-again : tie.Need-loop-again Inv-loop μ-loop
-loop-again c = (omega arith, c .named-or .ensures .0, rw (add-one (c .before .before .before .loop .i)) (c .named-or .ensures .1 ∙ cc (c .before .value-at .ensures)))
+loop-again c = (
+  omega arith,
+  c .named-or .ensures .0,
+  rw (add-one (c .before .before .before .loop .i)) (c .named-or .ensures .1 ∙ cc (c .before .value-at .ensures)),
+)
 
 returns : tie.Need-returns Inv-loop μ-loop
 returns c = (c .before .loop .inv .1, c .before .loop .inv .2 ∙ (let e : c .before .loop .i ≡ 4 = omega arith in rw e))

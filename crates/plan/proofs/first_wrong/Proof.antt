@@ -36,9 +36,10 @@ returns : tie.Need-returns Inv-loop μ-loop
 unfolding firstWrong
 returns c =
     let row = c .before .before .before .before .before .before .before .args .row .now in
-    let p = c .before .before .before .before .before .loop .p in
-    sym (least-stop (wrongAt row) p (length row) (omega arith) (c .before .before .before .before .before .loop .inv .1)
-    (wrong-at row p (c .before .before .before .kind-at .result) _ (c .before .before .before .kind-at .ensures .1) (c .before .is-right .ensures) ∙ c .if1 .taken))
+    let l = c .before .before .before .before .before .loop in
+    let k = c .before .before .before .kind-at in
+    sym (least-stop (wrongAt row) (l .p) (length row) (omega arith) (l .inv .1)
+    (wrong-at row (l .p) (k .result) _ (k .ensures .1) (c .before .is-right .ensures) ∙ c .if1 .taken))
 
 add-p : tie.Need-add-p Inv-loop μ-loop
 add-p c = search needs
@@ -47,12 +48,13 @@ loop-less : tie.Need-loop-less Inv-loop μ-loop
 loop-less c = search needs
 
 loop-again : tie.Need-loop-again Inv-loop μ-loop
-loop-again c = (
-  omega arith,
-  least-step _ _ (c .before .before .before .before .before .loop .inv .1)
-      (wrong-at (c .before .before .before .before .before .before .before .args .row .now) (c .before .before .before .before .before .loop .p)
-      (c .before .before .before .kind-at .result) _ (c .before .before .before .kind-at .ensures .1) (c .before .is-right .ensures) ∙ c .if1 .left),
-)
+loop-again c =
+    let row = c .before .before .before .before .before .before .before .args .row .now in
+    let l = c .before .before .before .before .before .loop in
+    let k = c .before .before .before .kind-at in (
+      omega arith,
+      least-step _ _ (l .inv .1) (wrong-at row (l .p) (k .result) _ (k .ensures .1) (c .before .is-right .ensures) ∙ c .if1 .left),
+    )
 
 returns-2 : tie.Need-returns-2 Inv-loop μ-loop
 unfolding firstWrong

@@ -21,10 +21,14 @@ lies-within-requires : tie.Need-lies-within-requires
 lies-within-requires c κs = search needs
 
 returns-2 : tie.Need-returns-2
-returns-2 c = c .lies-within .ensures ∙ and-yes _ _ (sym (fitting-place _ _ _ (place-is _ _ _ _ _ _ (c .before .before .before .place-in .ensures .1) (c .before .before .fits-place .ensures) (c .before .if2 .taken))))
+returns-2 c =
+    let place = place-is _ _ _ _ _ _ (c .before .before .before .place-in .ensures .1) (c .before .before .fits-place .ensures) (c .before .if2 .taken) in
+    c .lies-within .ensures ∙ and-yes _ _ (sym (fitting-place _ _ _ place))
 
 returns-3 : tie.Need-returns-3
-returns-3 c = and-no _ _ (sym (fitting-none _ _ _ (place-is _ _ _ _ _ _ (c .before .before .place-in .ensures .1) (c .before .fits-place .ensures) (c .if2 .left)) (c .before .before .before .if1 .left)))
+returns-3 c =
+    let place = place-is _ _ _ _ _ _ (c .before .before .place-in .ensures .1) (c .before .fits-place .ensures) (c .if2 .left) in
+    and-no _ _ (sym (fitting-none _ _ _ place (c .before .before .before .if1 .left)))
 
 pub is-right-spec : {M : Type 1} → statement M
 is-right-spec =

@@ -25,7 +25,15 @@ loop-less : tie.Need-loop-less Inv-loop μ-loop
 loop-less c = let e = c .enter-segment .ensures .0 in omega arith
 
 loop-again : tie.Need-loop-again Inv-loop μ-loop
-loop-again c = (c .enter-segment .ensures .0 .1, λ h. let e = c .enter-segment .ensures .0 .2 h in let z = c .before .before .before .loop .inv .1 (omega arith) in omega arith, c .enter-segment .ensures .1)
+loop-again c =
+    let s = c .enter-segment .ensures in (
+      s .0 .1,
+      λ h.
+          let e = s .0 .2 h in
+          let z = c .before .before .before .loop .inv .1 (omega arith) in
+          omega arith,
+      s .1,
+    )
 
 returns : tie.Need-returns Inv-loop μ-loop
 unfolding kindsOf

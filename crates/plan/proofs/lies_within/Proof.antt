@@ -24,7 +24,9 @@ shl-result c = search needs
 
 returns : tie.Need-returns
 unfolding within
-returns c = rw (one-bit (c .before .before .args .n - c .start-of .result) 18446744073709551616 (omega arith) (omega arith)) (cc (c .before .mask-of .ensures .1, c .start-of .ensures .1))
+returns c =
+    rw (one-bit (c .before .before .args .n - c .start-of .result) 18446744073709551616 (omega arith) (omega arith))
+    (cc (c .before .mask-of .ensures .1, c .start-of .ensures .1))
 
 pub lies-within-spec : {M : Type 1} → statement M
 lies-within-spec =

@@ -35,9 +35,13 @@ channel-fields-requires-2 c κs = search needs
 returns : tie.Need-returns
 returns c =
     let row = c .before .before .before .before .before .before .before .before .before .before .before .before .before .args .row .now in
-    let s = c .before .before .before .before .before .before .before .sharing in
-    let o = out-is row _ _ _ _ _ (c .before .before .before .before .before .before .before .before .before .first-wrong .ensures) (s .ensures .0) (c .before .before .before .before .before .before .refuse-if .ensures) (c .before .before .before .refuse-if2 .ensures) (c .before .before .or-else .ensures) in (
-      plan-is row _ _ _ _ _ o (c .before .before .before .before .before .before .before .before .before .before .before .kinds-of .ensures) (s .ensures .1 ∙ ap (sharedTo row) (s .ensures .0)) (c .before .channel-fields .ensures) (c .channel-fields2 .ensures),
+    let kinds = c .before .before .before .before .before .before .before .before .before .before .before .kinds-of .ensures in
+    let wrong = c .before .before .before .before .before .before .before .before .before .first-wrong .ensures in
+    let s = c .before .before .before .before .before .before .before .sharing .ensures in
+    let seven = c .before .before .before .before .before .before .refuse-if .ensures in
+    let eight = c .before .before .before .refuse-if2 .ensures in
+    let o = out-is row _ _ _ _ _ wrong (s .0) seven eight (c .before .before .or-else .ensures) in (
+      plan-is row _ _ _ _ _ o kinds (s .1 ∙ ap (sharedTo row) (s .0)) (c .before .channel-fields .ensures) (c .channel-fields2 .ensures),
       subst (Laid row) (sym o) (outcome-laid row),
     )
 

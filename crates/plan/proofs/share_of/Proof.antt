@@ -14,7 +14,10 @@ fields-of-requires : tie.Need-fields-of-requires
 fields-of-requires c κs = search needs
 
 returns : tie.Need-returns
-returns c = (omega (arith, c .fields-of .ensures, fields-most (c .before .before .before .args .v)), c .fields-of .ensures ∙ share-if _ _ _ (sym (c .before .before .gives-fields .ensures) ∙ c .before .if1 .taken))
+returns c = (
+  omega (arith, c .fields-of .ensures, fields-most (c .before .before .before .args .v)),
+  c .fields-of .ensures ∙ share-if _ _ _ (sym (c .before .before .gives-fields .ensures) ∙ c .before .if1 .taken),
+)
 
 returns-2 : tie.Need-returns-2
 returns-2 c = (omega arith, share-not _ _ _ (sym (c .before .gives-fields .ensures) ∙ c .if1 .left))

@@ -16,7 +16,8 @@ use Rattle.plan.proofs.sharing.Statement.{statement}
 use Rattle.plan.proofs.sharing.Tie as tie
 
 abbrev Inv-loop : tie.InvT-loop
-Inv-loop kinds row n shared₀ before₀ t₀ p₀ shared before t p = (p ≤ n) × (least (overAt row) p ≡ p) × (shared ≡ sharedTo row p) × (0 < p → t ≡ total before (at row) (p - 1))
+Inv-loop kinds row n shared₀ before₀ t₀ p₀ shared before t p =
+    (p ≤ n) × (least (overAt row) p ≡ p) × (shared ≡ sharedTo row p) × (0 < p → t ≡ total before (at row) (p - 1))
 
 abbrev μ-loop : tie.MeasureT-loop
 μ-loop kinds row n shared₀ before₀ t₀ p₀ shared before t p = n - p
@@ -35,9 +36,11 @@ returns : tie.Need-returns Inv-loop μ-loop
 unfolding firstOver
 returns c =
     let row = c .before .before .before .before .before .before .args .row .now in
-    let l = c .before .before .before .before .loop in (
+    let l = c .before .before .before .before .loop in
+    let k = c .before .before .kind-at in
+    let t = c .before .total-from in (
       sym (least-stop (overAt row) (l .p) (length row) (omega arith) (l .inv .1)
-          (over-at row (l .p) (c .before .before .kind-at .result) (c .before .total-from .result) (c .before .before .kind-at .ensures .1) (c .before .total-from .ensures) ∙ lt-ltb _ _ (c .if1 .taken))),
+          (over-at row (l .p) (k .result) (t .result) (k .ensures .1) (t .ensures) ∙ lt-ltb _ _ (c .if1 .taken))),
       l .inv .2,
     )
 

@@ -18,7 +18,10 @@ blank-of-requires : tie.Need-blank-of-requires
 blank-of-requires c κs = search needs
 
 returns-2 : tie.Need-returns-2
-returns-2 c = rw (c .blank-of .ensures) (tells-blank _ _ (λ e. c .before .if1 .left (c .before .before .before .family-of .ensures ∙ e ∙ sym (c .before .before .family-of2 .ensures))))
+returns-2 c =
+    let s = c .before .before in
+    rw (c .blank-of .ensures)
+    (tells-blank _ _ (λ e. c .before .if1 .left (s .before .family-of .ensures ∙ e ∙ sym (s .family-of2 .ensures))))
 
 pub tells-kind-spec : {M : Type 1} → statement M
 tells-kind-spec =

@@ -16,7 +16,10 @@ share-of-requires : tie.Need-share-of-requires
 share-of-requires c κs = search needs
 
 returns : tie.Need-returns
-returns c = c .share-of .ensures .1 ∙ ap (share 0 (c .before .before .before .before .args .p)) (c .before .value-at .ensures) ∙ total-alone _ _ _ (c .before .before .if1 .taken)
+returns c =
+    c .share-of .ensures .1
+    ∙ ap (share 0 (c .before .before .before .before .args .p)) (c .before .value-at .ensures)
+    ∙ total-alone _ _ _ (c .before .before .if1 .taken)
 
 start-of-requires : tie.Need-start-of-requires
 start-of-requires c κs = search needs
@@ -27,7 +30,9 @@ total-of-requires c κs = search needs
 returns-2 : tie.Need-returns-2
 returns-2 c =
     let s = c .before .before .before .before in
-    total-reused _ _ _ _ _ (s .pre .0) (s .pre .2) (eqb-true _ _ (and-left _ _ (c .if2 .taken))) (rw (← c .before .start-of .ensures .1) (ltb-true _ _ (and-right (eqb (s .args .kind) (s .args .before)) _ (c .if2 .taken))))
+    let same = eqb-true _ _ (and-left _ _ (c .if2 .taken)) in
+    let later = ltb-true _ _ (and-right (eqb (s .args .kind) (s .args .before)) _ (c .if2 .taken)) in
+    total-reused _ _ _ _ _ (s .pre .0) (s .pre .2) same (rw (← c .before .start-of .ensures .1) later)
 
 returns-3 : tie.Need-returns-3
 returns-3 c = search needs

@@ -53,7 +53,10 @@ loop-again c =
 
 returns : tie.Need-returns Inv-loop μ-loop
 unfolding fieldsIn
-returns c = (omega arith, let e : c .before .loop .place ≡ span (c .before .before .before .before .before .args .kind) = omega arith in c .before .loop .inv .2 ∙ cc (e, c .before .before .before .span-of .ensures .2, c .before .before .start-of .ensures .1))
+returns c =
+    let l = c .before .loop in
+    let e : l .place ≡ span (c .before .before .before .before .before .args .kind) = omega arith in
+    (omega arith, l .inv .2 ∙ cc (e, c .before .before .start-of .ensures .1))
 
 pub total-of-spec : {M : Type 1} → statement M
 total-of-spec =
