@@ -19,7 +19,9 @@ same-length c = search needs
 
 returns-2 : tie.Need-returns-2
 unfolding comma
-returns-2 c = (rw (ne-eqb _ _ (c .before .before .before .before .if1 .left)) (c .before .before .put .ensures), omega (arith, c .before .before .put .ensures .next))
+returns-2 c =
+    let put = c .before .before in
+    (rw (ne-eqb _ _ (put .before .before .if1 .left)) (put .put .ensures), omega (arith, put .put .ensures .next))
 
 pub put-comma-spec : {M : Type 1} → statement M
 put-comma-spec = tie.close (tie.spec returns put-requires same-length returns-2)

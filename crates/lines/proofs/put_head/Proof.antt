@@ -50,7 +50,15 @@ same-length c = search needs
 
 returns : tie.Need-returns
 unfolding headText
-returns c = (after (after (after (after (after (c .before .before .before .before .before .before .before .before .before .before .before .before .before .before .before .before .before .before .before .before .before .before .before .before .before .before .before .put-line .ensures .0) (c .before .before .before .before .before .before .before .before .before .before .before .before .before .before .before .before .before .before .before .before .before .before .put-line2 .ensures .0)) (c .before .before .before .before .before .before .before .before .before .before .before .before .before .before .before .before .before .put-line3 .ensures .0)) (c .before .before .before .before .before .before .before .before .before .before .before .before .put-line4 .ensures .0)) (c .before .before .before .before .before .before .before .put-line5 .ensures .0)) (c .before .before .put-line6 .ensures .0), omega arith)
+returns c =
+    let line6 = c .before .before in
+    let line5 = line6 .before .before .before .before .before in
+    let line4 = line5 .before .before .before .before .before in
+    let line3 = line4 .before .before .before .before .before in
+    let line2 = line3 .before .before .before .before .before in
+    let line1 = line2 .before .before .before .before .before in
+    let three = after (after (line1 .put-line .ensures .0) (line2 .put-line2 .ensures .0)) (line3 .put-line3 .ensures .0) in
+    (after (after (after three (line4 .put-line4 .ensures .0)) (line5 .put-line5 .ensures .0)) (line6 .put-line6 .ensures .0), omega arith)
 
 pub put-head-spec : {M : Type 1} → statement M
 put-head-spec =

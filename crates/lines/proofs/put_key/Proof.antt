@@ -15,7 +15,10 @@ same-length : tie.Need-same-length
 same-length c = search needs
 
 returns : tie.Need-returns
-returns c = (after (c .before .before .before .before .before .before .put-all .ensures) (c .before .before .put-dec .ensures .0), omega (arith, c .before .before .before .before .before .before .put-all .ensures .next))
+returns c =
+    let number = c .before .before in
+    let name = number .before .before .before .before in
+    (after (name .put-all .ensures) (number .put-dec .ensures .0), omega (arith, name .put-all .ensures .next))
 
 pub put-key-spec : {M : Type 1} → statement M
 put-key-spec = tie.close (tie.spec put-all-requires put-dec-requires same-length returns)

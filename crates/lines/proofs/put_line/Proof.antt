@@ -15,7 +15,9 @@ same-length : tie.Need-same-length
 same-length c = search needs
 
 returns : tie.Need-returns
-returns c = (after (c .before .before .before .before .before .before .put-key .ensures .0) (c .before .before .put .ensures), omega (arith, c .before .before .put .ensures .next))
+returns c =
+    let feed = c .before .before in
+    (after (feed .before .before .before .before .put-key .ensures .0) (feed .put .ensures), omega (arith, feed .put .ensures .next))
 
 pub put-line-spec : {M : Type 1} → statement M
 put-line-spec = tie.close (tie.spec put-key-requires put-requires same-length returns)

@@ -26,13 +26,17 @@ same-length : tie.Need-same-length
 same-length c = search needs
 
 returns : tie.Need-returns
-returns c = rw (c .before .before .before .before .before .enum-told .given .1) (c .before .before .put-all .ensures, omega (arith, c .before .before .put-all .ensures .next))
+returns c =
+    let put = c .before .before in
+    rw (put .before .before .before .enum-told .given .1) (put .put-all .ensures, omega (arith, put .put-all .ensures .next))
 
 same-length-2 : tie.Need-same-length-2
 same-length-2 c = search needs
 
 returns-2 : tie.Need-returns-2
-returns-2 c = rw (c .before .before .before .before .before .enum-told2 .given .1) (c .before .before .put-all2 .ensures, omega (arith, c .before .before .put-all2 .ensures .next))
+returns-2 c =
+    let put = c .before .before in
+    rw (put .before .before .before .enum-told2 .given .1) (put .put-all2 .ensures, omega (arith, put .put-all2 .ensures .next))
 
 pub put-pairing-spec : {M : Type 1} → statement M
 put-pairing-spec =

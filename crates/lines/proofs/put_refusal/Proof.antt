@@ -29,7 +29,11 @@ same-length c = search needs
 
 returns : tie.Need-returns
 unfolding refusalText
-returns c = (after (after (c .before .before .before .before .before .before .before .before .before .before .before .before .put-line .ensures .0) (c .before .before .before .before .before .before .before .put-line2 .ensures .0)) (c .before .before .put-line3 .ensures .0), omega arith)
+returns c =
+    let line3 = c .before .before in
+    let line2 = line3 .before .before .before .before .before in
+    let line1 = line2 .before .before .before .before .before in
+    (after (after (line1 .put-line .ensures .0) (line2 .put-line2 .ensures .0)) (line3 .put-line3 .ensures .0), omega arith)
 
 pub put-refusal-spec : {M : Type 1} → statement M
 put-refusal-spec =

@@ -29,8 +29,8 @@ same-length c = search needs
 returns : tie.Need-returns
 unfolding ruLine
 returns c =
-    let start = c .before .before .before .before .before .before .before .before .before .before .before .before .before .before .before .before .before .before in
-    let put = c .before .before .before .before .before .before .before .before .before .before in (
+    let put = c .before .before .before .before .before .before .before .before .before .before in
+    let start = put .before .before .before .before .before .before .before .before in (
       after (after (after (put .before .before .before .before .before .put-ru-head .ensures .0) (put .put-all .ensures))
           (c .before .before .before .before .before .before .put-tones .ensures .0)) (c .before .before .put .ensures),
       omega (arith, start .pre .0, put .put-all .ensures .next, c .before .before .put .ensures .next),

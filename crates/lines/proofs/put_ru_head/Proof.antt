@@ -44,7 +44,16 @@ same-length c = search needs
 
 returns : tie.Need-returns
 unfolding ruHead
-returns c = (after (after (after (after (c .before .before .before .before .before .before .before .before .before .before .before .before .before .before .before .before .before .before .before .before .before .before .put-all .ensures) (c .before .before .before .before .before .before .before .before .before .before .before .before .before .before .before .before .before .before .put-name .ensures .0)) (rw (c .before .before .before .before .before .before .before .before .before .before .before .before .before .number-of .ensures) at (c .before .before .before .before .before .before .before .before .before .before .before .before .put-key .ensures .0))) (c .before .before .before .before .before .before .before .put-key2 .ensures .0)) (c .before .before .put-key3 .ensures .0), omega (arith, c .before .before .before .before .before .before .before .before .before .before .before .before .before .before .before .before .before .before .before .before .before .before .put-all .ensures .next))
+returns c =
+    let users = c .before .before in
+    let segment = users .before .before .before .before .before in
+    let index = segment .before .before .before .before .before in
+    let name = index .before .before .before .before .before .before in
+    let ru = name .before .before .before .before in
+    let numbered = rw (index .before .number-of .ensures) at (index .put-key .ensures .0) in (
+      after (after (after (after (ru .put-all .ensures) (name .put-name .ensures .0)) numbered) (segment .put-key2 .ensures .0)) (users .put-key3 .ensures .0),
+      omega (arith, ru .put-all .ensures .next),
+    )
 
 pub put-ru-head-spec : {M : Type 1} → statement M
 put-ru-head-spec =

@@ -30,7 +30,14 @@ same-length : tie.Need-same-length
 same-length c = search needs
 
 returns : tie.Need-returns
-returns c = (after (after (after (c .before .before .before .before .before .before .before .before .before .before .before .before .before .before .before .before .put-comma .ensures .0) (c .before .before .before .before .before .before .before .before .before .before .before .put-signed .ensures .0)) (c .before .before .before .before .before .before .before .put .ensures)) (c .before .before .put-signed2 .ensures .0), omega (arith, c .before .before .before .before .before .before .before .put .ensures .next))
+returns c =
+    let last = c .before .before in
+    let colon = last .before .before .before .before .before in
+    let first = colon .before .before .before .before in
+    let comma = first .before .before .before .before .before in (
+      after (after (after (comma .put-comma .ensures .0) (first .put-signed .ensures .0)) (colon .put .ensures)) (last .put-signed2 .ensures .0),
+      omega (arith, colon .put .ensures .next),
+    )
 
 pub put-run-spec : {M : Type 1} → statement M
 put-run-spec =

@@ -62,37 +62,49 @@ same-length : tie.Need-same-length
 same-length c = search needs
 
 returns : tie.Need-returns
-returns c = rw (c .before .before .before .before .before .enum-told .given .1) (c .before .before .put-all .ensures, omega (arith, c .before .before .put-all .ensures .next))
+returns c =
+    let put = c .before .before in
+    rw (put .before .before .before .enum-told .given .1) (put .put-all .ensures, omega (arith, put .put-all .ensures .next))
 
 same-length-2 : tie.Need-same-length-2
 same-length-2 c = search needs
 
 returns-2 : tie.Need-returns-2
-returns-2 c = rw (c .before .before .before .before .before .enum-told2 .given .1) (c .before .before .put-all2 .ensures, omega (arith, c .before .before .put-all2 .ensures .next))
+returns-2 c =
+    let put = c .before .before in
+    rw (put .before .before .before .enum-told2 .given .1) (put .put-all2 .ensures, omega (arith, put .put-all2 .ensures .next))
 
 same-length-3 : tie.Need-same-length-3
 same-length-3 c = search needs
 
 returns-3 : tie.Need-returns-3
-returns-3 c = rw (c .before .before .before .before .before .enum-told3 .given .1) (c .before .before .put-all3 .ensures, omega (arith, c .before .before .put-all3 .ensures .next))
+returns-3 c =
+    let put = c .before .before in
+    rw (put .before .before .before .enum-told3 .given .1) (put .put-all3 .ensures, omega (arith, put .put-all3 .ensures .next))
 
 same-length-4 : tie.Need-same-length-4
 same-length-4 c = search needs
 
 returns-4 : tie.Need-returns-4
-returns-4 c = rw (c .before .before .before .before .before .enum-told4 .given .1) (c .before .before .put-all4 .ensures, omega (arith, c .before .before .put-all4 .ensures .next))
+returns-4 c =
+    let put = c .before .before in
+    rw (put .before .before .before .enum-told4 .given .1) (put .put-all4 .ensures, omega (arith, put .put-all4 .ensures .next))
 
 same-length-5 : tie.Need-same-length-5
 same-length-5 c = search needs
 
 returns-5 : tie.Need-returns-5
-returns-5 c = rw (c .before .before .before .before .before .enum-told5 .given .1) (c .before .before .put-all5 .ensures, omega (arith, c .before .before .put-all5 .ensures .next))
+returns-5 c =
+    let put = c .before .before in
+    rw (put .before .before .before .enum-told5 .given .1) (put .put-all5 .ensures, omega (arith, put .put-all5 .ensures .next))
 
 same-length-6 : tie.Need-same-length-6
 same-length-6 c = search needs
 
 returns-6 : tie.Need-returns-6
-returns-6 c = rw (c .before .before .before .before .before .enum-told6 .given .1) (c .before .before .put-all6 .ensures, omega (arith, c .before .before .put-all6 .ensures .next))
+returns-6 c =
+    let put = c .before .before in
+    rw (put .before .before .before .enum-told6 .given .1) (put .put-all6 .ensures, omega (arith, put .put-all6 .ensures .next))
 
 pub put-size-spec : {M : Type 1} → statement M
 put-size-spec =
