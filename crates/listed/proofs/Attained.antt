@@ -23,8 +23,10 @@ use Rattle.plan.specs.Engine.{kindOf, nameOf, orElse, tells, choose, onlyPlan, 
 use Rattle.plan.specs.Worked.{hasPlan, hasPlanOfEight, lowestWithout, outcome7, outcome8}
 use Rattle.records.specs.Records.{lead, listAt}
 use Rattle.records.specs.Engine.{lowest, ownerAt, ownerOf}
-use Rattle.channel.specs.Layout.{positions, present, firsts, seconds, firstBits, secondAt, secondBits, hasSecond, common, subfields, subfieldsIn, valueAt, value, rowAt, row, total, count, userAt, blockAt, blocks, covered, endOf}
-use Rattle.faults.specs.Checks.{tooLong, cutCommon, wrongFirst, wrongSecond, wrongCommon, overflowDiffers, uncarried, firstUncarried, notCarried, cutUsers, wrongBlock, firstWrong, wrongUsersOf, wrongUsers}
+use Rattle.channel.specs.Layout.{positions, present, firsts, seconds, firstBits, secondAt, secondBits, hasSecond, common, subfields, subfieldsIn}
+use Rattle.channel.specs.Layout.{valueAt, value, rowAt, row, total, count, userAt, blockAt, blocks, covered, endOf}
+use Rattle.faults.specs.Checks.{tooLong, cutCommon, wrongFirst, wrongSecond, wrongCommon, overflowDiffers, uncarried, firstUncarried, notCarried}
+use Rattle.faults.specs.Checks.{cutUsers, wrongBlock, firstWrong, wrongUsersOf, wrongUsers}
 use Rattle.stations.specs.Stations.{firstRepeated, stationTwice}
 use Rattle.halves.specs.Table.{check1, check2, check3, check4, check5, check6, check7, check8, check9, check10, check11, outcome11}
 use Rattle.text.specs.Text.{dec, signed, upto}
@@ -44,11 +46,19 @@ times (suc n) blocks = blocks ++ times n blocks
 channel : ℕ → List ℕ
 channel bw =
     getD
-    ((0 ∷ 0 ∷ 0 ∷ 40 ∷ 240 ∷ 127 ∷ 0 ∷ 252 ∷ 31 ∷ 0 ∷ 13 ∷ 252 ∷ 31 ∷ 0 ∷ 255 ∷ 7 ∷ 64 ∷ 3 ∷ 255 ∷ 7 ∷ 192 ∷ 255 ∷ 1 ∷ 208 ∷ 192 ∷ 255 ∷ 1 ∷ 240 ∷ 127 ∷ 0 ∷ 52 ∷ 240 ∷ 127 ∷ 0 ∷ 20 ∷ 0 ∷ [])
-    ∷ (0 ∷ 0 ∷ 0 ∷ 40 ∷ 240 ∷ 127 ∷ 0 ∷ 252 ∷ 31 ∷ 0 ∷ 13 ∷ 252 ∷ 31 ∷ 0 ∷ 255 ∷ 7 ∷ 64 ∷ 3 ∷ 255 ∷ 7 ∷ 192 ∷ 255 ∷ 1 ∷ 208 ∷ 192 ∷ 255 ∷ 1 ∷ 240 ∷ 127 ∷ 0 ∷ 52 ∷ 240 ∷ 127 ∷ 0 ∷ 20 ∷ 0 ∷ [])
-    ∷ ((0 ∷ 0 ∷ 0 ∷ 0 ∷ 48 ∷ 224 ∷ []) ++ times 9 (255 ∷ 0 ∷ 248 ∷ 63 ∷ 0 ∷ 26 ∷ 248 ∷ 63 ∷ 0 ∷ 254 ∷ 15 ∷ 128 ∷ 6 ∷ 254 ∷ 15 ∷ 128 ∷ 255 ∷ 3 ∷ 160 ∷ 129 ∷ 255 ∷ 3 ∷ 224 ∷ 255 ∷ 0 ∷ 104 ∷ 224 ∷ []))
-    ∷ ((0 ∷ 0 ∷ 0 ∷ 0 ∷ 48 ∷ 0 ∷ 0 ∷ 128 ∷ 2 ∷ 254 ∷ []) ++ times 9 (15 ∷ 128 ∷ 255 ∷ 3 ∷ 160 ∷ 129 ∷ 255 ∷ 3 ∷ 224 ∷ 255 ∷ 0 ∷ 104 ∷ 224 ∷ 255 ∷ 0 ∷ 248 ∷ 63 ∷ 0 ∷ 26 ∷ 248 ∷ 63 ∷ 0 ∷ 254 ∷ 15 ∷ 128 ∷ 6 ∷ 254 ∷ []))
-    ∷ ((0 ∷ 0 ∷ 0 ∷ 0 ∷ 48 ∷ 0 ∷ 0 ∷ 0 ∷ 0 ∷ 0 ∷ 0 ∷ 0 ∷ 56 ∷ 224 ∷ []) ++ times 9 (255 ∷ 0 ∷ 248 ∷ 63 ∷ 0 ∷ 26 ∷ 248 ∷ 63 ∷ 0 ∷ 254 ∷ 15 ∷ 128 ∷ 6 ∷ 254 ∷ 15 ∷ 128 ∷ 255 ∷ 3 ∷ 160 ∷ 129 ∷ 255 ∷ 3 ∷ 224 ∷ 255 ∷ 0 ∷ 104 ∷ 224 ∷ []))
+    ((0 ∷ 0 ∷ 0 ∷ 40 ∷ 240 ∷ 127 ∷ 0 ∷ 252 ∷ 31 ∷ 0 ∷ 13 ∷ 252 ∷ 31 ∷ 0 ∷ 255 ∷ 7 ∷ 64 ∷ 3 ∷ 255 ∷ 7 ∷ 192 ∷ 255 ∷ 1 ∷ 208
+    ∷ 192 ∷ 255 ∷ 1 ∷ 240 ∷ 127 ∷ 0 ∷ 52 ∷ 240 ∷ 127 ∷ 0 ∷ 20 ∷ 0 ∷ [])
+    ∷ (0 ∷ 0 ∷ 0 ∷ 40 ∷ 240 ∷ 127 ∷ 0 ∷ 252 ∷ 31 ∷ 0 ∷ 13 ∷ 252 ∷ 31 ∷ 0 ∷ 255 ∷ 7 ∷ 64 ∷ 3 ∷ 255 ∷ 7 ∷ 192 ∷ 255 ∷ 1 ∷ 208
+    ∷ 192 ∷ 255 ∷ 1 ∷ 240 ∷ 127 ∷ 0 ∷ 52 ∷ 240 ∷ 127 ∷ 0 ∷ 20 ∷ 0 ∷ [])
+    ∷ ((0 ∷ 0 ∷ 0 ∷ 0 ∷ 48 ∷ 224 ∷ [])
+    ++ times 9 (255 ∷ 0 ∷ 248 ∷ 63 ∷ 0 ∷ 26 ∷ 248 ∷ 63 ∷ 0 ∷ 254 ∷ 15 ∷ 128 ∷ 6 ∷ 254 ∷ 15 ∷ 128 ∷ 255 ∷ 3 ∷ 160 ∷ 129
+    ∷ 255 ∷ 3 ∷ 224 ∷ 255 ∷ 0 ∷ 104 ∷ 224 ∷ []))
+    ∷ ((0 ∷ 0 ∷ 0 ∷ 0 ∷ 48 ∷ 0 ∷ 0 ∷ 128 ∷ 2 ∷ 254 ∷ [])
+    ++ times 9 (15 ∷ 128 ∷ 255 ∷ 3 ∷ 160 ∷ 129 ∷ 255 ∷ 3 ∷ 224 ∷ 255 ∷ 0 ∷ 104 ∷ 224 ∷ 255 ∷ 0 ∷ 248 ∷ 63 ∷ 0 ∷ 26 ∷ 248
+    ∷ 63 ∷ 0 ∷ 254 ∷ 15 ∷ 128 ∷ 6 ∷ 254 ∷ []))
+    ∷ ((0 ∷ 0 ∷ 0 ∷ 0 ∷ 48 ∷ 0 ∷ 0 ∷ 0 ∷ 0 ∷ 0 ∷ 0 ∷ 0 ∷ 56 ∷ 224 ∷ [])
+    ++ times 9 (255 ∷ 0 ∷ 248 ∷ 63 ∷ 0 ∷ 26 ∷ 248 ∷ 63 ∷ 0 ∷ 254 ∷ 15 ∷ 128 ∷ 6 ∷ 254 ∷ 15 ∷ 128 ∷ 255 ∷ 3 ∷ 160 ∷ 129
+    ∷ 255 ∷ 3 ∷ 224 ∷ 255 ∷ 0 ∷ 104 ∷ 224 ∷ []))
     ∷ [])
     bw []
 
@@ -57,7 +67,13 @@ second : ℕ → List ℕ
 second bw = cond (ltb 0 bw) (channel bw) []
 
 is-accepted : (bw : ℕ) → bw < 5 → outcome11 bw (channel bw) (second bw) ≡ Pass
-unfolding times channel second count total present subfieldsIn subfields fieldsOf pieces carried positions row build rowAt value valueAt firsts seconds secondAt firstBits secondBits field bit wrongUsers wrongUsersOf firstWrong wrongBlock least blocks blockAt covered common hasSecond right check sent register step outcome11 check1 check2 check3 check4 check5 check6 check7 check8 check9 check10 check11 tooLong cutCommon wrongFirst wrongSecond wrongCommon overflowDiffers differs uncarried firstUncarried notCarried cutUsers endOf userAt firstRepeated stationTwice outcome7 outcome8 lowestWithout hasPlan hasPlanOfEight segmentRight segmentWithin everyFrom rightAt within fitting smallerAt onlyPlan choose tells orElse nameOf kindOf mustName blankAt takesBlock takes mask span family kindAt kinds gives share fieldsIn firstOf _or_
+unfolding times channel second count total present subfieldsIn subfields fieldsOf pieces carried positions row build rowAt value valueAt
+    firsts seconds secondAt firstBits secondBits field bit wrongUsers wrongUsersOf firstWrong wrongBlock least blocks blockAt covered common
+    hasSecond right check sent register step outcome11 check1 check2 check3 check4 check5 check6 check7 check8 check9 check10 check11
+    tooLong cutCommon wrongFirst wrongSecond wrongCommon overflowDiffers differs uncarried firstUncarried notCarried cutUsers endOf userAt
+    firstRepeated stationTwice outcome7 outcome8 lowestWithout hasPlan hasPlanOfEight segmentRight segmentWithin everyFrom rightAt within
+    fitting smallerAt onlyPlan choose tells orElse nameOf kindOf mustName blankAt takesBlock takes mask span family kindAt kinds gives share
+    fieldsIn firstOf _or_
 is-accepted zero l = refl
 is-accepted (suc zero) l = refl
 is-accepted (suc (suc zero)) l = refl

@@ -1,5 +1,7 @@
 pub mod Owner
 pub mod Accepted
 pub mod Stations
+pub mod Lengths
+pub mod Charged
 pub mod Longest
 pub mod Attained

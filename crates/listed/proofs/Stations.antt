@@ -91,7 +91,9 @@ module _ (bw : ℕ) (a b : List ℕ) (e : outcome11 bw a b ≡ Pass) where
       let t : ltb i first ≡ false = le-ltb i first h in
       let n : 10 + i ≡ 10 + first + j = omega arith in
       let w : at (wordsOf bw a b) (10 + i) / 256 % 2048 ≡ field b (userAt bw j) 11 =
-      sym (station-bits (at (wordsOf bw a b) (10 + i))) ∙ ap (λ (x : ℕ). x % 2048) (ap (λ (x : ℕ). userField (at (wordsOf bw a b) x)) n ∙ user-back-2 bw a b j l) ∙ first-11 b (userAt bw j) in
+      sym (station-bits (at (wordsOf bw a b) (10 + i)))
+      ∙ ap (λ (x : ℕ). x % 2048) (ap (λ (x : ℕ). userField (at (wordsOf bw a b) x)) n ∙ user-back-2 bw a b j l)
+      ∙ first-11 b (userAt bw j) in
       record {
         line = rw (t, w);
         listed = rw t (owner-listed (onlyPlan (at the-row)) (at the-row) (length the-row) s 2 j f);

@@ -30,6 +30,8 @@ module _ (bw : ℕ) (r a b : List ℕ) (m : ℕ) where
   both-channels k x y =
       sym (
       upto-append (staLineAt bw r a b m) m k
-      ∙ ap (λ (l : List ℕ). l ++ upto (λ i. staLineAt bw r a b m (m + i)) k) (upto-cong (staLineAt bw r a b m) (ownedLine bw a (ownersIn r 1)) m (λ i h. in-first i (omega arith) h))
-      ∙ ap (λ (l : List ℕ). upto (ownedLine bw a (ownersIn r 1)) m ++ l) (upto-cong (λ i. staLineAt bw r a b m (m + i)) (ownedLine bw b (ownersIn r 2)) k (λ i h. in-second i (omega arith)))
+      ∙ ap (λ (l : List ℕ). l ++ upto (λ i. staLineAt bw r a b m (m + i)) k)
+      (upto-cong (staLineAt bw r a b m) (ownedLine bw a (ownersIn r 1)) m (λ i h. in-first i (omega arith) h))
+      ∙ ap (λ (l : List ℕ). upto (ownedLine bw a (ownersIn r 1)) m ++ l)
+      (upto-cong (λ i. staLineAt bw r a b m (m + i)) (ownedLine bw b (ownersIn r 2)) k (λ i h. in-second i (omega arith)))
       )

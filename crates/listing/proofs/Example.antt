@@ -19,8 +19,11 @@ abbrev theRow : List ℕ
 theRow = 50 ∷ 26 ∷ []
 
 pub worked-listing :
-    headText 1 (length (resources theRow)) 2 0 ++ ruLines (length theRow) (resources theRow) ++ (staLine 11 (ownerIn theRow 2 0 + 1) ++ staLine 12 (ownerIn theRow 2 1 + 1))
-    ≡ codes "answer=0\nbw=1\nresources=2\nfields1=2\nfields2=0\nstations=2\nru=106 index=1 segment=0 users=1 tones=-243:-138\nru=106+26 index=2 segment=0 users=1 tones=-136:-111,-109:-4\nsta=11 resource=1\nsta=12 resource=2\n"
+    headText 1 (length (resources theRow)) 2 0 ++ ruLines (length theRow) (resources theRow)
+    ++ (staLine 11 (ownerIn theRow 2 0 + 1) ++ staLine 12 (ownerIn theRow 2 1 + 1))
+    ≡ codes "answer=0\nbw=1\nresources=2\nfields1=2\nfields2=0\nstations=2\n"
+    ++ codes "ru=106 index=1 segment=0 users=1 tones=-243:-138\nru=106+26 index=2 segment=0 users=1 tones=-136:-111,-109:-4\n"
+    ++ codes "sta=11 resource=1\nsta=12 resource=2\n"
 unfolding dec signed upto onlyPlan choose tells orElse nameOf kindOf mustName blankAt takesBlock takes mask span family kindAt kinds least
     carried pieces fieldsOf ownPieces indexOf resourceAt positionOf placeOf tonesAt tonesOf divides pieceFields lead listAt lowest ownerAt
     ownerOf nameText comma tonesText ruHead ruLine staLine headText ruLines ownerIn

@@ -26,7 +26,8 @@ use Rattle.reader.specs.Result.{answerOf}
 use Rattle.input.specs.Engine.{parsed}
 use Rattle.input.specs.Worked.{said}
 use Rattle.lines.specs.Lines.{headText}
-use Rattle.listed.specs.Listing.{recordLine, resources, ruLines, staLineAt, staLines, listingOf, listing, check23, listOutcome, listAnswer, listAfter, programText}
+use Rattle.listed.specs.Listing.{recordLine, resources, ruLines, staLineAt, staLines, listingOf, listing}
+use Rattle.listed.specs.Listing.{check23, listOutcome, listAnswer, listAfter, programText}
 use Rattle.listing.proofs.list.Reads as list
 use Rattle.listing.proofs.respond.Reads as respond
 

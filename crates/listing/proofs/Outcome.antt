@@ -37,7 +37,8 @@ module _ (bw : ℕ) (a b d : List ℕ) where
       let l : length (listing bw a b) ≤ length d = omega (arith, count v) in
       (rw (p, le-ltb (length d) (length (listing bw a b)) l) (ap (no 0 0) (count v)), rw (p, le-ltb (length d) (length (listing bw a b)) l) (front l v))
 
-  pub listed : {e f : List ℕ} {n r : ℕ} → outcome11 bw a b ≡ Pass → Wrote [] 0 (listing bw a b) e n → n ≤ length (e ++ d) → Wrote (e ++ d) 0 (listing bw a b) f r
+  pub listed : {e f : List ℕ} {n r : ℕ} → outcome11 bw a b ≡ Pass → Wrote [] 0 (listing bw a b) e n → n ≤ length (e ++ d)
+      → Wrote (e ++ d) 0 (listing bw a b) f r
       → (no 0 0 r ≡ listAnswer bw a b (length d)) × (f ≡ listAfter bw a b d)
   listed {e} {f} {n} {r} p w h v =
       let z : e ≡ [] = dry w in

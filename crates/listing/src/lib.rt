@@ -334,7 +334,8 @@ fn put_outcome(out: &mut [u8], bw: u32, a: &[u8], b: &[u8]) -> usize
 // The same of the three lines of a text, with n and m pairs of hex digits.
 fn put_lines(out: &mut [u8], text: &[u8], bw: u32, n: usize, m: usize) -> usize
     requires { ⌜ (n ≤ 4096) × (m ≤ 4096) ⌝ }
-    ensures { λ r. ⌜ Wrote (now (out .entry)) 0 (frameText bw (bytesAt (now (text .entry)) 9 n) (bytesAt (now (text .entry)) (secondAt n) m)) (now (out .exit)) r ⌝ }
+    ensures { λ r. ⌜ Wrote (now (out .entry)) 0
+        (frameText bw (bytesAt (now (text .entry)) 9 n) (bytesAt (now (text .entry)) (secondAt n) m)) (now (out .exit)) r ⌝ }
 {
     let mut cc1 = [0u8; 4096];
     let mut cc2 = [0u8; 4096];

@@ -28,7 +28,8 @@ returns c =
     let s = t .args in
     let w = c .before .before .put-listing .ensures in
     let l = listing-within (s .bw) (s .a .now) (s .b .now) (t .pre .0) in
-    at-once (s .bw) (s .a .now) (s .b .now) (s .out .now) (t .pre .0) w (omega (arith, count w, l, c .before .before .before .before .before .longest-of .ensures))
+    at-once (s .bw) (s .a .now) (s .b .now) (s .out .now) (t .pre .0) w
+    (omega (arith, count w, l, c .before .before .before .before .before .longest-of .ensures))
 
 slice-relend-prefix-put-listing : tie.Need-slice-relend-prefix-put-listing
 slice-relend-prefix-put-listing c = search needs

@@ -50,8 +50,15 @@ loop-again : tie.Need-loop-again Inv-loop μ-loop
 loop-again c =
     let s = c .before .before .before .before .before .before .before .before .before .before .before .args in
     let l = c .before .before .before .before .before .before .before .before .loop in
-    let id : c .before .before .before .before .before .field-at .result ≡ field (s .s .now) (userAt (s .bw) (l .i)) 11 = c .before .before .before .before .before .field-at .ensures ∙ ap (λ (x : ℕ). field (s .s .now) x 11) (c .before .before .before .before .before .before .user-bit .ensures) in
-    (omega arith, item (λ j. staLine (field (s .s .now) (userAt (s .bw) j) 11) (getD (s .owners .now) j 0 + 1)) (l .i) (l .inv .1) (rw (← id, ← (c .before .before .before .number-at .ensures)) (c .before .before .put-sta .ensures .0)), omega arith)
+    let numbered = c .before .before .before in
+    let read = numbered .before .before in
+    let id : read .field-at .result ≡ field (s .s .now) (userAt (s .bw) (l .i)) 11 =
+    read .field-at .ensures ∙ ap (λ (x : ℕ). field (s .s .now) x 11) (read .before .user-bit .ensures) in (
+      omega arith,
+      item (λ j. staLine (field (s .s .now) (userAt (s .bw) j) 11) (getD (s .owners .now) j 0 + 1)) (l .i) (l .inv .1)
+          (rw (← id, ← (numbered .number-at .ensures)) (c .before .before .put-sta .ensures .0)),
+      omega arith,
+    )
 
 same-length : tie.Need-same-length Inv-loop μ-loop
 same-length c = kept (c .before .loop .inv .1)

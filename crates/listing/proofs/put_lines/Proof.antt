@@ -46,7 +46,9 @@ same-length c = search needs
 
 returns : tie.Need-returns
 returns c =
-    rw (← (front-of _ _ _ (c .before .before .before .before .before .before .before .before .before .before .unhex .ensures)), ← (front-of _ _ _ (c .before .before .before .before .before .before .before .unhex2 .ensures))) (c .before .before .put-outcome .ensures)
+    let second = c .before .before .before .before .before .before .before in
+    let first = second .before .before .before in
+    rw (← (front-of _ _ _ (first .unhex .ensures)), ← (front-of _ _ _ (second .unhex2 .ensures))) (c .before .before .put-outcome .ensures)
 
 pub put-lines-spec : {M : Type 1} → statement M
 put-lines-spec =

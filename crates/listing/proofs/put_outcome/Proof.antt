@@ -21,8 +21,8 @@ same-length c = search needs
 returns : tie.Need-returns
 unfolding frameText
 returns c =
-    rw (outcome _ _ _ (c .before .before .before .before .before .before .before .plan-readable .ensures) (c .before .before .before .before .before .checked .given .1))
-    (c .before .before .put-refusal .ensures .0)
+    let refused = c .before .before .before .before .before in
+    rw (outcome _ _ _ (refused .before .before .plan-readable .ensures) (refused .checked .given .1)) (c .before .before .put-refusal .ensures .0)
 
 enum-told : tie.Need-enum-told
 enum-told c = search needs
@@ -52,8 +52,8 @@ same-length-2 c = search needs
 returns-2 : tie.Need-returns-2
 unfolding frameText
 returns-2 c =
-    let e = c .before .before .before .before .before .before .before .before .before .before .before .plan-readable .ensures in
-    rw (outcome _ _ _ e (c .before .before .before .before .before .before .before .before .before .enum-told .given .1)) (c .before .before .put-listing .ensures)
+    let passed = c .before .before .before .before .before .before .before .before .before in
+    rw (outcome _ _ _ (passed .before .before .plan-readable .ensures) (passed .enum-told .given .1)) (c .before .before .put-listing .ensures)
 
 pub put-outcome-spec : {M : Type 1} → statement M
 put-outcome-spec =

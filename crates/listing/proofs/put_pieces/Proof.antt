@@ -47,7 +47,8 @@ loop-again c =
     let l = c .before .before .before .before .before .loop in
     let m = list-length 0 (λ q. a .v) (a .p) in
     let e : getD (listAt 0 (λ q. a .v) (a .p)) (l .k) blank ≡ pieceRecord (λ q. a .v) (a .p) (pieceAt (a .v) (l .k)) =
-    list-at 0 (λ q. a .v) (a .p) (l .k) (omega (arith, m, c .before .before .before .before .before .before .pieces-of .ensures)) ∙ own-record 0 (λ q. a .v) (a .p) (l .k) refl in
+    list-at 0 (λ q. a .v) (a .p) (l .k) (omega (arith, m, c .before .before .before .before .before .before .pieces-of .ensures))
+    ∙ own-record 0 (λ q. a .v) (a .p) (l .k) refl in
     (omega arith, item _ _ (l .inv .1) (rw (ap (runsLine (a .n)) (sym e)) at (c .before .before .put-piece .ensures .0)), omega arith)
 
 same-length : tie.Need-same-length Inv-loop μ-loop
@@ -57,7 +58,8 @@ returns : tie.Need-returns Inv-loop μ-loop
 unfolding runsLines listed
 returns c =
     let a = c .before .before .before .before .args in
-    let e : c .before .loop .k ≡ length (listAt 0 (λ q. a .v) (a .p)) = omega (arith, c .before .before .pieces-of .ensures, list-length 0 (λ q. a .v) (a .p)) in
+    let e : c .before .loop .k ≡ length (listAt 0 (λ q. a .v) (a .p)) =
+    omega (arith, c .before .before .pieces-of .ensures, list-length 0 (λ q. a .v) (a .p)) in
     (rw e at (c .before .loop .inv .1), omega arith)
 
 pub put-pieces-spec : {M : Type 1} → statement M

@@ -18,9 +18,16 @@ same-length c = search needs
 
 returns : tie.Need-returns
 returns c =
-    let s = c .before .before .before .before .before .before .before .before .before .before .before .before .args in
-    let q = c .before .before .before .before .before .before .before .before .before .before .before .before .pre in
-    rw (← both-channels (s .bw) (s .row .now) (s .a .now) (s .b .now) (s .m) (s .k) (q .1) (q .2)) (after {t = upto (ownedLine (s .bw) (s .a .now) (ownersIn (s .row .now) 1)) (s .m)} {u = upto (ownedLine (s .bw) (s .b .now) (ownersIn (s .row .now) 2)) (s .k)} (c .before .before .before .before .before .before .put-owned .ensures .0) (c .before .before .put-owned2 .ensures .0))
+    let second = c .before .before in
+    let first = second .before .before .before .before in
+    let start = first .before .before .before .before .before .before in
+    let s = start .args in
+    let q = start .pre in
+    rw (← both-channels (s .bw) (s .row .now) (s .a .now) (s .b .now) (s .m) (s .k) (q .1) (q .2))
+    (after
+    {t = upto (ownedLine (s .bw) (s .a .now) (ownersIn (s .row .now) 1)) (s .m)}
+    {u = upto (ownedLine (s .bw) (s .b .now) (ownersIn (s .row .now) 2)) (s .k)}
+    (first .put-owned .ensures .0) (second .put-owned2 .ensures .0))
 
 pub put-stations-spec : {M : Type 1} → statement M
 put-stations-spec =

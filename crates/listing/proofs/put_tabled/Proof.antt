@@ -21,8 +21,9 @@ put-records-requires c κs = search needs
 
 put-stations-requires : tie.Need-put-stations-requires
 put-stations-requires c κs =
-    let q = c .before .before .before .before .before .before .before .before .before .before .before .before .before .before .pre in
-    let l = resources-few (c .before .before .before .before .before .before .before .before .before .before .before .before .before .before .args .row .now) (q .2) in
+    let start = c .before .before .before .before .before .before .before .before .before .before .before .before .before .before in
+    let q = start .pre in
+    let l = resources-few (start .args .row .now) (q .2) in
     (omega arith, q .0, q .1, q .2, q .3, q .4)
 
 same-length : tie.Need-same-length
@@ -31,7 +32,10 @@ same-length c = search needs
 returns : tie.Need-returns
 unfolding runsListing
 returns c =
-    after (after (rw (c .before .before .before .before .before .before .before .before .before .before .before .before .count-in .ensures) at (c .before .before .before .before .before .before .before .before .before .before .put-head .ensures .0)) (c .before .before .before .before .before .before .put-records .ensures .0)) (c .before .before .put-stations .ensures)
+    let records = c .before .before .before .before .before .before in
+    let head = records .before .before .before .before in
+    let counted = rw (head .before .before .count-in .ensures) at (head .put-head .ensures .0) in
+    after (after counted (records .put-records .ensures .0)) (c .before .before .put-stations .ensures)
 
 pub put-tabled-spec : {M : Type 1} → statement M
 put-tabled-spec =

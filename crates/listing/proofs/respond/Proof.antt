@@ -22,7 +22,9 @@ enum-known-parsed-2 c = search needs
 
 put-lines-requires : tie.Need-put-lines-requires
 put-lines-requires c κs =
-    let h = few (c .before .before .before .before .before .before .before .args .text .now) _ _ _ (sym (c .before .before .before .before .parse .ensures) ∙ c .before .before .parsed2 .given .1) in
+    let found = c .before .before in
+    let asked = found .before .before in
+    let h = few (asked .before .before .before .args .text .now) _ _ _ (sym (asked .parse .ensures) ∙ found .parsed2 .given .1) in
     (omega arith, omega arith)
 
 same-length : tie.Need-same-length
