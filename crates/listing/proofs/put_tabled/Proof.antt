@@ -34,8 +34,9 @@ unfolding runsListing
 returns c =
     let records = c .before .before .before .before .before .before in
     let head = records .before .before .before .before in
-    let counted = rw (head .before .before .count-in .ensures) at (head .put-head .ensures .0) in
-    after (after counted (records .put-records .ensures .0)) (c .before .before .put-stations .ensures)
+    after
+    (after (rw (head .before .before .count-in .ensures) at (head .put-head .ensures .0)) (records .put-records .ensures .0))
+    (c .before .before .put-stations .ensures)
 
 pub put-tabled-spec : {M : Type 1} → statement M
 put-tabled-spec =
