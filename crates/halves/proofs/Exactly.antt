@@ -60,11 +60,15 @@ module _ (bw : ℕ) (a b : List ℕ) where
 
   only-7 : Only 7 (check7 bw a b)
   unfolding check7 outcome7
-  only-7 = only-if (ltb (lowestWithout (hasPlan (row bw a b)) (segments (row bw a b))) (segments (row bw a b))) 7 0 (lowestWithout (hasPlan (row bw a b)) (segments (row bw a b)))
+  only-7 =
+      let found = lowestWithout (hasPlan (row bw a b)) (segments (row bw a b)) in
+      only-if (ltb found (segments (row bw a b))) 7 0 found
 
   only-8 : Only 8 (check8 bw a b)
   unfolding check8 outcome8
-  only-8 = only-if (ltb (lowestWithout (hasPlanOfEight (row bw a b)) (segments (row bw a b))) (segments (row bw a b))) 8 0 (lowestWithout (hasPlanOfEight (row bw a b)) (segments (row bw a b)))
+  only-8 =
+      let found = lowestWithout (hasPlanOfEight (row bw a b)) (segments (row bw a b)) in
+      only-if (ltb found (segments (row bw a b))) 8 0 found
 
   only-9 : Only 9 (check9 bw a b)
   unfolding check9

@@ -123,4 +123,5 @@ tones-found b g p x h i j k t =
     let n = 2 ^ b in
     let f : Piece → Bool = λ y. wherever (leb (fromPositions y) n) (sameSpans (tonesOf n g (resourceAt p y)) (tonesAt n g p y)) in
     spans-eq (tonesOf n g (resourceAt p x)) (tonesAt n g p x)
-    (met (leb (fromPositions x) n) (sameSpans (tonesOf n g (resourceAt p x)) (tonesAt n g p x)) (at-piece f x (at-position founds b g p all-found h i j) t) (le→leb (fromPositions x) n k))
+    (met (leb (fromPositions x) n) (sameSpans (tonesOf n g (resourceAt p x)) (tonesAt n g p x))
+    (at-piece f x (at-position founds b g p all-found h i j) t) (le→leb (fromPositions x) n k))

@@ -97,14 +97,23 @@ abbrev ascends : ℕ → ℕ → ℕ → ℕ → Bool
 ascends n g p v = ascending (256 * (4 * g + p)) (256 * (4 * g + p) + 256) (gather (runs-at n g p) (ownPieces v))
 
 ascend : T (everywhere (λ n g p. below (ascends n g p) 72))
-unfolding pieces ownPieces indexOf resourceAt positionOf placeOf runsOf placesRuns wide wideWith26 narrow narrowWith26 offset26 offset52 offset106 narrow26 narrow52 narrow106
+unfolding pieces ownPieces indexOf resourceAt positionOf placeOf runsOf placesRuns wide wideWith26 narrow narrowWith26 offset26 offset52
+    offset106 narrow26 narrow52 narrow106
 ascend = tt
 
 -- from 51 on no value divides its position, and from 72 on none leaves it to itself
 pub not-divided : (v : ℕ) → 51 ≤ v → pieces v ≡ []
 unfolding pieces
 not-divided v h =
-    rw (le-ltb v 16 (omega arith), le-ltb v 20 (omega arith), le-ltb v 24 (omega arith), ne-eqb v 24 (λ e. omega arith), ne-eqb v 25 (λ e. omega arith), ne-eqb v 48 (λ e. omega arith), ne-eqb v 50 (λ e. omega arith))
+    rw (
+      le-ltb v 16 (omega arith),
+      le-ltb v 20 (omega arith),
+      le-ltb v 24 (omega arith),
+      ne-eqb v 24 (λ e. omega arith),
+      ne-eqb v 25 (λ e. omega arith),
+      ne-eqb v 48 (λ e. omega arith),
+      ne-eqb v 50 (λ e. omega arith),
+    )
 
 pub no-pieces : (v : ℕ) → 72 ≤ v → ownPieces v ≡ []
 unfolding ownPieces
@@ -130,7 +139,8 @@ module _ (b g p v : ℕ) (h : b < 5) (i : p < 4) (j : 4 * g + p < 2 ^ b) where
   pub pieces-apart : (d : Piece) (k l u : ℕ) → k ≢ l → k < length (ownPieces v) → l < length (ownPieces v)
       → In u (runsOf (2 ^ b) g (resourceAt p (getD (ownPieces v) k d))) → In u (runsOf (2 ^ b) g (resourceAt p (getD (ownPieces v) l d))) → ⊥
   pieces-apart d k l u n c e m o =
-      let r : (x y : ℕ) → x < y → y < length (ownPieces v) → In u (runs-at (2 ^ b) g p (getD (ownPieces v) x d)) → In u (runs-at (2 ^ b) g p (getD (ownPieces v) y d)) → u < u
+      let r : (x y : ℕ) → x < y → y < length (ownPieces v) → In u (runs-at (2 ^ b) g p (getD (ownPieces v) x d))
+      → In u (runs-at (2 ^ b) g p (getD (ownPieces v) y d)) → u < u
       = λ x y q z a f. rise (runs-at (2 ^ b) g p) d (256 * (4 * g + p) + 256) (256 * (4 * g + p)) (ownPieces v) ascends-at x y u u q z a f in
       ⊎-elim
       (λ q. let z = r k l q e m o in omega arith)

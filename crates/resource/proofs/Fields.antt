@@ -13,7 +13,15 @@ use Rattle.resource.proofs.Test.{below-or, every-below}
 pub carried-high : (v : ℕ) → 128 ≤ v → carried v ≡ false
 unfolding carried
 carried-high v h =
-    rw (lt-leb v 30 (omega arith), ne-eqb v 48 (λ e. omega arith), ne-eqb v 50 (λ e. omega arith), lt-leb v 87 (omega arith), le-leb 64 v (omega arith), lt-leb v 127 (omega arith), le-leb 96 v (omega arith))
+    rw (
+      lt-leb v 30 (omega arith),
+      ne-eqb v 48 (λ e. omega arith),
+      ne-eqb v 50 (λ e. omega arith),
+      lt-leb v 87 (omega arith),
+      le-leb 64 v (omega arith),
+      lt-leb v 127 (omega arith),
+      le-leb 96 v (omega arith),
+    )
 
 pub fields-high : (v : ℕ) → 128 ≤ v → fieldsOf v ≡ 0
 unfolding fieldsOf

@@ -42,7 +42,9 @@ wide-few p S996 j = omega arith
 
 in-few : (n g : ℕ) (s : Size) (i : ℕ) → length (inPosition n g s i) ≤ 3
 in-few n g s i =
-    few (eqb n 1) (narrow s (placeOf s i)) (wide (4 * g + positionOf s i) s (placeOf s i)) (narrow-few s (placeOf s i)) (wide-few (4 * g + positionOf s i) s (placeOf s i))
+    let p = 4 * g + positionOf s i in
+    let j = placeOf s i in
+    few (eqb n 1) (narrow s j) (wide p s j) (narrow-few s j) (wide-few p s j)
 
 -- a resource has at most three runs
 pub runs-few : (n g : ℕ) (r : Resource) → length (runsOf n g r) ≤ 3

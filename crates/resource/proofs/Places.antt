@@ -30,7 +30,8 @@ own-place p =
 
 -- ---- at most three runs, whatever the places
 few : (b : ℕ) (w x y z : Bool)
-    → length (cond (w && x && y && z) (runOf (256 * b + 12) 498 ∷ runOf (256 * b + 515) 498 ∷ []) (the242If w b ++ (the242If x (b + 1) ++ (the242If y (b + 2) ++ the242If z (b + 3))))) ≤ 3
+    → length (cond (w && x && y && z) (runOf (256 * b + 12) 498 ∷ runOf (256 * b + 515) 498 ∷ [])
+    (the242If w b ++ (the242If x (b + 1) ++ (the242If y (b + 2) ++ the242If z (b + 3))))) ≤ 3
 few b true true true true = omega arith
 few b true true true false = omega arith
 few b true true false true = omega arith
@@ -104,7 +105,10 @@ unfolding placesRuns
 somewhere b m u h =
     ⊎-elim (λ w. whole-at b m u (w .0) (w .1))
     (λ w. ⊎-elim (λ e. inl (e .0, omega arith))
-    (λ x. inr (⊎-elim inl (λ y. inr (⊎-elim inl (λ z. inr (in-last (set-at 3 m) (b + 3) u z)) (in-if (set-at 2 m) (b + 2) u _ y))) (in-if (set-at 1 m) (b + 1) u _ x)))
+    (λ x. inr
+    (⊎-elim inl
+    (λ y. inr (⊎-elim inl (λ z. inr (in-last (set-at 3 m) (b + 3) u z)) (in-if (set-at 2 m) (b + 2) u _ y)))
+    (in-if (set-at 1 m) (b + 1) u _ x)))
     (in-if (set-at 0 m) b u _ w))
     (in-either (set-at 0 m && set-at 1 m && set-at 2 m && set-at 3 m) u _ _ h)
 
@@ -160,7 +164,9 @@ if-last false p = refl
 
 -- else one after the other
 pub each-place : (b m : ℕ) → (m % 16 ≡ 15 → ⊥)
-    → placesRuns b m ≡ the242If (eqb (m % 2) 1) b ++ (the242If (eqb (m / 2 % 2) 1) (b + 1) ++ (the242If (eqb (m / 4 % 2) 1) (b + 2) ++ (the242If (eqb (m / 8 % 2) 1) (b + 3) ++ [])))
+    → placesRuns b m
+    ≡ the242If (eqb (m % 2) 1) b
+    ++ (the242If (eqb (m / 2 % 2) 1) (b + 1) ++ (the242If (eqb (m / 4 % 2) 1) (b + 2) ++ (the242If (eqb (m / 8 % 2) 1) (b + 3) ++ [])))
 unfolding placesRuns
 each-place b m n =
     let e : m / 1 ≡ m = omega arith in

@@ -159,8 +159,11 @@ found-right v k = ⊎-elim low (λ h. nowhere v k (high h k) (high h (k + 1)) �
     low : v < 72 → foundAt v k ≡ pieceAt v k
     low h =
         ⊎-elim
-        (λ l. piece-eq (foundAt v k) (pieceAt v k) (every-below (piece-test v) 9 (both-right (leb (length (ownPieces v)) 9) (below (piece-test v) 9) (every-below pieces-test 72 tested v h)) k l))
-        (λ l. nowhere v k (all-passed 9 (starts v) k 0 l) (all-passed 9 (starts v) (k + 1) 0 (omega arith)) ∙ sym (List·getD-eq-default (ownPieces v) noPiece (omega (arith, own-most v))))
+        (λ l. piece-eq (foundAt v k) (pieceAt v k)
+        (every-below (piece-test v) 9
+        (both-right (leb (length (ownPieces v)) 9) (below (piece-test v) 9) (every-below pieces-test 72 tested v h)) k l))
+        (λ l. nowhere v k (all-passed 9 (starts v) k 0 l) (all-passed 9 (starts v) (k + 1) 0 (omega arith))
+        ∙ sym (List·getD-eq-default (ownPieces v) noPiece (omega (arith, own-most v))))
         (below-or k 9)
 
 -- a place is at most nine

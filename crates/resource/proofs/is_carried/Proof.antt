@@ -30,7 +30,15 @@ gap-2 v a b =
 joined : (v : ℕ) → 96 ≤ v → v ≤ 127 → true ≡ carried v
 unfolding carried
 joined v a b =
-    rw (lt-leb v 30 (omega arith), ne-eqb v 48 (λ e. omega arith), ne-eqb v 50 (λ e. omega arith), le-leb 64 v (omega arith), lt-leb v 87 (omega arith), le-leb 96 v a, le-leb v 127 b)
+    rw (
+      lt-leb v 30 (omega arith),
+      ne-eqb v 48 (λ e. omega arith),
+      ne-eqb v 50 (λ e. omega arith),
+      le-leb 64 v (omega arith),
+      lt-leb v 87 (omega arith),
+      le-leb 96 v a,
+      le-leb v 127 b,
+    )
 
 returns : tie.Need-returns
 returns c = gap _ (omega arith) (omega arith) (λ e. c .before .before .match .rest .1 (inl e)) (λ e. c .before .before .match .rest .1 (inr e))

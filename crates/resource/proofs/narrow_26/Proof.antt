@@ -40,7 +40,11 @@ returns-8 c = (rw (c .match .keys8), omega arith)
 
 returns-9 : tie.Need-returns-9
 unfolding narrow26
-returns-9 c = (none-listed (7 ∷ 33 ∷ 60 ∷ 86 ∷ 0 ∷ 145 ∷ 171 ∷ 198 ∷ 224 ∷ []) ((8 ∷ []) ∷ (7 ∷ []) ∷ (6 ∷ []) ∷ (5 ∷ []) ∷ (3 ∷ []) ∷ (2 ∷ []) ∷ (1 ∷ []) ∷ (0 ∷ []) ∷ []) _ tt (c .match .rest), omega arith)
+returns-9 c = (
+  none-listed (7 ∷ 33 ∷ 60 ∷ 86 ∷ 0 ∷ 145 ∷ 171 ∷ 198 ∷ 224 ∷ [])
+      ((8 ∷ []) ∷ (7 ∷ []) ∷ (6 ∷ []) ∷ (5 ∷ []) ∷ (3 ∷ []) ∷ (2 ∷ []) ∷ (1 ∷ []) ∷ (0 ∷ []) ∷ []) _ tt (c .match .rest),
+  omega arith,
+)
 
 pub narrow-26-spec : {M : Type 1} → statement M
 narrow-26-spec =

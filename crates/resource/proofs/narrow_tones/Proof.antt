@@ -77,11 +77,17 @@ no-tones-requires-2 c κs = search needs
 
 returns : tie.Need-returns
 unfolding narrow
-returns c = c .two-runs .ensures ∙ rw (c .before .before .run-of .ensures, c .before .run-of2 .ensures, c .before .before .before .before .enum-told .given .1, c .before .before .before .if1 .taken)
+returns c =
+    let taken = c .before .before .before in
+    c .two-runs .ensures
+    ∙ rw (c .before .before .run-of .ensures, c .before .run-of2 .ensures, taken .before .enum-told .given .1, taken .if1 .taken)
 
 returns-2 : tie.Need-returns-2
 unfolding narrow
-returns-2 c = c .one-run .ensures ∙ rw (c .before .run-of3 .ensures, c .before .before .narrow-26 .ensures .0, c .before .before .before .before .enum-told .given .1, ne-eqb _ 4 (c .before .before .before .if1 .left))
+returns-2 c =
+    let left = c .before .before .before in
+    c .one-run .ensures
+    ∙ rw (c .before .run-of3 .ensures, c .before .before .narrow-26 .ensures .0, left .before .enum-told .given .1, ne-eqb _ 4 (left .if1 .left))
 
 returns-3 : tie.Need-returns-3
 unfolding narrow
@@ -89,7 +95,9 @@ returns-3 c = c .one-run2 .ensures ∙ rw (c .before .run-of4 .ensures, c .befor
 
 returns-4 : tie.Need-returns-4
 unfolding narrow
-returns-4 c = c .one-run3 .ensures ∙ rw (c .before .run-of5 .ensures, c .before .before .narrow-106 .ensures .0, c .before .before .before .enum-told3 .given .1)
+returns-4 c =
+    c .one-run3 .ensures
+    ∙ rw (c .before .run-of5 .ensures, c .before .before .narrow-106 .ensures .0, c .before .before .before .enum-told3 .given .1)
 
 returns-5 : tie.Need-returns-5
 unfolding narrow

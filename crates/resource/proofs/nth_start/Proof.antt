@@ -32,7 +32,15 @@ loop-less : tie.Need-loop-less Inv-loop μ-loop
 loop-less c = search needs
 
 loop-again : tie.Need-loop-again Inv-loop μ-loop
-loop-again c = (omega arith, ⊎-elim (λ w. rw (w .2) (sym (passed _ _ _ (c .before .loop-test .taken) (w .0 .taken) (w .1 .left)) ∙ c .before .before .loop .inv .1)) (λ w. rw (w .1) (sym (skipped _ _ _ (c .before .loop-test .taken) (w .0 .left)) ∙ c .before .before .loop .inv .1)) (c .if1 .came))
+loop-again c =
+    let turn = c .before .loop-test .taken in
+    let kept = c .before .before .loop .inv .1 in (
+      omega arith,
+      ⊎-elim
+          (λ w. rw (w .2) (sym (passed _ _ _ turn (w .0 .taken) (w .1 .left)) ∙ kept))
+          (λ w. rw (w .1) (sym (skipped _ _ _ turn (w .0 .left)) ∙ kept))
+          (c .if1 .came),
+    )
 
 returns-2 : tie.Need-returns-2 Inv-loop μ-loop
 returns-2 c = sym (ended _ _ _ (omega arith)) ∙ c .before .loop .inv .1

@@ -44,7 +44,11 @@ returns-9 c = (rw (c .match .keys9), omega arith)
 
 returns-10 : tie.Need-returns-10
 unfolding offset26
-returns-10 c = (none-listed (1 ∷ 27 ∷ 55 ∷ 81 ∷ 108 ∷ 135 ∷ 161 ∷ 189 ∷ 215 ∷ []) ((8 ∷ []) ∷ (7 ∷ []) ∷ (6 ∷ []) ∷ (5 ∷ []) ∷ (4 ∷ []) ∷ (3 ∷ []) ∷ (2 ∷ []) ∷ (1 ∷ []) ∷ (0 ∷ []) ∷ []) _ tt (c .match .rest), omega arith)
+returns-10 c = (
+  none-listed (1 ∷ 27 ∷ 55 ∷ 81 ∷ 108 ∷ 135 ∷ 161 ∷ 189 ∷ 215 ∷ [])
+      ((8 ∷ []) ∷ (7 ∷ []) ∷ (6 ∷ []) ∷ (5 ∷ []) ∷ (4 ∷ []) ∷ (3 ∷ []) ∷ (2 ∷ []) ∷ (1 ∷ []) ∷ (0 ∷ []) ∷ []) _ tt (c .match .rest),
+  omega arith,
+)
 
 pub offset-26-spec : {M : Type 1} → statement M
 offset-26-spec =

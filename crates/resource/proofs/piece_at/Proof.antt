@@ -21,7 +21,9 @@ piece-from-requires : tie.Need-piece-from-requires
 piece-from-requires c κs = search needs
 
 returns : tie.Need-returns
-returns c = c .piece-from .ensures ∙ rw (c .before .before .nth-start .ensures, c .before .nth-start2 .ensures, c .before .before .before .starts-of .ensures) (found-right _ _)
+returns c =
+    c .piece-from .ensures
+    ∙ rw (c .before .before .nth-start .ensures, c .before .nth-start2 .ensures, c .before .before .before .starts-of .ensures) (found-right _ _)
 
 pub piece-at-spec : {M : Type 1} → statement M
 piece-at-spec =

@@ -36,8 +36,9 @@ two-runs-requires c κs = search needs
 
 returns : tie.Need-returns
 returns c =
-    c .two-runs .ensures
-    ∙ rw (c .before .before .run-of .ensures, c .before .run-of2 .ensures, all-places (c .before .before .before .before .args .b) (c .before .before .before .before .args .mask) (c .before .before .before .if1 .taken))
+    let a = c .before .before .before .before .args in
+    let all = all-places (a .b) (a .mask) (c .before .before .before .if1 .taken) in
+    c .two-runs .ensures ∙ rw (c .before .before .run-of .ensures, c .before .run-of2 .ensures, all)
 
 add-with-242 : tie.Need-add-with-242
 add-with-242 c = search needs
@@ -66,7 +67,8 @@ with-242-requires-4 c κs = let z = none (c .before .before .before .no-tones .e
 returns-2 : tie.Need-returns-2
 returns-2 c =
     let a = c .before .before .before .before .before .before .args in
-    let upper = c .before .before .with-2422 .ensures .0 _ (c .before .before .before .with-242 .ensures .0 [] (c .before .before .before .before .no-tones .ensures)) in
+    let first = c .before .before .before in
+    let upper = c .before .before .with-2422 .ensures .0 _ (first .with-242 .ensures .0 [] (first .before .no-tones .ensures)) in
     c .with-2424 .ensures .0 _ (c .before .with-2423 .ensures .0 _ upper)
     ∙ rw (each-place (a .b) (a .mask) (c .before .before .before .before .before .if1 .left))
 

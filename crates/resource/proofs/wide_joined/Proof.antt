@@ -41,11 +41,17 @@ two-runs-requires-2 c κs = search needs
 
 returns : tie.Need-returns
 unfolding wideWith26
-returns c = c .two-runs .ensures ∙ rw (c .before .before .run-of .ensures, c .before .run-of2 .ensures, c .before .before .before .before .edge-of .ensures .0, c .before .before .before .if1 .taken)
+returns c =
+    let taken = c .before .before .before in
+    c .two-runs .ensures
+    ∙ rw (c .before .before .run-of .ensures, c .before .run-of2 .ensures, taken .before .edge-of .ensures .0, taken .if1 .taken)
 
 returns-2 : tie.Need-returns-2
 unfolding wideWith26
-returns-2 c = c .two-runs2 .ensures ∙ rw (c .before .before .run-of3 .ensures, c .before .run-of4 .ensures, c .before .before .before .before .edge-of .ensures .0, ne-eqb _ 0 (c .before .before .before .if1 .left))
+returns-2 c =
+    let left = c .before .before .before in
+    c .two-runs2 .ensures
+    ∙ rw (c .before .before .run-of3 .ensures, c .before .run-of4 .ensures, left .before .edge-of .ensures .0, ne-eqb _ 0 (left .if1 .left))
 
 pub wide-joined-spec : {M : Type 1} → statement M
 wide-joined-spec =

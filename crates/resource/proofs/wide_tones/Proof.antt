@@ -83,15 +83,24 @@ no-tones-requires-2 c κs = search needs
 
 returns : tie.Need-returns
 unfolding wide
-returns c = c .one-run .ensures ∙ rw (c .before .run-of .ensures, c .before .before .offset-26 .ensures .0, c .before .before .before .edge-of .ensures .0, c .before .before .before .before .enum-told .given .1)
+returns c =
+    let edge = c .before .before .before in
+    c .one-run .ensures
+    ∙ rw (c .before .run-of .ensures, c .before .before .offset-26 .ensures .0, edge .edge-of .ensures .0, edge .before .enum-told .given .1)
 
 returns-2 : tie.Need-returns-2
 unfolding wide
-returns-2 c = c .one-run2 .ensures ∙ rw (c .before .run-of2 .ensures, c .before .before .offset-52 .ensures .0, c .before .before .before .edge-of2 .ensures .0, c .before .before .before .before .enum-told2 .given .1)
+returns-2 c =
+    let edge = c .before .before .before in
+    c .one-run2 .ensures
+    ∙ rw (c .before .run-of2 .ensures, c .before .before .offset-52 .ensures .0, edge .edge-of2 .ensures .0, edge .before .enum-told2 .given .1)
 
 returns-3 : tie.Need-returns-3
 unfolding wide
-returns-3 c = c .one-run3 .ensures ∙ rw (c .before .run-of3 .ensures, c .before .before .offset-106 .ensures .0, c .before .before .before .edge-of3 .ensures .0, c .before .before .before .before .enum-told3 .given .1)
+returns-3 c =
+    let edge = c .before .before .before in
+    c .one-run3 .ensures
+    ∙ rw (c .before .run-of3 .ensures, c .before .before .offset-106 .ensures .0, edge .edge-of3 .ensures .0, edge .before .enum-told3 .given .1)
 
 returns-4 : tie.Need-returns-4
 unfolding wide
