@@ -81,7 +81,9 @@ all-hold [] e = tt
 all-hold (c ∷ cs) e = (holds c (e .0), all-hold cs (e .1))
 
 computed : AllComputed bench
-unfolding planOutcome firstWrong firstOver least rightAt within fitting onlyPlan choose tells orElse kindNamed kindOf mustName blankAt takesBlock takes mask span family kindAt kinds gives share fieldsIn _or_ listAt lead resourceColumn larger pieceFields divides pieces fieldsOf ownPieces smallerAt indexOf resourceAt carried bit step register sent check
+unfolding planOutcome firstWrong firstOver least rightAt within fitting onlyPlan choose tells orElse kindNamed kindOf mustName blankAt
+    takesBlock takes mask span family kindAt kinds gives share fieldsIn _or_ listAt lead resourceColumn larger pieceFields divides pieces
+    fieldsOf ownPieces smallerAt indexOf resourceAt carried bit step register sent check
 computed = (
   (refl, refl),
   (

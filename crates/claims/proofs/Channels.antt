@@ -18,9 +18,11 @@ use Rattle.resource.specs.Values.{carried, fieldsOf}
 use Rattle.resource.proofs.Fields.{carried-high, fields-most}
 use Rattle.answer.specs.Lists.{at}
 use Rattle.channel.specs.Layout.{positions, present, overflow, ltfSymbols, subfields, subfieldsIn, value, rowAt, row, total, count, userAt, blocks}
-use Rattle.channel.proofs.Laws.{place-1, place-2, present-1, absent-2, subfields-le, subfieldsIn-le, common-le, total-cong, total-le, row-length, row-at, position-subfield, end-le}
+use Rattle.channel.proofs.Laws.{place-1, place-2, present-1, absent-2, subfields-le, subfieldsIn-le, common-le}
+use Rattle.channel.proofs.Laws.{total-cong, total-le, row-length, row-at, position-subfield, end-le}
 use Rattle.faults.specs.Checks.{tooLong, cutCommon, wrongCommon, notCarried, cutUsers, wrongUsers}
-use Rattle.faults.proofs.Passing.{tooLong-pass, pass-tooLong, pass-cutCommon, pass-wrongCommon, pass-overflowDiffers, pass-notCarried, pass-cutUsers, pass-wrongUsers}
+use Rattle.faults.proofs.Passing.{tooLong-pass, pass-tooLong, pass-cutCommon, pass-wrongCommon, pass-overflowDiffers}
+use Rattle.faults.proofs.Passing.{pass-notCarried, pass-cutUsers, pass-wrongUsers}
 use Rattle.stations.specs.Stations.{stationOf, repeated, firstRepeated, stationTwice}
 use Rattle.halves.specs.Table.{check1, check2, check3, check4, check5, check6, check9, check10, check11, outcome6}
 use Rattle.halves.specs.Engine.{outcome9to11}

@@ -161,8 +161,9 @@ module _ (bw : ℕ) (a b : List ℕ) (l : bw ≤ 4) (o : ℕ → ℕ) (s : Signa
 
   has-one : (c j : ℕ) → j < fieldsBefore c (at r) (length r) → OneOwner o r c j
   has-one c j h =
+      let i = ownerOf o (at r) c (length r) j in
       let w = owner-owns o (at r) (length r) s c j h in
-      (ownerOf o (at r) c (length r) j, owner-listed o (at r) (length r) s c j h, w, λ i′ v. one-owner o (at r) (length r) i′ (ownerOf o (at r) c (length r) j) c j v w)
+      (i, owner-listed o (at r) (length r) s c j h, w, λ i′ v. one-owner o (at r) (length r) i′ i c j v w)
 
   -- w has the frame's words at its front
   pub formatted : (w : List ℕ) → ((k : ℕ) → k < wordCount bw a b → at w k ≡ at (wordsOf bw a b) k) → Formatted bw a b w o
@@ -181,7 +182,8 @@ module _ (bw : ℕ) (a b : List ℕ) (l : bw ≤ 4) (o : ℕ → ℕ) (s : Signa
 -- ---- of any result that the contract of `reader::read` allows
 
 -- the frame's words stand at the front of the lent ones
-front-words : (bw : ℕ) (a b w : List ℕ) → readOutcome bw a b (length w) ≡ Pass → (k : ℕ) → k < wordCount bw a b → at (wordsAfter bw a b w) k ≡ at (wordsOf bw a b) k
+front-words : (bw : ℕ) (a b w : List ℕ) → readOutcome bw a b (length w) ≡ Pass → (k : ℕ) → k < wordCount bw a b
+    → at (wordsAfter bw a b w) k ≡ at (wordsOf bw a b) k
 unfolding wordsAfter
 front-words bw a b w e k h =
     rw e (List·getD-append (wordsOf bw a b) (drop (wordCount bw a b) w) 0 k (omega (arith, words-length bw a b)))
