@@ -1,4 +1,4 @@
-/* timed.h: the proved check of crates/check4 by itself, for timing. Link with libtimed.a.
+/* timed.h: the proved check of crates/block by itself, for timing. Link with libtimed.a.
  *
  * Blocks of n bits stand one after the other from bit 0, each followed by its check of four bits and its tail of six. A
  * check is its four bits as a number, the first sent lowest. Bits past the end of s are 0. */

@@ -5,10 +5,10 @@ use lib.ListN.{length}
 use Prim.Native.Nat.{_*_, _/_}
 use Rattle.answer.proofs.Order.{after-answered}
 use Rattle.answer.specs.Lists.{filled}
-use Rattle.frame.specs.Words.{wordCount, wordsOf}
+use Rattle.frame_words.specs.Words.{wordCount, wordsOf}
 use Rattle.reader.specs.Table.{readOutcome}
-use Rattle.reader.specs.Result.{answerOf}
-use Rattle.octets.specs.Octets.{byteAt}
+use Rattle.reader.specs.Result.{readAnswer}
+use Rattle.word_bytes.specs.Bytes.{byteAt}
 use Rattle.brachymel.specs.Bytes.{readBytes}
 use Rattle.brachymel.proofs.brachymel_read.Reads as read
 use Rattle.brachymel.proofs.brachymel_write.Reads as write
@@ -28,7 +28,7 @@ write-agrees κs a r r' s s' p q = (p .0 ∙ sym (q .0), (p .1 .0 ∙ sym (q .1 
 
 -- "Every refusal writes nothing"
 pub read-keeps : (κs : _) (a : _) (r : _) (s : _) → read.Post κs a r s → (r .number ≡ 0 → ⊥) → now (s .1 .1 .1 .0) ≡ now (a .1 .1 .1 .0)
-unfolding readBytes answerOf
+unfolding readBytes readAnswer
 read-keeps κs a r s p n =
     let x = now (a .1 .0) in
     let y = now (a .1 .1 .0) in

@@ -13,14 +13,14 @@ use Rattle.answer.specs.declared.Outcome.the-variants.{Pass, Refuse}
 use Rattle.answer.proofs.Order.{pass-right, pass-if, pass-not-refuse}
 use Rattle.answer.proofs.Lists.{length-build}
 use Rattle.halves.specs.Table.{check1, outcome11}
-use Rattle.frame.specs.Words.{wordsOf}
-use Rattle.frame.proofs.Determine.{words-length}
-use Rattle.frame.proofs.Counted.{word-count-le}
+use Rattle.frame_words.specs.Words.{wordsOf}
+use Rattle.frame_words.proofs.Determine.{words-length}
+use Rattle.frame_words.proofs.Counted.{word-count-le}
 use Rattle.candidate.specs.Engine.{candidate}
 use Rattle.writer.specs.Engine.{sameWords, readsTo}
 use Rattle.writer.specs.Worked.{someRead}
 use Rattle.writer.specs.Result.{check13, check14, writeOutcome}
-use Rattle.octets.specs.Octets.{wordAt, wordsIn}
+use Rattle.word_bytes.specs.Bytes.{wordAt, wordsIn}
 use Rattle.brachymel.specs.Bytes.{ragged, bytesOutcome}
 use Rattle.brachymel.specs.Engine.{early}
 

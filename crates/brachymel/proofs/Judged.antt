@@ -19,8 +19,8 @@ use Rattle.candidate.specs.Engine.{needed, candidate}
 use Rattle.writer.specs.Result.{check13, check14, writeOutcome, front, writeNumbers}
 use Rattle.writer.proofs.Exactly.{only-1, only-13, only-14}
 use Rattle.listing.proofs.Facts.{list-kept}
-use Rattle.octets.specs.Octets.{wordsIn}
-use Rattle.brachymel.specs.Bytes.{ragged, bytesOutcome, writeAnswer, writeChannel, bytesChecks}
+use Rattle.word_bytes.specs.Bytes.{wordsIn}
+use Rattle.brachymel.specs.Bytes.{ragged, bytesOutcome, bytesWriteAnswer, writeChannel, bytesChecks}
 use Rattle.brachymel.proofs.brachymel_write.Reads as write
 use Rattle.brachymel.proofs.brachymel_list.Reads as list
 
@@ -37,9 +37,9 @@ rows-give bw t n m =
     more (only-1 bw (wordsIn t) n m)
     (more (only-or (only-ragged t) (only-13 bw (wordsIn t) n m)) (more (only-14 bw (wordsIn t) n m) none))
 
-writing-rows : (bw : ℕ) (t : List ℕ) (n m : ℕ) → firstOf (bytesChecks bw t n m) ≡ bytesOutcome bw t n m
+writeChecks-first : (bw : ℕ) (t : List ℕ) (n m : ℕ) → firstOf (bytesChecks bw t n m) ≡ bytesOutcome bw t n m
 unfolding bytesOutcome writeOutcome _or_
-writing-rows bw t n m =
+writeChecks-first bw t n m =
     first-chain (check1 bw) ((ragged t or check13 bw (wordsIn t)) ∷ check14 bw (wordsIn t) n m ∷ [])
     ∙ twice (check1 bw) (ragged t) (check13 bw (wordsIn t)) (check14 bw (wordsIn t) n m)
   where
@@ -49,14 +49,14 @@ writing-rows bw t n m =
     twice Pass (Refuse x) q r = refl
     twice (Refuse x) p q r = refl
 
-pub write-judged : (bw : ℕ) (t : List ℕ) (n m : ℕ) → Judged writeNumbers (bytesChecks bw t n m) (needed bw (wordsIn t)) (writeAnswer bw t n m)
-unfolding writeAnswer
-write-judged bw t n m = rw (writing-rows bw t n m) at (judged (rows-give bw t n m) numbers-distinct (needed bw (wordsIn t)))
+pub write-judged : (bw : ℕ) (t : List ℕ) (n m : ℕ) → Judged writeNumbers (bytesChecks bw t n m) (needed bw (wordsIn t)) (bytesWriteAnswer bw t n m)
+unfolding bytesWriteAnswer
+write-judged bw t n m = rw (writeChecks-first bw t n m) at (judged (rows-give bw t n m) numbers-distinct (needed bw (wordsIn t)))
 
 -- "Every refusal writes nothing"
 pub write-keeps : (κs : _) (a : _) (r : _) (s : _) → write.Post κs a r s → (r .number ≡ 0 → ⊥)
     → (now (s .1 .1 .0) ≡ now (a .1 .1 .0)) × (now (s .1 .1 .1 .0) ≡ now (a .1 .1 .1 .0))
-unfolding writeAnswer writeChannel
+unfolding bytesWriteAnswer writeChannel
 write-keeps κs a r s p n =
     let bw = a .0 in
     let t = now (a .1 .0) in

@@ -8,10 +8,10 @@ use lib.Dec.{ltb}
 use borrow.Author.Tests.{ltb-true, ltb-false, lt-ltb, le-ltb}
 use Rattle.answer.specs.Answer.{no, refuseIf, _or_}
 use Rattle.halves.specs.Table.{outcome11}
-use Rattle.frame.specs.Words.{wordCount}
-use Rattle.frame.proofs.Counted.{word-count-le}
+use Rattle.frame_words.specs.Words.{wordCount}
+use Rattle.frame_words.proofs.Counted.{word-count-le}
 use Rattle.reader.specs.Table.{readOutcome, noRoom, check12}
-use Rattle.reader.proofs.Stages.{reading-stages}
+use Rattle.reader.proofs.Stages.{readOutcome-stages}
 
 same-room : (need r : ℕ) → need ≤ 154 → ltb (min r 154) need ≡ ltb r need
 same-room need r l = go (ltb r need) refl
@@ -23,6 +23,6 @@ same-room need r l = go (ltb r need) refl
 pub reading-room : (bw : ℕ) (a b : List ℕ) (r : ℕ) → readOutcome bw a b (min r 154) ≡ readOutcome bw a b r
 unfolding check12 noRoom
 reading-room bw a b r =
-    reading-stages bw a b (min r 154)
+    readOutcome-stages bw a b (min r 154)
     ∙ ap (λ (t : Bool). outcome11 bw a b or refuseIf t (no 12 0 (wordCount bw a b))) (same-room (wordCount bw a b) r (word-count-le bw a b))
-    ∙ sym (reading-stages bw a b r)
+    ∙ sym (readOutcome-stages bw a b r)

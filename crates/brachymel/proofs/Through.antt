@@ -11,32 +11,32 @@ use Rattle.answer.proofs.Lists.{filled-cong}
 use Rattle.answer.specs.declared.Answer.{Answer}
 use Rattle.answer.specs.declared.Outcome.{Outcome}
 use Rattle.answer.specs.declared.Outcome.the-variants.{Pass}
-use Rattle.frame.specs.Words.{wordCount, wordsOf}
+use Rattle.frame_words.specs.Words.{wordCount, wordsOf}
 use Rattle.reader.specs.Table.{readOutcome}
-use Rattle.reader.specs.Result.{answerOf, wordsAfter}
-use Rattle.reader.proofs.Stages.{reading-pass}
-use Rattle.frame.proofs.Determine.{words-length}
+use Rattle.reader.specs.Result.{readAnswer, wordsAfter}
+use Rattle.reader.proofs.Stages.{readOutcome-pass}
+use Rattle.frame_words.proofs.Determine.{words-length}
 use Rattle.reader.proofs.Exactly.{accepted-exactly}
-use Rattle.octets.specs.Octets.{byteAt}
-use Rattle.brachymel.specs.Bytes.{readAnswer, readBytes}
+use Rattle.word_bytes.specs.Bytes.{byteAt}
+use Rattle.brachymel.specs.Bytes.{bytesReadAnswer, readBytes}
 use Rattle.brachymel.proofs.Rooms.{reading-room}
 
 -- `read` has read into p, of as many words as the lent bytes w have room for: its answer x, and p′ that it left there
 pub record HasRead (bw : ℕ) (a b w p p′ : List ℕ) (x : Answer) : Type 0 where
   pub room : length p ≡ min (length w / 4) 154
-  pub answers : x ≡ answerOf bw a b (length p)
+  pub answers : x ≡ readAnswer bw a b (length p)
   pub leaves : p′ ≡ wordsAfter bw a b p
 
 module _ {bw : ℕ} {a b w p p′ : List ℕ} {x : Answer} (h : HasRead bw a b w p p′ x) where
   same-reading : readOutcome bw a b (length p) ≡ readOutcome bw a b (length w / 4)
   same-reading = ap (readOutcome bw a b) (h .room) ∙ reading-room bw a b (length w / 4)
 
-  pub answer-is : x ≡ readAnswer bw a b w
-  unfolding answerOf
+  pub answer-is : x ≡ bytesReadAnswer bw a b w
+  unfolding readAnswer
   answer-is = h .answers ∙ ap (λ (o : Outcome). answerAt o (wordCount bw a b)) same-reading
 
   pub kept-bytes : (x .number ≡ 0 → ⊥) → w ≡ readBytes bw a b w
-  unfolding readBytes answerOf
+  unfolding readBytes readAnswer
   kept-bytes n =
       sym (after-answered (readOutcome bw a b (length w / 4)) (wordCount bw a b) x (filled (byteAt (wordsOf bw a b)) (4 * wordCount bw a b) w) w answer-is n)
 
@@ -45,11 +45,11 @@ module _ {bw : ℕ} {a b w p p′ : List ℕ} {x : Answer} (h : HasRead bw a b w
     passed = accepted-exactly bw a b (length p) (ap (λ (y : Answer). y .number) (sym (h .answers)) ∙ z)
 
     pub place-is : x .place ≡ wordCount bw a b
-    unfolding answerOf
+    unfolding readAnswer
     place-is = ap (λ (y : Answer). y .place) (h .answers) ∙ ap (λ (o : Outcome). answerAt o (wordCount bw a b) .place) passed
 
     pub room-for : wordCount bw a b ≤ length p
-    room-for = reading-pass bw a b (length p) passed .room-enough
+    room-for = readOutcome-pass bw a b (length p) passed .room-enough
 
     words-there : p′ ≡ wordsOf bw a b ++ drop (wordCount bw a b) p
     unfolding wordsAfter

@@ -12,16 +12,16 @@ use Rattle.answer.specs.Lists.{filled}
 use Rattle.answer.specs.declared.Answer.{Answer}
 use Rattle.answer.specs.declared.Outcome.{Outcome}
 use Rattle.halves.specs.Table.{check1}
-use Rattle.frame.specs.Words.{wordCount, wordsOf}
+use Rattle.frame_words.specs.Words.{wordCount, wordsOf}
 use Rattle.reader.specs.Table.{readOutcome}
-use Rattle.reader.specs.Result.{answerOf}
+use Rattle.reader.specs.Result.{readAnswer}
 use Rattle.writer.specs.Worked.{theChannel, theBytes}
 use Rattle.writer.specs.Result.{writeOutcome, front, check13, check14}
-use Rattle.octets.specs.Octets.{byteAt, wordsIn}
+use Rattle.word_bytes.specs.Bytes.{byteAt, wordsIn}
 
 -- "0 and 12 give places in words"
-abbrev pub readAnswer : ℕ → List ℕ → List ℕ → List ℕ → Answer
-readAnswer bw a b w = answerOf bw a b (length w / 4)
+abbrev pub bytesReadAnswer : ℕ → List ℕ → List ℕ → List ℕ → Answer
+bytesReadAnswer bw a b w = readAnswer bw a b (length w / 4)
 
 -- the lent bytes afterwards; those past the words keep what they held
 unfoldable pub readBytes : ℕ → List ℕ → List ℕ → List ℕ → List ℕ
@@ -37,8 +37,8 @@ ragged t = refuseIf (not (eqb (length t % 4) 0)) (no 13 0 0)
 unfoldable pub bytesOutcome : ℕ → List ℕ → ℕ → ℕ → Outcome
 bytesOutcome bw t n m = check1 bw or ragged t or writeOutcome bw (wordsIn t) n m
 
-unfoldable pub writeAnswer : ℕ → List ℕ → ℕ → ℕ → Answer
-writeAnswer bw t n m = answerAt (bytesOutcome bw t n m) (theBytes bw (wordsIn t))
+unfoldable pub bytesWriteAnswer : ℕ → List ℕ → ℕ → ℕ → Answer
+bytesWriteAnswer bw t n m = answerAt (bytesOutcome bw t n m) (theBytes bw (wordsIn t))
 
 -- channel c afterwards, which was d
 unfoldable pub writeChannel : ℕ → List ℕ → ℕ → ℕ → ℕ → List ℕ → List ℕ

@@ -4,10 +4,10 @@ use answer::Outcome;
 ghost use mathlib.Core.Path.{_≡_};
 ghost use Prim.Native.Nat.{_/_, _%_, _≤_, _<_};
 ghost use lib.ListN.{length};
-ghost use Rattle.octets.specs.Octets.{wordsIn};
-ghost use Rattle.brachymel.specs.Bytes.{readAnswer, readBytes, writeAnswer, writeChannel};
+ghost use Rattle.word_bytes.specs.Bytes.{wordsIn};
+ghost use Rattle.brachymel.specs.Bytes.{bytesReadAnswer, readBytes, bytesWriteAnswer, writeChannel};
 ghost use Rattle.brachymel.specs.Engine.{early};
-ghost use Rattle.writer.specs.Result.{answerOf, channelAfter};
+ghost use Rattle.writer.specs.Result.{writeAnswer, channelAfter};
 ghost use Rattle.listed.specs.Listing.{listAnswer, listAfter};
 
 // The reading, through words of its own.
@@ -19,21 +19,21 @@ fn read_through(
     local: &mut [u32],
 ) -> Answer
     requires { ⌜ length (now local) ≡ 154 ⌝ }
-    ensures { λ r. ⌜ r ≡ readAnswer bandwidth (now (cc1 .entry)) (now (cc2 .entry)) (now (words .entry)) ⌝ }
+    ensures { λ r. ⌜ r ≡ bytesReadAnswer bandwidth (now (cc1 .entry)) (now (cc2 .entry)) (now (words .entry)) ⌝ }
     ensures { λ _. ⌜ now (words .exit) ≡ readBytes bandwidth (now (cc1 .entry)) (now (cc2 .entry)) (now (words .entry)) ⌝ }
 {
-    let room = octets::room_of(words.len());
+    let room = word_bytes::room_of(words.len());
     let x = reader::read(bandwidth, cc1, cc2, &mut local[..room]);
     if x.number != 0 {
         return x;
     }
-    octets::put_bytes(words, local, x.place);
+    word_bytes::put_bytes(words, local, x.place);
     x
 }
 
 #[no_mangle]
 pub extern "C" fn brachymel_read(bandwidth: u32, cc1: &[u8], cc2: &[u8], words: &mut [u8]) -> Answer
-    ensures { λ r. ⌜ r ≡ readAnswer bandwidth (now (cc1 .entry)) (now (cc2 .entry)) (now (words .entry)) ⌝ }
+    ensures { λ r. ⌜ r ≡ bytesReadAnswer bandwidth (now (cc1 .entry)) (now (cc2 .entry)) (now (words .entry)) ⌝ }
     ensures { λ _. ⌜ now (words .exit) ≡ readBytes bandwidth (now (cc1 .entry)) (now (cc2 .entry)) (now (words .entry)) ⌝ }
 {
     let mut local = [0u32; 154];
@@ -50,13 +50,13 @@ fn write_through(
     local: &mut [u32],
 ) -> Answer
     requires { ⌜ (n ≤ length (now local)) × (n ≡ length (now words) / 4) ⌝ }
-    ensures { λ r. ⌜ r ≡ answerOf bandwidth (wordsIn (now (words .entry))) (length (now (cc1 .entry))) (length (now (cc2 .entry))) ⌝ }
+    ensures { λ r. ⌜ r ≡ writeAnswer bandwidth (wordsIn (now (words .entry))) (length (now (cc1 .entry))) (length (now (cc2 .entry))) ⌝ }
     ensures { λ _. ⌜ now (cc1 .exit)
         ≡ channelAfter bandwidth (wordsIn (now (words .entry))) (length (now (cc1 .entry))) (length (now (cc2 .entry))) 1 (now (cc1 .entry)) ⌝ }
     ensures { λ _. ⌜ now (cc2 .exit)
         ≡ channelAfter bandwidth (wordsIn (now (words .entry))) (length (now (cc1 .entry))) (length (now (cc2 .entry))) 2 (now (cc2 .entry)) ⌝ }
 {
-    octets::get_words(local, words, n);
+    word_bytes::get_words(local, words, n);
     writer::write(bandwidth, &local[..n], cc1, cc2)
 }
 
@@ -67,7 +67,7 @@ pub extern "C" fn brachymel_write(
     cc1: &mut [u8],
     cc2: &mut [u8],
 ) -> Answer
-    ensures { λ r. ⌜ r ≡ writeAnswer bandwidth (now (words .entry)) (length (now (cc1 .entry))) (length (now (cc2 .entry))) ⌝ }
+    ensures { λ r. ⌜ r ≡ bytesWriteAnswer bandwidth (now (words .entry)) (length (now (cc1 .entry))) (length (now (cc2 .entry))) ⌝ }
     ensures { λ _. ⌜ now (cc1 .exit)
         ≡ writeChannel bandwidth (now (words .entry)) (length (now (cc1 .entry))) (length (now (cc2 .entry))) 1 (now (cc1 .entry)) ⌝ }
     ensures { λ _. ⌜ now (cc2 .exit)

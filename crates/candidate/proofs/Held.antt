@@ -14,7 +14,7 @@ use Rattle.resource.proofs.Fields.{fields-most}
 use Rattle.channel.specs.Layout.{present, subfields, subfieldsIn, endOf}
 use Rattle.channel.proofs.Laws.{present-1, subfields-le, subfieldsIn-le, total-le, end-le}
 use Rattle.candidate.specs.Engine.{overflowIn, valueIn, countIn, fieldIn, needed, bytesIn, channelIn, candidate}
-use Rattle.candidate.specs.Length.{larger, bytesFor}
+use Rattle.candidate.specs.Length.{longer, bytesFor}
 use Rattle.candidate.proofs.Contents.{Contents}
 use Rattle.candidate.proofs.Built.{sealed-carries, sealed-zero, sealed-length}
 
@@ -25,16 +25,16 @@ unfolding countIn
 count-in-le bw w c =
     omega (arith, total-le (λ k. fieldsOf (valueIn w c k)) 9 (subfieldsIn bw c) (λ k. fields-most (valueIn w c k)), subfieldsIn-le bw c, subfields-le bw)
 
-pub larger-ge : (x y : ℕ) → (x ≤ larger x y) × (y ≤ larger x y)
-unfolding larger
+pub larger-ge : (x y : ℕ) → (x ≤ longer x y) × (y ≤ longer x y)
+unfolding longer
 larger-ge x y = go (ltb x y) refl
   where
     go : (t : Bool) → ltb x y ≡ t → (x ≤ cond t y x) × (y ≤ cond t y x)
     go true e = (omega (arith, ltb-true x y e), omega arith)
     go false e = (omega arith, omega (arith, ltb-false x y e))
 
-larger-le : (x y z : ℕ) → x ≤ z → y ≤ z → larger x y ≤ z
-unfolding larger
+larger-le : (x y z : ℕ) → x ≤ z → y ≤ z → longer x y ≤ z
+unfolding longer
 larger-le x y z p q = go (ltb x y)
   where
     go : (t : Bool) → cond t y x ≤ z

@@ -14,7 +14,7 @@ use Rattle.resource.specs.Values.{fieldsOf}
 use Rattle.channel.specs.Layout.{present, firstBits, secondAt, secondBits, hasSecond, subfieldsIn, valueAt, total, userAt, blockAt, blocks, covered}
 use Rattle.answer.specs.Lists.{at}
 use Rattle.words.specs.Engine.{overflowOf, valueOf, userField}
-use Rattle.frame.specs.Words.{positionOf}
+use Rattle.frame_words.specs.Words.{positionIn}
 use Rattle.candidate.specs.Length.{bytesFor}
 
 -- ---- a channel from what it carries
@@ -52,7 +52,7 @@ overflowIn w = overflowOf (at w 1)
 
 -- the k-th value of channel c
 unfoldable pub valueIn : List ℕ → ℕ → ℕ → ℕ
-valueIn w c k = valueOf w (positionOf c k)
+valueIn w c k = valueOf w (positionIn c k)
 
 -- how many User fields the channel has: as many as its values give
 unfoldable pub countIn : ℕ → List ℕ → ℕ → ℕ

@@ -6,9 +6,9 @@ use Rattle.channel.specs.Layout.{endOf}
 
 -- ---- the channels
 
-unfoldable pub larger : ℕ → ℕ → ℕ
-larger x y = cond (ltb x y) y x
+unfoldable pub longer : ℕ → ℕ → ℕ
+longer x y = cond (ltb x y) y x
 
 -- "both channels with the same number of bytes, just enough for the longer", of n and m fields
 unfoldable pub bytesFor : ℕ → ℕ → ℕ → ℕ
-bytesFor bw n m = (larger (endOf bw n) (endOf bw m) + 7) / 8
+bytesFor bw n m = (longer (endOf bw n) (endOf bw m) + 7) / 8

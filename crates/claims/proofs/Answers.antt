@@ -23,11 +23,11 @@ use Rattle.channel.specs.Layout.{row}
 use Rattle.halves.specs.Table.{check7, check8, outcome11}
 use Rattle.halves.specs.Engine.{outcome9to11}
 use Rattle.halves.proofs.Stages.{outcome11-rest}
-use Rattle.frame.specs.Words.{wordCount}
-use Rattle.frame.proofs.Counted.{word-count-le}
+use Rattle.frame_words.specs.Words.{wordCount}
+use Rattle.frame_words.proofs.Counted.{word-count-le}
 use Rattle.reader.specs.Table.{check12, noRoom, readOutcome}
-use Rattle.reader.specs.Result.{answerOf}
-use Rattle.reader.proofs.Stages.{reading-stages}
+use Rattle.reader.specs.Result.{readAnswer}
+use Rattle.reader.proofs.Stages.{readOutcome-stages}
 use Rattle.reader.proofs.Exactly.{refused-exactly}
 use Rattle.claims.specs.Calls.{Call, Reads, reads}
 use Rattle.claims.specs.Rows.{CarriedRow, CarryRow, Lowest, ForLayout, ReadAccepts}
@@ -35,17 +35,17 @@ use Rattle.claims.proofs.Channels.{some-channels}
 
 module _ (bw : ℕ) (r a b : List ℕ) (room : ℕ) (h : CarryRow bw r a b) where
   abbrev x : Answer
-  x = answerOf bw a b room
+  x = readAnswer bw a b room
 
   -- what is left to ask is the layout, and then 9 to 12
   rest : readOutcome bw a b room ≡ (planOutcome r or outcome9to11 bw a b) or check12 bw a b room
   rest =
-      reading-stages bw a b room
+      readOutcome-stages bw a b room
       ∙ ap (λ (o : Outcome). o or check12 bw a b room)
       (outcome11-rest bw a b (h .one-to-six) ∙ ap (λ (t : List ℕ). planOutcome t or outcome9to11 bw a b) (h .the-row))
 
   refused : (y : Answer) → planOutcome r ≡ Refuse y → x ≡ y
-  unfolding answerOf
+  unfolding readAnswer
   refused y e =
       ap (λ (o : Outcome). answerAt o (wordCount bw a b))
       (rest ∙ or-refuse _ (check12 bw a b room) y (or-refuse (planOutcome r) (outcome9to11 bw a b) y e))
@@ -144,11 +144,11 @@ pub all-channels : (r : List ℕ) (c : Call) → Reads c → CarryRow (c .bandwi
 all-channels r c (reads κs a x s p) h = rw (p .0) (for-layout (a .0) r (now (a .1 .0)) (now (a .1 .1 .0)) (length (now (a .1 .1 .1 .0))) h)
 
 -- ---- a row that has a plan is read
-accepted-answer : (bw : ℕ) (a b : List ℕ) (room : ℕ) → outcome11 bw a b ≡ Pass → wordCount bw a b ≤ room → answerOf bw a b room ≡ no 0 0 (wordCount bw a b)
-unfolding answerOf check12 noRoom
+accepted-answer : (bw : ℕ) (a b : List ℕ) (room : ℕ) → outcome11 bw a b ≡ Pass → wordCount bw a b ≤ room → readAnswer bw a b room ≡ no 0 0 (wordCount bw a b)
+unfolding readAnswer check12 noRoom
 accepted-answer bw a b room e l =
     ap (λ (o : Outcome). answerAt o (wordCount bw a b))
-    (reading-stages bw a b room ∙ or-pass (outcome11 bw a b) _ e (if-pass _ _ (le-ltb room (wordCount bw a b) l)))
+    (readOutcome-stages bw a b room ∙ or-pass (outcome11 bw a b) _ e (if-pass _ _ (le-ltb room (wordCount bw a b) l)))
 
 pub some-accepted : (bw : ℕ) (r : List ℕ) → CarriedRow bw r → SomePlanOfEight r 0 (length r)
     → (a : List ℕ) × (b : List ℕ) × CarryRow bw r a b × Small a × Small b × (outcome11 bw a b ≡ Pass)
@@ -168,7 +168,7 @@ some-accepted bw r w p =
 accepts : (bw : ℕ) (x y : List ℕ) → outcome11 bw x y ≡ Pass → ReadAccepts bw x y
 accepts bw x y e c (reads κs a q s h) f g i l =
     let room = length (now (a .1 .1 .1 .0)) in
-    let z : answerOf (a .0) (now (a .1 .0)) (now (a .1 .1 .0)) room ≡ no 0 0 (wordCount bw x y) =
+    let z : readAnswer (a .0) (now (a .1 .0)) (now (a .1 .1 .0)) room ≡ no 0 0 (wordCount bw x y) =
     rw (f, g, i) (accepted-answer bw x y room e (omega (arith, word-count-le bw x y))) in
     ap (λ (v : Answer). v .number) (h .0 ∙ z)
 

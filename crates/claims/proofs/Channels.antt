@@ -26,8 +26,8 @@ use Rattle.faults.proofs.Passing.{pass-notCarried, pass-cutUsers, pass-wrongUse
 use Rattle.stations.specs.Stations.{stationOf, repeated, firstRepeated, stationTwice}
 use Rattle.halves.specs.Table.{check1, check2, check3, check4, check5, check6, check9, check10, check11, outcome6}
 use Rattle.halves.specs.Engine.{outcome9to11}
-use Rattle.frame.specs.Words.{positionOf}
-use Rattle.frame.proofs.Determine.{value-1, value-2}
+use Rattle.frame_words.specs.Words.{positionIn}
+use Rattle.frame_words.proofs.Determine.{value-1, value-2}
 use Rattle.candidate.specs.Engine.{payload, sealed}
 use Rattle.candidate.proofs.Contents.{Contents}
 use Rattle.candidate.proofs.Built.{sealed-carries, sealed-length, sealed-small}
@@ -48,7 +48,7 @@ nil-small = record { small = λ k. omega arith }
 module _ (bw : ℕ) (r : List ℕ) where
   -- channel c's k-th value, and the User fields that its values give
   abbrev val : ℕ → ℕ → ℕ
-  val c k = at r (positionOf c k)
+  val c k = at r (positionIn c k)
 
   abbrev fields : ℕ → ℕ
   fields c = total (λ k. fieldsOf (val c k)) (subfieldsIn bw c)
@@ -63,7 +63,7 @@ module _ (bw : ℕ) (r : List ℕ) where
 
 -- ---- one channel
 
-module _ (bw : ℕ) (r : List ℕ) (w : CarriedRow bw r) (c : ℕ) (inside : (k : ℕ) → k < subfieldsIn bw c → positionOf c k < positions bw) where
+module _ (bw : ℕ) (r : List ℕ) (w : CarriedRow bw r) (c : ℕ) (inside : (k : ℕ) → k < subfieldsIn bw c → positionIn c k < positions bw) where
   abbrev s : List ℕ
   s = carrying bw r c
 
@@ -127,7 +127,7 @@ module _ (bw : ℕ) (r : List ℕ) (w : CarriedRow bw r) (c : ℕ) (inside : (k 
   the-value : (k : ℕ) → k < subfieldsIn bw c → value bw s k ≡ val bw r c k
   the-value k l =
       let h = has-subfield k l in
-      carries (h .0) .the-value k (h .1) ∙ nine-bits (val bw r c k) (w .each (positionOf c k) (inside k l))
+      carries (h .0) .the-value k (h .1) ∙ nine-bits (val bw r c k) (w .each (positionIn c k) (inside k l))
 
   the-count : count bw c s ≡ n
   unfolding count
@@ -153,7 +153,7 @@ module _ (bw : ℕ) (r : List ℕ) (w : CarriedRow bw r) (c : ℕ) (inside : (k 
   pass-4 = pass-wrongCommon bw c s (λ p. carries p .common-right)
 
   pass-6 : notCarried bw c s ≡ Pass
-  pass-6 = pass-notCarried bw c s (λ k l. ap carried (the-value k l) ∙ w .each (positionOf c k) (inside k l))
+  pass-6 = pass-notCarried bw c s (λ k l. ap carried (the-value k l) ∙ w .each (positionIn c k) (inside k l))
 
   pass-9 : cutUsers bw c s ≡ Pass
   pass-9 =
@@ -175,10 +175,10 @@ module _ (bw : ℕ) (r : List ℕ) (w : CarriedRow bw r) where
   abbrev b : List ℕ
   b = carrying bw r 2
 
-  inside-1 : (k : ℕ) → k < subfieldsIn bw 1 → positionOf 1 k < positions bw
+  inside-1 : (k : ℕ) → k < subfieldsIn bw 1 → positionIn 1 k < positions bw
   inside-1 k l = omega (arith, place-1 bw k (w .known) l)
 
-  inside-2 : (k : ℕ) → k < subfieldsIn bw 2 → positionOf 2 k < positions bw
+  inside-2 : (k : ℕ) → k < subfieldsIn bw 2 → positionIn 2 k < positions bw
   inside-2 k l = omega (arith, place-2 bw k (w .known) l)
 
   -- the value at each position is the row's
@@ -207,7 +207,7 @@ module _ (bw : ℕ) (r : List ℕ) (w : CarriedRow bw r) where
       (λ p l. let m : p < positions bw = omega (arith, row-length bw a b) in row-at bw a b p m ∙ at-each p m)
 
   -- ---- 1 to 6
-  no-overflow : (c : ℕ) → ((k : ℕ) → k < subfieldsIn bw c → positionOf c k < positions bw) → present bw c ≡ true → overflow (carrying bw r c) ≡ 0
+  no-overflow : (c : ℕ) → ((k : ℕ) → k < subfieldsIn bw c → positionIn c k < positions bw) → present bw c ≡ true → overflow (carrying bw r c) ≡ 0
   no-overflow c i p = carries bw r w c i p .the-overflow
 
   few : ltfSymbols a ≤ 4

@@ -4,7 +4,7 @@ use Prim.Native.Nat.{_/_}
 use lib.ListN.{length}
 use denote.Ref.{now}
 use Rattle.answer.specs.Order.{Judged}
-use Rattle.frame.specs.Words.{wordCount}
+use Rattle.frame_words.specs.Words.{wordCount}
 use Rattle.reader.specs.Table.{readNumbers, readChecks}
 use Rattle.reader.proofs.Exactly as reading
 use Rattle.reader.proofs.Agree as reader
@@ -14,7 +14,7 @@ use Rattle.writer.proofs.Exactly as writing
 use Rattle.writer.proofs.Agree as writer
 use Rattle.listed.specs.Listing.{listing, listNumbers, listChecks}
 use Rattle.listing.proofs.Judged as listed
-use Rattle.octets.specs.Octets.{wordsIn}
+use Rattle.word_bytes.specs.Bytes.{wordsIn}
 use Rattle.brachymel.specs.Bytes.{bytesChecks}
 use Rattle.brachymel.proofs.Judged as entries
 use Rattle.brachymel.proofs.Agree as library

@@ -20,7 +20,7 @@ use Rattle.resource.proofs.Pieces.{some-pieces, no-pieces-left, divided-low}
 use Rattle.plan.specs.Kinds.{span}
 use Rattle.answer.specs.Lists.{at}
 use Rattle.plan.specs.Signals.{Place, Fits, Signals}
-use Rattle.plan.specs.Fields.{share, fieldsIn, total, shared}
+use Rattle.plan.specs.Fields.{share, fieldsIn, together, shared}
 use Rattle.plan.specs.Answers.{Laid}
 use Rattle.plan.specs.Engine.{planOutcome}
 use Rattle.plan.proofs.Tests.{equal-or}
@@ -42,15 +42,15 @@ use Rattle.words.specs.Words.{userWord}
 use Rattle.halves.specs.Table.{outcome11, outcome6}
 use Rattle.halves.specs.Engine.{outcome9to11}
 use Rattle.halves.proofs.Stages.{outcome11-stages}
-use Rattle.frame.specs.Words.{wordCount, giver, positionOf, sharedAt, userWordAt, wordsOf}
-use Rattle.frame.proofs.Determine.{words-length, word-1, word-2}
-use Rattle.frame.proofs.Counts.{row-count-1, row-count-2, given-1, given-2}
+use Rattle.frame_words.specs.Words.{wordCount, giver, positionIn, sharedAt, userWordAt, wordsOf}
+use Rattle.frame_words.proofs.Determine.{words-length, word-1, word-2}
+use Rattle.frame_words.proofs.Counts.{row-count-1, row-count-2, given-1, given-2}
 use Rattle.reader.specs.Table.{check12, readOutcome}
 use Rattle.reader.specs.Result.{wordsAfter}
-use Rattle.reader.proofs.Stages.{reading-stages, reading-pass}
+use Rattle.reader.proofs.Stages.{readOutcome-stages, readOutcome-pass}
 use Rattle.reader.proofs.Exactly.{accepted-exactly}
 use Rattle.reader.proofs.read.Reads as read
-use Rattle.claims.specs.Formats.{together, WordOn, OwnsIn, OneOwner, Formatted, UserWords}
+use Rattle.claims.specs.Formats.{fieldsOn, WordOn, OwnsIn, OneOwner, Formatted, UserWords}
 
 -- a position is one channel's
 one-channel : (p f : ℕ) → inChannel 1 p f + inChannel 2 p f ≡ f
@@ -60,11 +60,11 @@ one-channel p f = go (ℕ-discrete (p % 2 + 1) 1)
     go (yes e) = rw (eq-eqb (p % 2 + 1) 1 e, ne-eqb (p % 2 + 1) 2 (λ z. omega arith)) (omega arith)
     go (no d) = rw (ne-eqb (p % 2 + 1) 1 d, eq-eqb (p % 2 + 1) 2 (omega arith)) (omega arith)
 
-own-total : (row : ℕ → ℕ) (p : ℕ) → total 0 row p ≡ share 0 p (row p)
+own-total : (row : ℕ → ℕ) (p : ℕ) → together 0 row p ≡ share 0 p (row p)
 own-total row p = rw (own-fieldsIn 1 row p, own-fieldsIn 2 row p) (one-channel p (share 0 p (row p)))
 
 -- the resource at a place has the same fields seen from any of its places
-total-place : (x : ℕ) (row : ℕ → ℕ) (p q : ℕ) → q / span x ≡ p / span x → total x row q ≡ total x row p
+total-place : (x : ℕ) (row : ℕ → ℕ) (p q : ℕ) → q / span x ≡ p / span x → together x row q ≡ together x row p
 unfolding fieldsIn
 total-place x row p q e = rw e
 
@@ -75,54 +75,54 @@ module _ (o row : ℕ → ℕ) (n : ℕ) (s : Signals o row 0 n) where
 
   -- a piece has one field, and its position gives none to a larger resource
   piece-alone : (i p k : ℕ) → p < n → k < fieldsOf (row p) → o p ≡ 0 → divides (row p) ≡ true → i ≡ number o row p k
-      → leb 2 (together (rec i)) ≡ shared o row p
+      → leb 2 (fieldsOn (rec i)) ≡ shared o row p
   unfolding pieceFields
   piece-alone i p k l h e d f =
       let r : rec i ≡ pieceRecord row p (pieceAt (row p) k) =
       ap rec f ∙ located-record o row n (number o row p k) p k (home-piece o row n s p k l h d) ∙ own-record (o p) row p k e in
-      let a : together (rec i) ≡ 1 = ap together r ∙ one-channel p (pieceFields (row p)) ∙ rw d in
-      let z : total (o p) row p ≡ 0 =
-      ap (λ (x : ℕ). total x row p) e ∙ own-total row p ∙ low-share 0 p (row p) (omega (arith, divided-low (row p) d)) in
+      let a : fieldsOn (rec i) ≡ 1 = ap fieldsOn r ∙ one-channel p (pieceFields (row p)) ∙ rw d in
+      let z : together (o p) row p ≡ 0 =
+      ap (λ (x : ℕ). together x row p) e ∙ own-total row p ∙ low-share 0 p (row p) (omega (arith, divided-low (row p) d)) in
       rw (a, z)
 
   -- any other resource has all the fields of its places
-  own-places : (p : ℕ) → p < n → divides (row p) ≡ false → o p ≡ 0 → together (recordAt (o p) row p 0) ≡ total (o p) row p
+  own-places : (p : ℕ) → p < n → divides (row p) ≡ false → o p ≡ 0 → fieldsOn (recordAt (o p) row p 0) ≡ together (o p) row p
   unfolding pieceFields
   own-places p l d e =
-      ap together (own-record (o p) row p 0 e)
+      ap fieldsOn (own-record (o p) row p 0 e)
       ∙ one-channel p (pieceFields (row p))
       ∙ rw d (sym (rw e (own-total row p ∙ share-fields 0 p (row p) (subst (λ (x : ℕ). Fits x p (row p)) e (s .fits p (omega arith) l)) d)))
 
-  all-places : (p q : ℕ) → p < n → divides (row p) ≡ false → Place (o p) p q → together (recordAt (o p) row q 0) ≡ total (o p) row p
+  all-places : (p q : ℕ) → p < n → divides (row p) ≡ false → Place (o p) p q → fieldsOn (recordAt (o p) row q 0) ≡ together (o p) row p
   all-places p q l d m =
       ⊎-elim
       (λ e.
       let z : q ≡ p = itself-place p q (subst (λ (x : ℕ). Place x p q) e m) in
       rw z (own-places p l d e))
-      (λ e. ap together (larger-record (o p) row q 0 e) ∙ total-place (o p) row p q (m .0))
+      (λ e. ap fieldsOn (larger-record (o p) row q 0 e) ∙ total-place (o p) row p q (m .0))
       (equal-or (o p) 0)
 
   place-shared : (i p k q : ℕ) → p < n → k < fieldsOf (row p) → divides (row p) ≡ false → Place (o p) p q → q ≡ lowest (o p) p → i ≡ number o row q 0
-      → leb 2 (together (rec i)) ≡ shared o row p
+      → leb 2 (fieldsOn (rec i)) ≡ shared o row p
   place-shared i p k q l h d m g f =
       let w : o q ≡ o p = s .entire p q (omega arith) l m .2 in
       let t : Located o row n (number o row q 0) q 0 = rw g (home-whole o row n s p l (omega arith) d) in
       let r : rec i ≡ recordAt (o p) row q 0 =
       ap rec f ∙ located-record o row n (number o row q 0) q 0 t ∙ ap (λ (x : ℕ). recordAt x row q 0) w in
-      ap (leb 2) (ap together r ∙ all-places p q l d m)
+      ap (leb 2) (ap fieldsOn r ∙ all-places p q l d m)
 
   -- where the field comes from, and that it is shared there exactly where its owner has two or more
-  pub as-owned : (i c j : ℕ) → Owns o row n i c j → (p : ℕ) × (k : ℕ) × ComesFrom row n c j p k × (leb 2 (together (rec i)) ≡ shared o row p)
+  pub as-owned : (i c j : ℕ) → Owns o row n i c j → (p : ℕ) × (k : ℕ) × ComesFrom row n c j p k × (leb 2 (fieldsOn (rec i)) ≡ shared o row p)
   as-owned i c j (of-piece p k w e l f) =
       (p, k, w, piece-alone i p k (w .inside) (w .kth) e (some-pieces (row p) k l) f)
   as-owned i c j (of-place p k q w e h g f) =
       (p, k, w, place-shared i p k q (w .inside) (w .kth) (no-pieces-left (row p) e) h (lowest-only (o p) p q h g) f)
 
 -- ---- the words of a frame
-format : (x : Record) (f v : ℕ) (t : Bool) → leb 2 (together x) ≡ t → v ≡ userWord t f → WordOn x f v
+format : (x : Record) (f v : ℕ) (t : Bool) → leb 2 (fieldsOn x) ≡ t → v ≡ userWord t f → WordOn x f v
 format x f v t e g = record {
-  alone = λ l. g ∙ ap (λ (u : Bool). userWord u f) (sym e ∙ lt-leb 2 (together x) l);
-  shared = λ l. g ∙ ap (λ (u : Bool). userWord u f) (sym e ∙ le-leb 2 (together x) l);
+  alone = λ l. g ∙ ap (λ (u : Bool). userWord u f) (sym e ∙ lt-leb 2 (fieldsOn x) l);
+  shared = λ l. g ∙ ap (λ (u : Bool). userWord u f) (sym e ∙ le-leb 2 (fieldsOn x) l);
 }
 
 module _ (bw : ℕ) (a b : List ℕ) (l : bw ≤ 4) (o : ℕ → ℕ) (s : Signals o (at (row bw a b)) 0 (length (row bw a b))) where
@@ -131,10 +131,10 @@ module _ (bw : ℕ) (a b : List ℕ) (l : bw ≤ 4) (o : ℕ → ℕ) (s : Signa
 
   -- the reader's own plan is this one
   reader-plan : (p : ℕ) → p < length r → shared o (at r) p ≡ sharedAt r p
-  reader-plan p h = ap (λ (x : ℕ). leb 2 (total x (at r) p)) (only-plan r o s p h)
+  reader-plan p h = ap (λ (x : ℕ). leb 2 (together x (at r) p)) (only-plan r o s p h)
 
   -- of channel c, whose bytes are d
-  owned-word : (c : ℕ) (d : List ℕ) → ((j p k : ℕ) → ComesFrom (at r) (length r) c j p k → positionOf c (giver bw c d j) ≡ p)
+  owned-word : (c : ℕ) (d : List ℕ) → ((j p k : ℕ) → ComesFrom (at r) (length r) c j p k → positionIn c (giver bw c d j) ≡ p)
       → (i j : ℕ) → OwnsIn o r i c j → WordOn (getD (recordsOf o r) i blank) (field d (userAt bw j) 22) (userWordAt bw r c d j)
   unfolding userWordAt
   owned-word c d given i j w =
@@ -195,11 +195,11 @@ the-layout bw a b e =
 pub frame-words : (bw : ℕ) (a b w : List ℕ) → readOutcome bw a b (length w) ≡ Pass → UserWords bw a b (wordsAfter bw a b w)
 frame-words bw a b w e =
     let r = row bw a b in
-    let f : outcome11 bw a b ≡ Pass = pass-left _ (check12 bw a b (length w)) (sym (reading-stages bw a b (length w)) ∙ e) in
+    let f : outcome11 bw a b ≡ Pass = pass-left _ (check12 bw a b (length w)) (sym (readOutcome-stages bw a b (length w)) ∙ e) in
     record {
       a-plan = accepted-plan r (subst (Laid r) (the-layout bw a b f) (outcome-laid r));
       each-plan = λ o s.
-          formatted bw a b (reading-pass bw a b (length w) e .common .known) o s (wordsAfter bw a b w) (front-words bw a b w e);
+          formatted bw a b (readOutcome-pass bw a b (length w) e .common .known) o s (wordsAfter bw a b w) (front-words bw a b w e);
     }
 
 pub user-words : (κs : _) (a : _) (x : _) (s : _) → read.Post κs a x s → x .number ≡ 0

@@ -7,8 +7,8 @@ use lib.ListN.{length, take}
 use Rattle.answer.specs.Answer.{no}
 use Rattle.bits.specs.Bits.{Small}
 use Rattle.channel.specs.Layout.{present}
-use Rattle.frame.specs.Words.{SameFrame}
-use Rattle.reader.specs.Result.{answerOf, wordsAfter}
+use Rattle.frame_words.specs.Words.{SameFrame}
+use Rattle.reader.specs.Result.{readAnswer, wordsAfter}
 use Rattle.writer.specs.Inverse.{Accepts, GivenBack}
 use Rattle.writer.proofs.Inverse.{write-after-read, read-after-write, thirteen-none, none-thirteen, equal-words}
 use Rattle.claims.specs.Calls.{Call, WriteCall, Reads, reads, Writes, writes}
@@ -17,7 +17,7 @@ use Rattle.claims.specs.Second.{bytesOf, wordsRead, written-1, written-2
 use Rattle.claims.proofs.Formats.{user-words}
 
 is : (c : Call) → Reads c
-    → (c .answer ≡ answerOf (c .bandwidth) (c .channel-1) (c .channel-2) (length (c .lent)))
+    → (c .answer ≡ readAnswer (c .bandwidth) (c .channel-1) (c .channel-2) (length (c .lent)))
     × (c .after ≡ wordsAfter (c .bandwidth) (c .channel-1) (c .channel-2) (c .lent))
 is c (reads κs a r s p) = (p .0, p .1)
 

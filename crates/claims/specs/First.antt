@@ -9,7 +9,7 @@ use mathlib.Core.Path.{_≡_}
 use Prim.Native.Nat.{_/_}
 use lib.ListN.{length}
 use Rattle.answer.specs.Order.{Judged}
-use Rattle.frame.specs.Words.{wordCount}
+use Rattle.frame_words.specs.Words.{wordCount}
 use Rattle.reader.specs.Table.{readNumbers, readChecks}
 use Rattle.reader.proofs.read.Reads as read
 use Rattle.writer.specs.Worked.{theBytes}
@@ -18,7 +18,7 @@ use Rattle.writer.proofs.write.Reads as write
 use Rattle.listed.specs.Listing.{listing, listNumbers, listChecks}
 use Rattle.listing.proofs.list.Reads as list
 use Rattle.listing.proofs.respond.Reads as respond
-use Rattle.octets.specs.Octets.{wordsIn}
+use Rattle.word_bytes.specs.Bytes.{wordsIn}
 use Rattle.brachymel.specs.Bytes.{bytesChecks}
 use Rattle.brachymel.proofs.brachymel_read.Reads as c-read
 use Rattle.brachymel.proofs.brachymel_write.Reads as c-write

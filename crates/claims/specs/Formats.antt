@@ -1,7 +1,7 @@
 -- The format of each User word of a frame, by the resource that owns its field.
 --
 -- 01, "Bandwidth and channels": "A User field alone on its resource: .. Where the resource has two or more fields over both channels
--- together: .."; "What comes back": "User words: known bits 0x3F, or 0x47 on a shared resource."
+-- fieldsOn: .."; "What comes back": "User words: known bits 0x3F, or 0x47 on a shared resource."
 use mathlib.Core.Path.{_≡_}
 use mathlib.Core.Bool.{true, false}
 use mathlib.Core.List.{List}
@@ -17,14 +17,14 @@ use Rattle.records.specs.Owns.{Owns}
 use Rattle.channel.specs.Layout.{row, count, userAt}
 use Rattle.words.specs.Words.{userWord}
 
--- a resource's fields "over both channels together"
-abbrev pub together : Record → ℕ
-together x = x .fields1 + x .fields2
+-- a resource's fields "over both channels fieldsOn"
+abbrev pub fieldsOn : Record → ℕ
+fieldsOn x = x .fields1 + x .fields2
 
 -- v is the word of a User field of 22 bits f on the resource x
 pub record WordOn (x : Record) (f v : ℕ) : Type 0 where
-  pub alone : together x < 2 → v ≡ userWord false f
-  pub shared : 2 ≤ together x → v ≡ userWord true f
+  pub alone : fieldsOn x < 2 → v ≡ userWord false f
+  pub shared : 2 ≤ fieldsOn x → v ≡ userWord true f
 
 -- resource i of the plan o owns field j of channel c of a frame of row r
 abbrev pub OwnsIn : (ℕ → ℕ) → List ℕ → ℕ → ℕ → ℕ → Type 0

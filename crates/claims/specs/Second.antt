@@ -13,8 +13,8 @@ use lib.ListN.{length, take}
 use Rattle.answer.specs.Answer.{no}
 use Rattle.bits.specs.Bits.{Small}
 use Rattle.channel.specs.Layout.{present, count}
-use Rattle.frame.specs.Words.{SameFrame}
-use Rattle.reader.specs.Result.{answerOf, wordsAfter}
+use Rattle.frame_words.specs.Words.{SameFrame}
+use Rattle.reader.specs.Result.{readAnswer, wordsAfter}
 use Rattle.candidate.specs.Length.{bytesFor}
 use Rattle.writer.specs.Inverse.{Accepts, GivenBack}
 use Rattle.claims.specs.Formats.{UserWords}
@@ -38,7 +38,7 @@ written-2 d = take (cond (present (d .bandwidth) 2) (d .answer .place) 0) (d .af
 pub record Second : Type 1 where
   -- "Reading is what IEEE 802.11be and the radiotap EHT page say, to the bit": as 01's table and words, `reader`'s Table, Words and Result
   pub reading-is : (c : Call) → Reads c
-      → (c .answer ≡ answerOf (c .bandwidth) (c .channel-1) (c .channel-2) (length (c .lent)))
+      → (c .answer ≡ readAnswer (c .bandwidth) (c .channel-1) (c .channel-2) (length (c .lent)))
       × (c .after ≡ wordsAfter (c .bandwidth) (c .channel-1) (c .channel-2) (c .lent))
   -- "User fields, words.": each User word is that of its field, in the format of the resource that owns it in any plan of the row
   pub user-words-are : (c : Call) → Reads c → c .answer .number ≡ 0

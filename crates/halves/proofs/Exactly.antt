@@ -83,7 +83,7 @@ module _ (bw : ℕ) (a b : List ℕ) where
   only-11-here = only-11 bw a b (count bw 1 a) (count bw 2 b)
 
   -- 1 to 11, and one more that gives another number: 12 of the reader, 23 of the listing
-  pub eleven-then : {n : ℕ} {o : Outcome} → Only n o → Gives (1 ∷ 2 ∷ 3 ∷ 4 ∷ 5 ∷ 6 ∷ 7 ∷ 8 ∷ 9 ∷ 10 ∷ 11 ∷ n ∷ []) (checks11 bw a b ++ (o ∷ []))
-  eleven-then last =
+  pub checks11-then : {n : ℕ} {o : Outcome} → Only n o → Gives (1 ∷ 2 ∷ 3 ∷ 4 ∷ 5 ∷ 6 ∷ 7 ∷ 8 ∷ 9 ∷ 10 ∷ 11 ∷ n ∷ []) (checks11 bw a b ++ (o ∷ []))
+  checks11-then last =
       more only-1 (more only-2 (more only-3 (more only-4 (more only-5 (more only-6 (more only-7 (more only-8
       (more only-9 (more only-10 (more only-11-here (more last none)))))))))))

@@ -36,8 +36,8 @@ pub record Made (bw : ℕ) (a b : List ℕ) (p : Planned) : Type 0 where
   pub formats : (q : ℕ) → q < positions bw → eqb (p .shared / 2 ^ q % 2) 1 ≡ F.shared (onlyPlan (at (row bw a b))) (at (row bw a b)) q
 
 -- the outcome of a result that is another
-pub out-is : {p q : Planned} {o : Outcome} → p ≡ q → p .outcome ≡ o → q .outcome ≡ o
-out-is e f = sym (ap (λ (p : Planned). p .outcome) e) ∙ f
+pub outcome-made : {p q : Planned} {o : Outcome} → p ≡ q → p .outcome ≡ o → q .outcome ≡ o
+outcome-made e f = sym (ap (λ (p : Planned). p .outcome) e) ∙ f
 
 module _ (bw : ℕ) (a b : List ℕ) where
   -- the three ways through it: stopped by 1 to 5, stopped by 6, planned
@@ -105,4 +105,4 @@ module _ (bw : ℕ) (a b : List ℕ) where
 
   -- what a result of the first half that passes is
   pub planned-made : (p : Planned) → p ≡ plannedOf bw a b → p .outcome ≡ Pass → Made bw a b p
-  planned-made p e f = rw e (planned-pass (out-is e f))
+  planned-made p e f = rw e (planned-pass (outcome-made e f))

@@ -10,13 +10,13 @@ use Rattle.text.proofs.Laws.{upto-cong}
 use Rattle.resource.specs.declared.Resource.{Resource}
 use Rattle.resource.specs.declared.Run.{Run}
 use Rattle.resource.specs.declared.Tones.{Tones}
-use Rattle.resource.specs.Tones.{none}
+use Rattle.resource.specs.Tones.{noSpan}
 use Rattle.resource.specs.Engine.{spanOf, runsOf, noRun, held}
 use Rattle.resource.proofs.Held.{runs-few, held-runs}
 use Rattle.lines.specs.Lines.{spanText, tonesText}
 use Rattle.lines.specs.Engine.{heldSpans}
 
-nth-span : (n c i : ℕ) (rs : List Run) → i < c → c ≤ length rs → getD (map (spanOf n) (take c rs)) i none ≡ spanOf n (getD rs i noRun)
+nth-span : (n c i : ℕ) (rs : List Run) → i < c → c ≤ length rs → getD (map (spanOf n) (take c rs)) i noSpan ≡ spanOf n (getD rs i noRun)
 nth-span n zero i rs h l = absurd (omega arith)
 nth-span n (suc c) i [] h l = absurd (omega arith)
 nth-span n (suc c) zero (r ∷ rs) h l = refl
@@ -29,7 +29,7 @@ held-text n t l =
     let e : length (map (spanOf n) (take (t .count) (t .runs))) ≡ t .count =
     length-map (take (t .count) (t .runs)) (spanOf n) ∙ length-take-le (t .count) (t .runs) l in
     rw e
-    (upto-cong (λ i. spanText i (spanOf n (getD (t .runs) i noRun))) (λ i. spanText i (getD (map (spanOf n) (take (t .count) (t .runs))) i none)) (t .count)
+    (upto-cong (λ i. spanText i (spanOf n (getD (t .runs) i noRun))) (λ i. spanText i (getD (map (spanOf n) (take (t .count) (t .runs))) i noSpan)) (t .count)
     (λ i h. ap (spanText i) (sym (nth-span n (t .count) i (t .runs) h l))))
 
 pub held-spans : (n g : ℕ) (r : Resource) (t : Tones) → t ≡ held (runsOf n g r) → heldSpans n t ≡ map (spanOf n) (runsOf n g r)

@@ -12,7 +12,7 @@ use Rattle.resource.specs.declared.Pairing.the-variants.{P106And26, P484And242}
 use Rattle.resource.specs.declared.Resource.{Resource}
 use Rattle.resource.specs.declared.Resource.the-variants.{Single, Joined}
 use Rattle.resource.specs.Names.{numberOf}
-use Rattle.resource.specs.Tones.{Span, none}
+use Rattle.resource.specs.Tones.{Span, noSpan}
 
 -- a fixed key and a number
 abbrev pub keyed : List ℕ → ℕ → List ℕ
@@ -49,7 +49,7 @@ spanText i s = comma i ++ signed (s .lo) ++ codes ":" ++ signed (s .hi)
 
 -- "Tones are maximal runs, rising"
 unfoldable pub tonesText : List Span → List ℕ
-tonesText ss = upto (λ i. spanText i (getD ss i none)) (length ss)
+tonesText ss = upto (λ i. spanText i (getD ss i noSpan)) (length ss)
 
 -- "ru=106+26 index=2 segment=0 users=1": resource r of segment g with u User fields
 unfoldable pub ruHead : ℕ → Resource → ℕ → List ℕ

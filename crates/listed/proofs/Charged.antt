@@ -12,7 +12,7 @@ use Rattle.resource.specs.declared.Size.the-variants.{S242}
 use Rattle.resource.specs.declared.Piece.the-variants.{Part}
 use Rattle.resource.specs.Index.{indexOf, resourceAt, positionOf, placeOf}
 use Rattle.resource.specs.Tones.{tonesAt, tonesOf}
-use Rattle.resource.specs.Values.{within, carried, pieces, fieldsOf, divides, pieceFields, ownPieces}
+use Rattle.resource.specs.Values.{between, carried, pieces, fieldsOf, divides, pieceFields, ownPieces}
 use Rattle.resource.proofs.Test.{both-left, both-right, wherever, met, below, every-below}
 use Rattle.resource.proofs.Fields.{fields-most}
 use Rattle.resource.proofs.Pieces.{divided-low, none-left}
@@ -103,7 +103,7 @@ module _ (b p : ℕ) (h : b < 5) (l : p < 2 ^ b) where
 
 one-listed : (c p v : ℕ) → divides v ≡ false → listed c p v ≤ 1
 unfolding listed ownPieces
-one-listed c p v d = go (eqb c 0) (eqb v 28 || within 64 71 v) (eqb (p % span c) (lead c))
+one-listed c p v d = go (eqb c 0) (eqb v 28 || between 64 71 v) (eqb (p % span c) (lead c))
   where
     go : (s t u : Bool) → cond s (length (cond t (Part S242 1 ∷ []) (pieces v))) (cond u 1 0) ≤ 1
     go true true u = omega arith

@@ -14,7 +14,7 @@ use Rattle.resource.specs.declared.Pairing.the-variants.{P106And26, P484And242}
 use Rattle.resource.specs.declared.Resource.{Resource}
 use Rattle.resource.specs.declared.Resource.the-variants.{Single, Joined}
 use Rattle.resource.specs.Names.{numberOf}
-use Rattle.resource.specs.Tones.{none, tonesOf}
+use Rattle.resource.specs.Tones.{noSpan, tonesOf}
 use Rattle.resource.proofs.Few.{tones-few}
 use Rattle.records.specs.declared.Record.{Record}
 use Rattle.records.specs.Records.{listAt, recordsFrom, blank}
@@ -98,7 +98,7 @@ tones-short : (n g : ℕ) (r : Resource) → length (tonesText (tonesOf n g r)) 
 unfolding tonesText
 tones-short n g r =
     let ss = tonesOf n g r in
-    let h = upto-short (λ i. spanText i (getD ss i none)) 44 (length ss) (λ i l. span-short i (getD ss i none)) in
+    let h = upto-short (λ i. spanText i (getD ss i noSpan)) 44 (length ss) (λ i l. span-short i (getD ss i noSpan)) in
     omega (arith, tones-few n g r)
 
 ru-short : (n : ℕ) (x : Record) → length (recordLine n x) ≤ 280

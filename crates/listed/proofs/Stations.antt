@@ -19,9 +19,9 @@ use Rattle.records.specs.Owns.{fieldsBefore, Owns}
 use Rattle.records.proofs.Owners.{owner-owns}
 use Rattle.records.proofs.Shares.{owner-listed}
 use Rattle.halves.specs.Table.{outcome11}
-use Rattle.frame.specs.Words.{wordCount, wordsOf}
-use Rattle.frame.proofs.Determine.{words-length, user-back-1, user-back-2}
-use Rattle.frame.proofs.Counts.{row-count-1, row-count-2}
+use Rattle.frame_words.specs.Words.{wordCount, wordsOf}
+use Rattle.frame_words.proofs.Determine.{words-length, user-back-1, user-back-2}
+use Rattle.frame_words.proofs.Counts.{row-count-1, row-count-2}
 use Rattle.listed.specs.Listing.{ownerIn, staLineAt}
 use Rattle.listed.specs.Stations.{Station}
 use Rattle.listed.proofs.Accepted.{known-code, accepted-signals}

@@ -8,14 +8,14 @@ use lib.ListN.{length}
 use Rattle.answer.specs.Lists.{at}
 use Rattle.plan.specs.Worked.{thePlan}
 use Rattle.records.specs.Owns.{Owns}
-use Rattle.frame.specs.Words.{wordsOf}
+use Rattle.frame_words.specs.Words.{wordsOf}
 use Rattle.lines.specs.Lines.{staLine}
 use Rattle.listed.specs.Listing.{resources, ownerIn, staLineAt}
 
 -- "one per User field, channel 1 first": of the i-th User field over both channels, m of which are channel 1's, the channel
 -- and its number there
-abbrev pub channelIn : ℕ → ℕ → ℕ
-channelIn m i = cond (ltb i m) 1 2
+abbrev pub channelAt : ℕ → ℕ → ℕ
+channelAt m i = cond (ltb i m) 1 2
 
 abbrev pub placeIn : ℕ → ℕ → ℕ
 placeIn m i = cond (ltb i m) i (i - m)
@@ -27,4 +27,4 @@ pub record Station (bw : ℕ) (a b r : List ℕ) (m i : ℕ) : Type 0 where
   -- which has a `ru=` line
   pub listed : ownerIn r m i < length (resources r)
   -- and owns the field
-  pub owns : Owns (thePlan r) (at r) (length r) (ownerIn r m i) (channelIn m i) (placeIn m i)
+  pub owns : Owns (thePlan r) (at r) (length r) (ownerIn r m i) (channelAt m i) (placeIn m i)

@@ -18,11 +18,11 @@ use Rattle.text.specs.Text.{upto}
 use Rattle.channel.specs.Layout.{row, count}
 use Rattle.records.specs.Records.{blank}
 use Rattle.halves.specs.Table.{outcome11}
-use Rattle.frame.specs.Words.{wordCount}
+use Rattle.frame_words.specs.Words.{wordCount}
 use Rattle.reader.specs.Table.{check12, noRoom}
-use Rattle.frame.proofs.Counted.{word-count-le}
-use Rattle.reader.proofs.Stages.{reading-stages}
-use Rattle.reader.specs.Result.{answerOf}
+use Rattle.frame_words.proofs.Counted.{word-count-le}
+use Rattle.reader.proofs.Stages.{readOutcome-stages}
+use Rattle.reader.specs.Result.{readAnswer}
 use Rattle.input.specs.Engine.{parsed}
 use Rattle.input.specs.Worked.{said}
 use Rattle.lines.specs.Lines.{headText}
@@ -46,13 +46,13 @@ unfolding listAnswer listAfter
 list-kept bw a b d h = after-kept (listOutcome bw a b (length d)) (length (listing bw a b)) _ d h
 
 -- ---- 1 to 11 as the reader: `list` refuses with one of them exactly when `read` with room for 154 words does
-pub read-refuses : (bw : ℕ) (a b : List ℕ) (x : Answer) → outcome11 bw a b ≡ Refuse x → answerOf bw a b 154 ≡ x
-unfolding answerOf _or_
-read-refuses bw a b x e = rw (reading-stages bw a b 154, e)
+pub read-refuses : (bw : ℕ) (a b : List ℕ) (x : Answer) → outcome11 bw a b ≡ Refuse x → readAnswer bw a b 154 ≡ x
+unfolding readAnswer _or_
+read-refuses bw a b x e = rw (readOutcome-stages bw a b 154, e)
 
-pub read-accepts : (bw : ℕ) (a b : List ℕ) → outcome11 bw a b ≡ Pass → answerOf bw a b 154 .number ≡ 0
-unfolding answerOf _or_ check12 noRoom
-read-accepts bw a b e = rw (reading-stages bw a b 154, e, le-ltb 154 (wordCount bw a b) (word-count-le bw a b))
+pub read-accepts : (bw : ℕ) (a b : List ℕ) → outcome11 bw a b ≡ Pass → readAnswer bw a b 154 .number ≡ 0
+unfolding readAnswer _or_ check12 noRoom
+read-accepts bw a b e = rw (readOutcome-stages bw a b 154, e, le-ltb 154 (wordCount bw a b) (word-count-le bw a b))
 
 pub list-refuses : (bw : ℕ) (a b : List ℕ) (room : ℕ) (x : Answer) → outcome11 bw a b ≡ Refuse x → listAnswer bw a b room ≡ x
 unfolding listAnswer listOutcome _or_

@@ -16,30 +16,30 @@ use Rattle.halves.specs.declared.Planned.{Planned}
 use Rattle.halves.specs.Table.{outcome11}
 use Rattle.halves.specs.Engine.{plannedOf, outcome9to11}
 use Rattle.halves.proofs.Stages.{outcome11-stages}
-use Rattle.halves.proofs.Half.{Made, out-is, planned-out, planned-pass, planned-refuse, planned-rest}
+use Rattle.halves.proofs.Half.{Made, outcome-made, planned-out, planned-pass, planned-refuse, planned-rest}
 use Rattle.halves.proofs.Rows.{front, sixteen}
 use Rattle.listed.proofs.Accepted.{known-code}
-use Rattle.listing.specs.Engine.{withOutcome, readablePlan, Given}
+use Rattle.listing.specs.Engine.{withOutcome, acceptedPlan, Given}
 
 module _ (bw : ℕ) (a b : List ℕ) (p : Planned) where
   -- refused by the first
-  pub stopped : (x : Answer) → p ≡ plannedOf bw a b → p .outcome ≡ Refuse x → p ≡ readablePlan bw a b
-  unfolding readablePlan
+  pub stopped : (x : Answer) → p ≡ plannedOf bw a b → p .outcome ≡ Refuse x → p ≡ acceptedPlan bw a b
+  unfolding acceptedPlan
   stopped x e f =
-      let g : p .outcome ≡ outcome11 bw a b = f ∙ sym (planned-refuse bw a b x (out-is e f)) in
+      let g : p .outcome ≡ outcome11 bw a b = f ∙ sym (planned-refuse bw a b x (outcome-made e f)) in
       ap (withOutcome (p .outcome)) e ∙ ap (λ (o : Outcome). withOutcome o (plannedOf bw a b)) g
 
   -- the second's outcome o, where the first passes
-  pub both : (o : Outcome) → p ≡ plannedOf bw a b → p .outcome ≡ Pass → o ≡ (p .outcome or outcome9to11 bw a b) → withOutcome o p ≡ readablePlan bw a b
-  unfolding readablePlan
+  pub both : (o : Outcome) → p ≡ plannedOf bw a b → p .outcome ≡ Pass → o ≡ (p .outcome or outcome9to11 bw a b) → withOutcome o p ≡ acceptedPlan bw a b
+  unfolding acceptedPlan
   both o e f h =
-      let g : o ≡ outcome11 bw a b = h ∙ or-next _ _ f ∙ sym (planned-rest bw a b (out-is e f)) in
+      let g : o ≡ outcome11 bw a b = h ∙ or-next _ _ f ∙ sym (planned-rest bw a b (outcome-made e f)) in
       ap (withOutcome o) e ∙ ap (λ (o : Outcome). withOutcome o (plannedOf bw a b)) g
 
 -- ---- the plan that both have told
-module _ (bw : ℕ) (a b : List ℕ) {p : Planned} (e : p ≡ readablePlan bw a b) where
+module _ (bw : ℕ) (a b : List ℕ) {p : Planned} (e : p ≡ acceptedPlan bw a b) where
   pub outcome : {o : Outcome} → p .outcome ≡ o → outcome11 bw a b ≡ o
-  unfolding readablePlan
+  unfolding acceptedPlan
   outcome f = sym (ap (λ (p : Planned). p .outcome) e) ∙ f
 
   -- of a frame that passes 1 to 11
@@ -51,12 +51,12 @@ module _ (bw : ℕ) (a b : List ℕ) {p : Planned} (e : p ≡ readablePlan bw a 
     made = planned-pass bw a b (planned-out bw a b ∙ pass-left _ (outcome9to11 bw a b) (sym (outcome11-stages bw a b) ∙ outcome f))
 
     pub row-16 : length (p .row) ≡ 16
-    unfolding readablePlan
+    unfolding acceptedPlan
     row-16 = ap (λ (p : Planned). length (p .row)) e ∙ ap length (made .the-row) ∙ sixteen bw a b code
 
     -- the front of its row, its kinds and its counts are what the lines are made of
     pub given : {n : ℕ} → n ≡ positions bw → Given bw a b (take n (p .row)) (p .kinds) (p .fields1) (p .fields2)
-    unfolding readablePlan
+    unfolding acceptedPlan
     given {n} g =
         let r = front bw a b n (p .row) g (ap (λ (p : Planned). p .row) e ∙ made .the-row) in
         record {

@@ -14,7 +14,7 @@ use Rattle.answer.proofs.Numbers.{Only, only-if, distinct, absent, judged}
 use Rattle.answer.proofs.First.{first-append}
 use Rattle.answer.proofs.Order.{or-end}
 use Rattle.halves.specs.Table.{checks11, outcome11}
-use Rattle.halves.proofs.Exactly.{eleven-then}
+use Rattle.halves.proofs.Exactly.{checks11-then}
 use Rattle.listed.specs.Listing.{listing, check23, listOutcome, listAnswer, listNumbers, listChecks}
 use Rattle.listing.proofs.Facts.{list-kept}
 use Rattle.listing.proofs.list.Reads as list
@@ -36,7 +36,7 @@ listable-rows bw a b room =
 pub list-judged : (bw : ℕ) (a b : List ℕ) (room : ℕ) → Judged listNumbers (listChecks bw a b room) (length (listing bw a b)) (listAnswer bw a b room)
 unfolding listAnswer
 list-judged bw a b room =
-    rw (listable-rows bw a b room) at (judged (eleven-then bw a b (only-23 bw a b room)) numbers-distinct (length (listing bw a b)))
+    rw (listable-rows bw a b room) at (judged (checks11-then bw a b (only-23 bw a b room)) numbers-distinct (length (listing bw a b)))
 
 -- "Every refusal writes nothing", of what `list` allows
 pub list-keeps : (κs : _) (a : _) (r : _) (s : _) → list.Post κs a r s → (r .number ≡ 0 → ⊥) → now (s .1 .1 .1 .0) ≡ now (a .1 .1 .1 .0)

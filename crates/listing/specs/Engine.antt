@@ -26,8 +26,8 @@ withOutcome o p =
     record { outcome = o; row = p .row; kinds = p .kinds; shared = p .shared; fields1 = p .fields1; fields2 = p .fields2 }
 
 -- the outcome of both halves, 1 to 11, and the first one's plan
-unfoldable pub readablePlan : ℕ → List ℕ → List ℕ → Planned
-readablePlan bw a b = withOutcome (outcome11 bw a b) (plannedOf bw a b)
+unfoldable pub acceptedPlan : ℕ → List ℕ → List ℕ → Planned
+acceptedPlan bw a b = withOutcome (outcome11 bw a b) (plannedOf bw a b)
 
 -- r is the frame's row, c the kinds of its plan, and m and k are the User fields of its channels
 pub record Given (bw : ℕ) (a b r c : List ℕ) (m k : ℕ) : Type 0 where

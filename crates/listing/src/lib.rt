@@ -20,7 +20,7 @@ ghost use Rattle.plan.specs.Engine.{kindsOf};
 ghost use Rattle.records.specs.Records.{pieceRecord, listAt};
 ghost use Rattle.records.specs.Engine.{numbersOf};
 ghost use Rattle.halves.specs.Table.{outcome11};
-ghost use Rattle.listing.specs.Engine.{Given, readablePlan, ownedLine, ownersIn, runsLine, runsLines, runsListing};
+ghost use Rattle.listing.specs.Engine.{Given, acceptedPlan, ownedLine, ownersIn, runsLine, runsLines, runsListing};
 ghost use Rattle.listed.specs.Longest.{longestAt};
 ghost use Rattle.listed.specs.Listing.{listedAt, resources, staLines, listing, listAnswer, listAfter, frameText, programText};
 
@@ -266,8 +266,8 @@ fn list_given(
 // ---- the two halves of the reading, and the lines of a frame that passes both
 
 // 1 to 11, and the plan of a frame that passes 1 to 8: nothing of it is worked out again.
-fn plan_readable(bw: u32, a: &[u8], b: &[u8]) -> Planned
-    ensures { λ r. ⌜ r ≡ readablePlan bw (now (a .entry)) (now (b .entry)) ⌝ }
+fn plan_accepted(bw: u32, a: &[u8], b: &[u8]) -> Planned
+    ensures { λ r. ⌜ r ≡ acceptedPlan bw (now (a .entry)) (now (b .entry)) ⌝ }
 {
     let plan = halves::plan_frame(bw, a, b, false);
     let planned = plan.outcome;
@@ -294,7 +294,7 @@ pub fn list(bandwidth: u32, cc1: &[u8], cc2: &[u8], out: &mut [u8]) -> Answer
     ensures { λ r. ⌜ r ≡ listAnswer bandwidth (now (cc1 .entry)) (now (cc2 .entry)) (length (now (out .entry))) ⌝ }
     ensures { λ _. ⌜ now (out .exit) ≡ listAfter bandwidth (now (cc1 .entry)) (now (cc2 .entry)) (now (out .entry)) ⌝ }
 {
-    let plan = plan_readable(bandwidth, cc1, cc2);
+    let plan = plan_accepted(bandwidth, cc1, cc2);
     let checked = plan.outcome;
     if let Outcome::Refuse(x) = checked {
         return x;
@@ -320,7 +320,7 @@ pub fn list(bandwidth: u32, cc1: &[u8], cc2: &[u8], out: &mut [u8]) -> Answer
 fn put_outcome(out: &mut [u8], bw: u32, a: &[u8], b: &[u8]) -> usize
     ensures { λ r. ⌜ Wrote (now (out .entry)) 0 (frameText bw (now (a .entry)) (now (b .entry))) (now (out .exit)) r ⌝ }
 {
-    let plan = plan_readable(bw, a, b);
+    let plan = plan_accepted(bw, a, b);
     let checked = plan.outcome;
     if let Outcome::Refuse(x) = checked {
         return put_refusal(out, x.number, x.channel, x.place);

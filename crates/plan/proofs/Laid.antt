@@ -15,7 +15,7 @@ use Rattle.answer.specs.declared.Outcome.{Outcome}
 use Rattle.answer.specs.declared.Outcome.the-variants.{Pass, Refuse}
 use Rattle.answer.specs.Lists.{at}
 use Rattle.plan.specs.Signals.{Place, Fits, Signals}
-use Rattle.plan.specs.Fields.{total}
+use Rattle.plan.specs.Fields.{together}
 use Rattle.plan.specs.Answers.{segments, segmentEnd, SomePlan, SomePlanOfEight, SegmentPlan, SegmentPlanOfEight, Laid, accepted, no-plan, over-eight}
 use Rattle.plan.specs.Engine.{onlyPlan, fitting, rightAt, wrongAt, overAt, firstWrong, firstOver, planOutcome}
 use Rattle.plan.proofs.Tests.{Tested, ltb-decides, not-both}
@@ -76,7 +76,7 @@ module _ (row : List ℕ) (s : ℕ) (h : s < segments row) where
       let e = place-segment (onlyPlan (at row) p) p q (only-known (at row) p) w in
       omega arith)
 
-  pub segment-total : (w : SegmentPlanOfEight row s) (p : ℕ) → 4 * s ≤ p → p < segmentEnd row s → total (onlyPlan (at row) p) (at row) p ≤ 8
+  pub segment-total : (w : SegmentPlanOfEight row s) (p : ℕ) → 4 * s ≤ p → p < segmentEnd row s → together (onlyPlan (at row) p) (at row) p ≤ 8
   segment-total w p l u =
       rw (← signalled (w .0) (at row) (4 * s) (segmentEnd row s) (segment-ends row s h) (w .1) p l u) (w .2 p l u)
 
@@ -117,11 +117,11 @@ module _ (row : List ℕ) where
   unfolding firstWrong
   right-before p l = not-false _ (least-before (wrongAt row) (length row) p l)
 
-  over-is : firstOver row < length row → 8 < total (onlyPlan (at row) (firstOver row)) (at row) (firstOver row)
+  over-is : firstOver row < length row → 8 < together (onlyPlan (at row) (firstOver row)) (at row) (firstOver row)
   unfolding firstOver
   over-is l = ltb-true _ _ (least-holds (overAt row) (length row) l)
 
-  pub within-before : (p : ℕ) → p < firstOver row → total (onlyPlan (at row) p) (at row) p ≤ 8
+  pub within-before : (p : ℕ) → p < firstOver row → together (onlyPlan (at row) p) (at row) p ≤ 8
   unfolding firstOver
   within-before p l = ltb-false _ _ (least-before (overAt row) (length row) p l)
 

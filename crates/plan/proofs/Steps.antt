@@ -19,7 +19,7 @@ use Rattle.plan.specs.Signals.{Place}
 use Rattle.plan.specs.Engine.{kindOf, nameOf, orElse, tells, choose, fitting, within}
 use Rattle.plan.proofs.Table.{family-back, family-most, high-named, spans, span-0, plain-family, plain-blank, full}
 use Rattle.plan.proofs.Places.{place-mod, yes-within}
-use Rattle.plan.specs.Fields.{gives, share, channelShare, shares, fieldsIn, total}
+use Rattle.plan.specs.Fields.{gives, share, channelShare, shares, fieldsIn, together}
 
 -- ---- the blank of a place below 4
 module _ (c j m : ℕ) (h : j < 4) (e : m ≡ mask c) where
@@ -154,7 +154,7 @@ module _ (k u v j : ℕ) where
   choose-whole h e = rw (le-ltb k 7 h, e)
 
 -- ---- the resource of a position is that of the position before, if both lie among its span
-pub total-same : (c : ℕ) (row : ℕ → ℕ) (p : ℕ) → c < 7 → 0 < p → span c * (p / span c) < p → total c row (p - 1) ≡ total c row p
+pub total-same : (c : ℕ) (row : ℕ → ℕ) (p : ℕ) → c < 7 → 0 < p → span c * (p / span c) < p → together c row (p - 1) ≡ together c row p
 unfolding fieldsIn
 total-same c row p h z l = go (span c) (spans c h) l
   where
@@ -164,9 +164,9 @@ total-same c row p h z l = go (span c) (spans c h) l
     go n (inr (inl e)) l = let m = rw e at l in let f : (p - 1) / 2 ≡ p / 2 = omega arith in rw (e, f)
     go n (inr (inr e)) l = let m = rw e at l in let f : (p - 1) / 4 ≡ p / 4 = omega arith in rw (e, f)
 
-pub total-reused : (t before c p : ℕ) (row : ℕ → ℕ) → c < 7 → (0 < p → t ≡ total before row (p - 1)) → c ≡ before
-    → span c * (p / span c) < p → t ≡ total c row p
-total-reused t before c p row h f e l = f (omega arith) ∙ ap (λ (k : ℕ). total k row (p - 1)) (sym e) ∙ total-same c row p h (omega arith) l
+pub total-reused : (t before c p : ℕ) (row : ℕ → ℕ) → c < 7 → (0 < p → t ≡ together before row (p - 1)) → c ≡ before
+    → span c * (p / span c) < p → t ≡ together c row p
+total-reused t before c p row h f e l = f (omega arith) ∙ ap (λ (k : ℕ). together k row (p - 1)) (sym e) ∙ total-same c row p h (omega arith) l
 
 -- ---- what fits
 module _ (c p v : ℕ) where
@@ -207,7 +207,7 @@ right-alone c p v n e l = rw (e, yes-within 0 p n (omega arith) l here) (and-tru
     and-true true = refl
     and-true false = refl
 
-pub total-alone : (c : ℕ) (row : ℕ → ℕ) (p : ℕ) → c ≡ 0 → share 0 p (row p) ≡ total c row p
+pub total-alone : (c : ℕ) (row : ℕ → ℕ) (p : ℕ) → c ≡ 0 → share 0 p (row p) ≡ together c row p
 unfolding fieldsIn
 total-alone c row p e =
     let f : 1 * (p / 1) + 0 ≡ p = omega arith in

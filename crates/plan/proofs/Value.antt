@@ -19,7 +19,7 @@ use Rattle.plan.specs.declared.Plan.{Plan}
 use Rattle.resource.specs.Values.{fieldsOf}
 use Rattle.resource.proofs.Fields.{fields-most as most-fields}
 use Rattle.answer.specs.Lists.{at}
-use Rattle.plan.specs.Fields.{total, shared, fieldsTo}
+use Rattle.plan.specs.Fields.{together, shared, fieldsTo}
 use Rattle.plan.specs.Engine.{firstNamed, choose, onlyPlan, fitting, within, rightAt, wrongAt}
 use Rattle.plan.specs.Engine.{overAt, firstWrong, firstOver, planOutcome, sharedTo, kindsOf, planOf}
 use Rattle.plan.proofs.Tests.{equal-or}
@@ -39,7 +39,7 @@ pub wrong-at : (row : List ℕ) (p kind : ℕ) (r : Bool) → kind ≡ onlyPlan 
 unfolding rightAt
 wrong-at row p kind r e f = rw (f, e)
 
-pub over-at : (row : List ℕ) (p kind t : ℕ) → kind ≡ onlyPlan (at row) p → t ≡ total kind (at row) p → overAt row p ≡ ltb 8 t
+pub over-at : (row : List ℕ) (p kind t : ℕ) → kind ≡ onlyPlan (at row) p → t ≡ together kind (at row) p → overAt row p ≡ ltb 8 t
 over-at row p kind t e f = rw (f, e)
 
 -- the kinds of a segment, one after the other
@@ -51,7 +51,7 @@ enter-kind row b p k u v x z l m ek eu ev ex =
     ex ∙ rw (ek, eu, ev, f)
 
 -- ---- the bits of the positions whose fields share their resource
-pub shared-next : (row : List ℕ) (p t : ℕ) → t ≡ total (onlyPlan (at row) p) (at row) p → sharedTo row p + cond (leb 2 t) (2 ^ p) 0 ≡ sharedTo row (p + 1)
+pub shared-next : (row : List ℕ) (p t : ℕ) → t ≡ together (onlyPlan (at row) p) (at row) p → sharedTo row p + cond (leb 2 t) (2 ^ p) 0 ≡ sharedTo row (p + 1)
 unfolding sharedTo
 shared-next row p t e = rw (add-one p, e)
 
@@ -150,10 +150,10 @@ module _ (c : ℕ) (row : ℕ → ℕ) where
           rw (g, ne-eqb (n % 2 + 1) c (λ h. omega arith)) (omega arith)
 
 -- ---- the value
-pub out-is : (row : List ℕ) (w v : ℕ) (a b r : Outcome) → w ≡ firstWrong row → v ≡ firstOver row → a ≡ refuseIf (ltb w (length row)) (no 7 0 (w / 4))
+pub outcome-made : (row : List ℕ) (w v : ℕ) (a b r : Outcome) → w ≡ firstWrong row → v ≡ firstOver row → a ≡ refuseIf (ltb w (length row)) (no 7 0 (w / 4))
     → b ≡ refuseIf (ltb v (length row)) (no 8 0 (v / 4)) → r ≡ (a or b) → r ≡ planOutcome row
 unfolding planOutcome
-out-is row w v a b r ew ev ea eb er = er ∙ rw (ea, eb, ew, ev)
+outcome-made row w v a b r ew ev ea eb er = er ∙ rw (ea, eb, ew, ev)
 
 pub plan-is : (row kinds : List ℕ) (o : Outcome) (s f g : ℕ) → o ≡ planOutcome row → kinds ≡ kindsOf row → s ≡ sharedTo row (firstOver row)
     → f ≡ fieldsTo 1 (at row) (length row) → g ≡ fieldsTo 2 (at row) (length row)

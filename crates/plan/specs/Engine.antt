@@ -11,7 +11,7 @@ use Rattle.answer.specs.declared.Outcome.{Outcome}
 use Rattle.answer.specs.Lists.{filled, at}
 use Rattle.resource.specs.Values.{smallerAt}
 use Rattle.plan.specs.Kinds.{none, family, span, mask, takes, blankAt, mustName}
-use Rattle.plan.specs.Fields.{total, shared, fieldsTo}
+use Rattle.plan.specs.Fields.{together, shared, fieldsTo}
 use Rattle.plan.specs.Answers.{segmentEnd}
 use Rattle.plan.specs.declared.Plan.{Plan}
 
@@ -60,7 +60,7 @@ wrongAt row p = not (rightAt (at row) (length row) p)
 
 -- the resource that it is given to is over eight
 abbrev pub overAt : List ℕ → ℕ → Bool
-overAt row p = ltb 8 (total (onlyPlan (at row) p) (at row) p)
+overAt row p = ltb 8 (together (onlyPlan (at row) p) (at row) p)
 
 -- the lowest position that is not right, and the lowest of a resource over eight; the number of positions where there is none
 unfoldable pub firstWrong : List ℕ → ℕ

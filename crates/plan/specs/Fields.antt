@@ -27,15 +27,15 @@ unfoldable pub fieldsIn : ℕ → ℕ → (ℕ → ℕ) → ℕ → ℕ
 fieldsIn x c row p = shares x c row (span c * (p / span c)) (span c)
 
 -- over both channels together. The pieces of a position, with one field each, are not counted here.
-abbrev pub total : ℕ → (ℕ → ℕ) → ℕ → ℕ
-total c row p = fieldsIn 1 c row p + fieldsIn 2 c row p
+abbrev pub together : ℕ → (ℕ → ℕ) → ℕ → ℕ
+together c row p = fieldsIn 1 c row p + fieldsIn 2 c row p
 
 abbrev pub Eight : (ℕ → ℕ) → (ℕ → ℕ) → ℕ → ℕ → Type 0
-Eight o row a b = (p : ℕ) → a ≤ p → p < b → total (o p) row p ≤ 8
+Eight o row a b = (p : ℕ) → a ≤ p → p < b → together (o p) row p ≤ 8
 
 -- "Where the resource has two or more fields over both channels together": position p's fields share their resource
 abbrev pub shared : (ℕ → ℕ) → (ℕ → ℕ) → ℕ → Bool
-shared o row p = leb 2 (total (o p) row p)
+shared o row p = leb 2 (together (o p) row p)
 
 -- "A channel's User fields follow its values in rising position": how many channel c has of the first n positions
 abbrev pub fieldsTo : ℕ → (ℕ → ℕ) → ℕ → ℕ

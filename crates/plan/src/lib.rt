@@ -10,7 +10,7 @@ ghost use lib.ListN.{length, replicate};
 ghost use Rattle.answer.specs.Lists.{filled};
 ghost use Rattle.plan.specs.Kinds.{family, span, mask, takes, blankAt};
 ghost use Rattle.answer.specs.Lists.{at};
-ghost use Rattle.plan.specs.Fields.{gives, share, fieldsIn, channelShare, total};
+ghost use Rattle.plan.specs.Fields.{gives, share, fieldsIn, channelShare, together};
 ghost use Rattle.plan.specs.Answers.{Laid};
 ghost use Rattle.plan.specs.Engine.{nameOf, orElse, firstNamed, tells, choose, onlyPlan, fitting, within, firstWrong, firstOver};
 ghost use Rattle.plan.specs.Fields.{fieldsTo};
@@ -347,7 +347,7 @@ pub fn fields_in(channel: usize, kind: u16, row: &[u16], p: usize) -> u16
 // The fields of both channels: those of all its places.
 fn total_of(kind: u16, row: &[u16], p: usize) -> u16
     requires { ⌜ (kind < 7) × (p < 4096) ⌝ }
-    ensures { λ r. ⌜ (r ≤ 36) × (r ≡ total kind (at (now (row .entry))) p) ⌝ }
+    ensures { λ r. ⌜ (r ≤ 36) × (r ≡ together kind (at (now (row .entry))) p) ⌝ }
 {
     let n = span_of(kind);
     let b = start_of(kind, p);
@@ -363,8 +363,8 @@ fn total_of(kind: u16, row: &[u16], p: usize) -> u16
 // The same, from t, the fields of the resource at the position before: often it is the same one. A position that is given
 // to itself is alone.
 fn total_from(t: u16, before: u16, kind: u16, row: &[u16], p: usize) -> u16
-    requires { ⌜ (kind < 7) × (p < 4096) × (0 < p → t ≡ total before (at (now row)) (p - 1)) ⌝ }
-    ensures { λ r. ⌜ r ≡ total kind (at (now (row .entry))) p ⌝ }
+    requires { ⌜ (kind < 7) × (p < 4096) × (0 < p → t ≡ together before (at (now row)) (p - 1)) ⌝ }
+    ensures { λ r. ⌜ r ≡ together kind (at (now (row .entry))) p ⌝ }
 {
     if kind == 0 {
         return share_of(0, p, value_at(row, p));

@@ -4,9 +4,9 @@ use lib.ListN.{length, drop}
 use mathlib.Core.List.{_++_}
 use denote.Ref.{now}
 use Rattle.answer.proofs.Order.{after-answered}
-use Rattle.frame.specs.Words.{wordCount, wordsOf}
+use Rattle.frame_words.specs.Words.{wordCount, wordsOf}
 use Rattle.reader.specs.Table.{readOutcome}
-use Rattle.reader.specs.Result.{answerOf, wordsAfter}
+use Rattle.reader.specs.Result.{readAnswer, wordsAfter}
 use Rattle.reader.proofs.read.Reads as read
 use Rattle.reader.proofs.read_sealed.Reads as read-sealed
 
@@ -21,7 +21,7 @@ read-sealed-agrees κs a r r' s s' p q = (p .0 ∙ sym (q .0), p .1 ∙ sym (q .
 
 -- "Every refusal writes nothing": with any number but 0 the lent words are as they were
 pub read-keeps : (κs : _) (a : _) (r : _) (s : _) → read.Post κs a r s → (r .number ≡ 0 → ⊥) → now (s .1 .1 .1 .0) ≡ now (a .1 .1 .1 .0)
-unfolding answerOf wordsAfter
+unfolding readAnswer wordsAfter
 read-keeps κs a r s p n =
     let bw = a .0 in
     let x = now (a .1 .0) in

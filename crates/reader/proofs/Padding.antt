@@ -29,10 +29,10 @@ use Rattle.faults.proofs.Padding.{wrongCommon-same, notCarried-same, overflowDi
 use Rattle.stations.specs.Stations.{stationOf, stationPlace, repeated, firstRepeated, stationTwice}
 use Rattle.words.specs.Words.{secondWord}
 use Rattle.halves.specs.Table.{check1, check2, check3, check4, check5, check6, check7, check8, check9, check10, check11, checks11, outcome11}
-use Rattle.frame.specs.Words.{wordCount, before, giver, userWordAt, userWords, headerOf, wordsIn, wordsOf}
+use Rattle.frame_words.specs.Words.{wordCount, before, giver, userWordAt, userWords, headerOf, wordsOfRow, wordsOf}
 use Rattle.reader.specs.Table.{noRoom, check12, readOutcome}
-use Rattle.reader.proofs.Stages.{reading-stages}
-use Rattle.reader.specs.Result.{answerOf, wordsAfter}
+use Rattle.reader.proofs.Stages.{readOutcome-stages}
+use Rattle.reader.specs.Result.{readAnswer, wordsAfter}
 use Rattle.reader.specs.Padding.{Other, Agree, Nine}
 
 pub to-end : {bw c : ℕ} {s t : List ℕ} → Other bw c s t → AlikeToEnd bw c s t
@@ -151,9 +151,9 @@ module _ {bw : ℕ} {a b a' b' : List ℕ} (n : Nine bw a b) (h : Agree bw a b a
   same-row : row bw a b ≡ row bw a' b'
   same-row = row-same bw a b a' b' (alike (h .first)) (alike (h .second)) known-bandwidth
 
-  pub readable-same : outcome11 bw a b ≡ outcome11 bw a' b'
+  pub outcome11-same : outcome11 bw a b ≡ outcome11 bw a' b'
   unfolding outcome11
-  readable-same =
+  outcome11-same =
       let e2 : check2 bw a b ≡ check2 bw a' b' = pass-of 1 ∙ sym (unfold check2 in or-pass _ _ (pass-2 (h .first)) (pass-2 (h .second))) in
       let e3 : check3 bw a b ≡ check3 bw a' b' = pass-of 2 ∙ sym (unfold check3 in or-pass _ _ (pass-3 (h .first)) (pass-3 (h .second))) in
       let e4 : check4 bw a b ≡ check4 bw a' b' =
@@ -170,17 +170,17 @@ module _ {bw : ℕ} {a b a' b' : List ℕ} (n : Nine bw a b) (h : Agree bw a b a
       rw (e2, e3, e4, e5, e6, e7, e8, e9, e10, e11)
 
   pub words-same : wordsOf bw a b ≡ wordsOf bw a' b'
-  unfolding wordsOf wordsIn
+  unfolding wordsOf wordsOfRow
   words-same =
       let r = row bw a' b' in
       ap (λ (r : List ℕ). headerOf bw r a ++ (userWords bw r 1 a ++ userWords bw r 2 b)) same-row
       ∙ join (header-same r known-bandwidth (alike (h .first))) (user-words-same r (h .first)) (user-words-same r (h .second))
 
-  pub reading-same : (room : ℕ) → readOutcome bw a b room ≡ readOutcome bw a' b' room
+  pub readOutcome-same : (room : ℕ) → readOutcome bw a b room ≡ readOutcome bw a' b' room
   unfolding check12 noRoom
-  reading-same room = reading-stages bw a b room ∙ rw (readable-same, word-count-same h) (sym (reading-stages bw a' b' room))
+  readOutcome-same room = readOutcome-stages bw a b room ∙ rw (outcome11-same, word-count-same h) (sym (readOutcome-stages bw a' b' room))
 
   -- 01: "What follows is padding, not looked at.": whatever the room, the answer and the words afterwards are the same
-  pub padding : (w : List ℕ) → (answerOf bw a b (length w) ≡ answerOf bw a' b' (length w)) × (wordsAfter bw a b w ≡ wordsAfter bw a' b' w)
-  unfolding answerOf wordsAfter
-  padding w = (rw (reading-same (length w), word-count-same h), rw (reading-same (length w), word-count-same h, words-same))
+  pub padding : (w : List ℕ) → (readAnswer bw a b (length w) ≡ readAnswer bw a' b' (length w)) × (wordsAfter bw a b w ≡ wordsAfter bw a' b' w)
+  unfolding readAnswer wordsAfter
+  padding w = (rw (readOutcome-same (length w), word-count-same h), rw (readOutcome-same (length w), word-count-same h, words-same))

@@ -15,23 +15,23 @@ use Rattle.channel.specs.Layout.{row}
 use Rattle.halves.specs.Table.{checks11, outcome11}
 use Rattle.halves.specs.Engine.{outcome9to11}
 use Rattle.halves.proofs.Stages.{Common, common-pass, outcome11-stages}
-use Rattle.frame.specs.Words.{wordCount}
+use Rattle.frame_words.specs.Words.{wordCount}
 use Rattle.reader.specs.Table.{noRoom, check12, readOutcome}
 
-pub reading-stages : (bw : ℕ) (a b : List ℕ) (room : ℕ) → readOutcome bw a b room ≡ outcome11 bw a b or check12 bw a b room
+pub readOutcome-stages : (bw : ℕ) (a b : List ℕ) (room : ℕ) → readOutcome bw a b room ≡ outcome11 bw a b or check12 bw a b room
 unfolding readOutcome outcome11
-reading-stages bw a b room =
+readOutcome-stages bw a b room =
     first-append (checks11 bw a b) (check12 bw a b room ∷ [])
     ∙ ap (λ (o : Outcome). firstOf (checks11 bw a b) or o) (unfold firstOf in or-end (check12 bw a b room))
 
 -- a refusal of 1 to 11 is the reading's
 pub reading-stopped : (bw : ℕ) (a b : List ℕ) (room : ℕ) (x : Answer) → outcome11 bw a b ≡ Refuse x → readOutcome bw a b room ≡ Refuse x
-reading-stopped bw a b room x e = reading-stages bw a b room ∙ or-refuse _ (check12 bw a b room) x e
+reading-stopped bw a b room x e = readOutcome-stages bw a b room ∙ or-refuse _ (check12 bw a b room) x e
 
 -- the second half is all of it where the first passes
 pub reading-rest : (bw : ℕ) (a b : List ℕ) (room : ℕ) → outcome11 bw a b ≡ outcome9to11 bw a b
     → readOutcome bw a b room ≡ outcome9to11 bw a b or check12 bw a b room
-reading-rest bw a b room e = reading-stages bw a b room ∙ ap (λ (o : Outcome). o or check12 bw a b room) e
+reading-rest bw a b room e = readOutcome-stages bw a b room ∙ ap (λ (o : Outcome). o or check12 bw a b room) e
 
 room-pass : (bw : ℕ) (a b : List ℕ) (room : ℕ) → check12 bw a b room ≡ Pass → wordCount bw a b ≤ room
 unfolding check12 noRoom
@@ -41,9 +41,9 @@ pub record Sound (bw : ℕ) (a b : List ℕ) (room : ℕ) : Type 0 where
   pub common : Common bw a b
   pub room-enough : wordCount bw a b ≤ room
 
-pub reading-pass : (bw : ℕ) (a b : List ℕ) (room : ℕ) → readOutcome bw a b room ≡ Pass → Sound bw a b room
-reading-pass bw a b room e =
-    let f = sym (reading-stages bw a b room) ∙ e in
+pub readOutcome-pass : (bw : ℕ) (a b : List ℕ) (room : ℕ) → readOutcome bw a b room ≡ Pass → Sound bw a b room
+readOutcome-pass bw a b room e =
+    let f = sym (readOutcome-stages bw a b room) ∙ e in
     let g = sym (outcome11-stages bw a b) ∙ pass-left (outcome11 bw a b) _ f in
     record {
       common = common-pass bw a b (pass-left _ (planOutcome (row bw a b)) (pass-left _ (outcome9to11 bw a b) g));

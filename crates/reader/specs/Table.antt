@@ -6,7 +6,7 @@ use Rattle.answer.specs.Answer.{no, refuseIf}
 use Rattle.answer.specs.Order.{firstOf}
 use Rattle.answer.specs.declared.Outcome.{Outcome}
 use Rattle.halves.specs.Table.{checks11}
-use Rattle.frame.specs.Words.{wordCount}
+use Rattle.frame_words.specs.Words.{wordCount}
 
 -- "12 | fewer words lent than 10 plus fields | 0, words needed"
 unfoldable pub noRoom : ℕ → ℕ → Outcome

@@ -9,7 +9,7 @@ ghost use Rattle.answer.specs.Answer.{_or_};
 ghost use Rattle.channel.specs.Layout.{count};
 ghost use Rattle.halves.specs.Engine.{AtMost512, Sealed, outcome9to11};
 ghost use Rattle.reader.specs.Table.{noRoom, check12};
-ghost use Rattle.reader.specs.Result.{answerOf, wordsAfter};
+ghost use Rattle.reader.specs.Result.{readAnswer, wordsAfter};
 
 fn then_room(prev: Outcome, need: usize, room: usize) -> Outcome
     ensures { λ r. ⌜ r ≡ (prev or noRoom need room) ⌝ }
@@ -39,7 +39,7 @@ fn check_users(
 // The reading in its two halves, of channels that may be known to be sealed.
 fn read_as(bandwidth: u32, cc1: &[u8], cc2: &[u8], words: &mut [u32], sealed: bool) -> Answer
     requires { ⌜ (sealed ≡ true → Sealed bandwidth (now cc1) (now cc2)) ⌝ }
-    ensures { λ r. ⌜ r ≡ answerOf bandwidth (now (cc1 .entry)) (now (cc2 .entry)) (length (now (words .entry))) ⌝ }
+    ensures { λ r. ⌜ r ≡ readAnswer bandwidth (now (cc1 .entry)) (now (cc2 .entry)) (length (now (words .entry))) ⌝ }
     ensures { λ _. ⌜ now (words .exit) ≡ wordsAfter bandwidth (now (cc1 .entry)) (now (cc2 .entry)) (now (words .entry)) ⌝ }
 {
     let plan = halves::plan_frame(bandwidth, cc1, cc2, sealed);
@@ -55,7 +55,7 @@ fn read_as(bandwidth: u32, cc1: &[u8], cc2: &[u8], words: &mut [u32], sealed: bo
     }
     let row = plan.row;
     let p = channel::positions_of(bandwidth);
-    frame::put_frame(words, bandwidth, cc1, cc2, &row[..p], plan.shared, n, m);
+    frame_words::put_frame(words, bandwidth, cc1, cc2, &row[..p], plan.shared, n, m);
     Answer {
         number: 0,
         channel: 0,
@@ -65,7 +65,7 @@ fn read_as(bandwidth: u32, cc1: &[u8], cc2: &[u8], words: &mut [u32], sealed: bo
 
 // Reads a frame: the answer, and on acceptance the words at the front of the lent buffer. A refusal writes nothing.
 pub fn read(bandwidth: u32, cc1: &[u8], cc2: &[u8], words: &mut [u32]) -> Answer
-    ensures { λ r. ⌜ r ≡ answerOf bandwidth (now (cc1 .entry)) (now (cc2 .entry)) (length (now (words .entry))) ⌝ }
+    ensures { λ r. ⌜ r ≡ readAnswer bandwidth (now (cc1 .entry)) (now (cc2 .entry)) (length (now (words .entry))) ⌝ }
     ensures { λ _. ⌜ now (words .exit) ≡ wordsAfter bandwidth (now (cc1 .entry)) (now (cc2 .entry)) (now (words .entry)) ⌝ }
 {
     read_as(bandwidth, cc1, cc2, words, false)
@@ -74,7 +74,7 @@ pub fn read(bandwidth: u32, cc1: &[u8], cc2: &[u8], words: &mut [u32]) -> Answer
 // The same of channels that pass 4 and 10, as those that the writer has built do: no check is worked out again.
 pub fn read_sealed(bandwidth: u32, cc1: &[u8], cc2: &[u8], words: &mut [u32]) -> Answer
     requires { ⌜ Sealed bandwidth (now cc1) (now cc2) ⌝ }
-    ensures { λ r. ⌜ r ≡ answerOf bandwidth (now (cc1 .entry)) (now (cc2 .entry)) (length (now (words .entry))) ⌝ }
+    ensures { λ r. ⌜ r ≡ readAnswer bandwidth (now (cc1 .entry)) (now (cc2 .entry)) (length (now (words .entry))) ⌝ }
     ensures { λ _. ⌜ now (words .exit) ≡ wordsAfter bandwidth (now (cc1 .entry)) (now (cc2 .entry)) (now (words .entry)) ⌝ }
 {
     read_as(bandwidth, cc1, cc2, words, true)

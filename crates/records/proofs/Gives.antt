@@ -15,7 +15,7 @@ use Rattle.plan.proofs.Table.{takes-known, family-low}
 use Rattle.plan.proofs.Fitting.{high-own}
 use Rattle.resource.specs.declared.Size.the-variants.{S242}
 use Rattle.resource.specs.declared.Piece.the-variants.{Part}
-use Rattle.resource.specs.Values.{within, pieces, fieldsOf, divides, ownPieces}
+use Rattle.resource.specs.Values.{between, pieces, fieldsOf, divides, ownPieces}
 use Rattle.resource.proofs.Test.{below-or}
 use Rattle.resource.proofs.Starts.{own-fields}
 use Rattle.resource.proofs.Pieces.{none-left, divided-not, divided-low}
@@ -58,7 +58,7 @@ share-fields x p v f e =
 -- ---- what is listed
 pub whole-one : (v : ℕ) → divides v ≡ false → length (ownPieces v) ≤ 1
 unfolding ownPieces
-whole-one v e = go (eqb v 28 || within 64 71 v)
+whole-one v e = go (eqb v 28 || between 64 71 v)
   where
     go : (t : Bool) → length (cond t (Part S242 1 ∷ []) (pieces v)) ≤ 1
     go true = omega arith

@@ -14,7 +14,7 @@ use Rattle.resource.specs.declared.Resource.{Resource}
 use Rattle.resource.specs.declared.Resource.the-variants.{Single}
 use Rattle.resource.specs.Values.{pieceFields, ownPieces}
 use Rattle.resource.specs.Index.{resourceAt, leavingOut}
-use Rattle.resource.specs.Tones.{tonesOf, Among, Right}
+use Rattle.resource.specs.Tones.{tonesOf, Among, RightSpans}
 use Rattle.plan.specs.Kinds.{itself, span, takes}
 use Rattle.plan.specs.Fields.{fieldsIn}
 use Rattle.records.specs.declared.Record.{Record}
@@ -95,4 +95,4 @@ blank = record { resource = Single S26 0; segment = 0; position = 0; fields1 = 0
 
 -- its subcarriers are as many as its name says, in rising maximal runs
 abbrev pub RightRecord : ℕ → Record → Type 0
-RightRecord n r = Right (r .resource) (tonesOf n (r .segment) (r .resource))
+RightRecord n r = RightSpans (r .resource) (tonesOf n (r .segment) (r .resource))

@@ -10,7 +10,7 @@ use Rattle.resource.specs.declared.Piece.{Piece}
 use Rattle.resource.specs.declared.Resource.{Resource}
 use Rattle.resource.specs.Names.{nameOf}
 use Rattle.resource.specs.Index.{indexOf, resourceAt, isPiece, fromPositions, exists, positionOf, placeOf}
-use Rattle.resource.specs.Tones.{Span, sameℤ, tonesAt, tonesOf, count, rising, Right}
+use Rattle.resource.specs.Tones.{Span, sameℤ, tonesAt, tonesOf, howMany, rising, RightSpans}
 use Rattle.resource.specs.Engine.{spanOf, runsOf, placesRuns, wide, wideWith26, narrow, narrowWith26}
 use Rattle.resource.specs.Engine.{offset26, offset52, offset106, narrow26, narrow52, narrow106}
 use Rattle.resource.proofs.Test.{both-left, both-right, wherever, met}
@@ -50,10 +50,10 @@ spans-eq (s ∷ ss) (t ∷ ts) h =
 -- ---- the spans ss of resource r of segment g, in a channel of n positions, are its runs, and right
 pub record Agrees (n g : ℕ) (r : Resource) (ss : List Span) : Type 0 where
   pub tones : ss ≡ map (spanOf n) (runsOf n g r)
-  pub right : Right r ss
+  pub right : RightSpans r ss
 
 abbrev sized : Resource → List Span → Bool
-sized r ss = sameℤ (count ss) (pos (nameOf r)) && rising ss
+sized r ss = sameℤ (howMany ss) (pos (nameOf r)) && rising ss
 
 abbrev agrees : ℕ → ℕ → Resource → List Span → Bool
 agrees n g r ss = sameSpans ss (map (spanOf n) (runsOf n g r)) && sized r ss
@@ -61,12 +61,12 @@ agrees n g r ss = sameSpans ss (map (spanOf n) (runsOf n g r)) && sized r ss
 agreed : (n g : ℕ) (r : Resource) (ss : List Span) → T (agrees n g r ss) → Agrees n g r ss
 agreed n g r ss t =
     let a = sameSpans ss (map (spanOf n) (runsOf n g r)) in
-    let b = sameℤ (count ss) (pos (nameOf r)) in
+    let b = sameℤ (howMany ss) (pos (nameOf r)) in
     let u = both-right a (sized r ss) t in
     record {
       tones = spans-eq ss (map (spanOf n) (runsOf n g r)) (both-left a (sized r ss) t);
       right = record {
-        named = same-eq (count ss) (pos (nameOf r)) (both-left b (rising ss) u);
+        named = same-eq (howMany ss) (pos (nameOf r)) (both-left b (rising ss) u);
         rises = both-right b (rising ss) u;
       };
     }

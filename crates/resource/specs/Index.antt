@@ -9,7 +9,7 @@ use Rattle.resource.specs.declared.Piece.{Piece}
 use Rattle.resource.specs.declared.Piece.the-variants.{Part, With26}
 use Rattle.resource.specs.declared.Resource.{Resource}
 use Rattle.resource.specs.declared.Resource.the-variants.{Single, Joined}
-use Rattle.resource.specs.Values.{within}
+use Rattle.resource.specs.Values.{between}
 
 -- "At position p of its segment, i the place among the nine, four or two of its kind, from 1: 26 has index 9p+i, plus 1 where p is
 -- 2 or 3 (19 doesn't exist); 52 4p+i; 106 2p+i; .. 242 p+1; 484 1 or 2; 996 1"
@@ -32,13 +32,13 @@ leavingOut k = Joined P484And242 (k + 1)
 
 -- the pieces that there are: nine 26s, four 52s, two 106s and two 106+26s at a position, and one of what is no smaller than a position
 unfoldable pub isPiece : Piece → Bool
-isPiece (Part S26 i) = within 1 9 i
-isPiece (Part S52 i) = within 1 4 i
-isPiece (Part S106 i) = within 1 2 i
+isPiece (Part S26 i) = between 1 9 i
+isPiece (Part S52 i) = between 1 4 i
+isPiece (Part S106 i) = between 1 2 i
 isPiece (Part S242 i) = eqb i 1
 isPiece (Part S484 i) = eqb i 1
 isPiece (Part S996 i) = eqb i 1
-isPiece (With26 i) = within 1 2 i
+isPiece (With26 i) = between 1 2 i
 
 -- "484 needs 40 MHz, 996 and 484+242 need 80": the number of positions from which a piece exists
 unfoldable pub fromPositions : Piece → ℕ

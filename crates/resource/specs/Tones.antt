@@ -30,15 +30,15 @@ infix 70 _to_
 abbrev pub _to_ : ℤ → ℤ → Span
 a to b = record { lo = a; hi = b }
 
-abbrev pub none : Span
-none = pos 1 to pos 0
+abbrev pub noSpan : Span
+noSpan = pos 1 to pos 0
 
 abbrev pub shifted : ℤ → Span → Span
 shifted k s = (k +ℤ s .lo) to (k +ℤ s .hi)
 
 -- the i-th of a list, from 1
 abbrev pub spanAt : List Span → ℕ → Span
-spanAt l i = getD l (i - 1) none
+spanAt l i = getD l (i - 1) noSpan
 
 -- ---- "Tones are maximal runs, rising": a run that the next one touches goes on in it
 abbrev pub sameℤ : ℤ → ℤ → Bool
@@ -146,7 +146,7 @@ abbrev pub the106s : List Span
 the106s = minus 122 to minus 17 ∷ pos 17 to pos 122 ∷ []
 
 abbrev pub narrow26 : ℕ → List Span
-narrow26 i = cond (eqb i 5) middle20 (spanAt (lower26s ++ (none ∷ upper26s)) i ∷ [])
+narrow26 i = cond (eqb i 5) middle20 (spanAt (lower26s ++ (noSpan ∷ upper26s)) i ∷ [])
 
 abbrev pub narrowTones : Piece → List Span
 narrowTones (Part S26 i) = narrow26 i
@@ -179,21 +179,21 @@ Among k [] = ⊥
 Among k (s ∷ ss) = ((s .lo ≤ℤ k) × (k ≤ℤ s .hi)) ⊎ Among k ss
 
 -- how many they are
-abbrev pub count : List Span → ℤ
-count [] = pos 0
-count (s ∷ ss) = s .hi -ℤ s .lo +ℤ pos 1 +ℤ count ss
+abbrev pub howMany : List Span → ℤ
+howMany [] = pos 0
+howMany (s ∷ ss) = s .hi -ℤ s .lo +ℤ pos 1 +ℤ howMany ss
 
 -- the first of the spans, if there is one, begins above h and does not touch it
 abbrev pub above : ℤ → List Span → Bool
 above h [] = true
 above h (s ∷ ss) = ltZ (sucℤ h) (s .lo)
 
--- "Tones are maximal runs, rising": none is empty, and each ends below the next, which it does not touch
+-- "Tones are maximal runs, rising": noSpan is empty, and each ends below the next, which it does not touch
 abbrev pub rising : List Span → Bool
 rising [] = true
 rising (s ∷ ss) = leZ (s .lo) (s .hi) && above (s .hi) ss && rising ss
 
 -- the spans of a resource: as many subcarriers as its name says, in rising maximal runs
-pub record Right (r : Resource) (ss : List Span) : Type 0 where
-  pub named : count ss ≡ pos (nameOf r)
+pub record RightSpans (r : Resource) (ss : List Span) : Type 0 where
+  pub named : howMany ss ≡ pos (nameOf r)
   pub rises : T (rising ss)

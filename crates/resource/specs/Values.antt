@@ -8,12 +8,12 @@ use Rattle.resource.specs.declared.Size.the-variants.{S26, S52, S106, S2
 use Rattle.resource.specs.declared.Piece.{Piece}
 use Rattle.resource.specs.declared.Piece.the-variants.{Part, With26}
 
-abbrev pub within : ℕ → ℕ → ℕ → Bool
-within a b v = leb a v && leb v b
+abbrev pub between : ℕ → ℕ → ℕ → Bool
+between a b v = leb a v && leb v b
 
 -- the values that 01 lists; "All else isn't carried"
 unfoldable pub carried : ℕ → Bool
-carried v = leb v 30 || eqb v 48 || eqb v 50 || within 64 87 v || within 96 127 v
+carried v = leb v 30 || eqb v 48 || eqb v 50 || between 64 87 v || between 96 127 v
 
 -- bit k of a value is set
 abbrev pub set-at : ℕ → ℕ → Bool
@@ -78,7 +78,7 @@ pieceFields v = cond (divides v) 1 (fieldsOf v)
 
 -- the pieces of a position that is given to itself: 28 and 64 to 71 leave it whole, a 242
 unfoldable pub ownPieces : ℕ → List Piece
-ownPieces v = cond (eqb v 28 || within 64 71 v) (Part S242 1 ∷ []) (pieces v)
+ownPieces v = cond (eqb v 28 || between 64 71 v) (Part S242 1 ∷ []) (pieces v)
 
 -- the values of a position "to itself" that do not leave it whole, and of one of which nothing is used: those up to 27, 48 and 50.
 -- "48 isn't allowed in a fourth position nor 50 in a third": v at place j of its segment

@@ -9,7 +9,7 @@ use lib.Dec.{ltb, eqb}
 use borrow.Author.Tests.{lt-ltb, ne-eqb}
 use Rattle.words.specs.Pack.{pack, unpack, Fit}
 use Rattle.answer.specs.Lists.{at}
-use Rattle.words.specs.Words.{header, overflowWidths, data0Widths, sizeOf, giOf, data0Of, overflowWord, slot, firstWord, tripleWord}
+use Rattle.words.specs.Words.{header, overflowWidths, data0Widths, ltfSizeOf, giOf, data0Of, overflowWord, valueSlot, firstWord, tripleWord}
 use Rattle.words.specs.Words.{aloneWidths, aloneWordWidths, aloneOf, sharedWidths, sharedWordWidths, sharedOf, userWord}
 use Rattle.words.specs.Engine.{giLtf, overflowIn, overflowOf, valueOf, knownOf, aloneIn, sharedIn, fieldIn, userField}
 use Rattle.words.proofs.Pack.{unpack-pack, pack-unpack, unpack-fit, pack-lt}
@@ -70,7 +70,7 @@ user-field-lt w = go (eqb (w % 256) 0x47)
         (u .1 .0, (u .1 .1 .1 .0, (u .1 .1 .1 .1 .1 .0, (u .1 .1 .1 .1 .0, (u .1 .1 .1 .1 .1 .1 .0, (u .1 .1 .0, tt))))))
 
 -- ---- data[0]
-gi-lt : (g : ℕ) → g < 4 → (giOf g < 4) × (sizeOf g < 4) × (giLtf (giOf g) (sizeOf g) ≡ g)
+gi-lt : (g : ℕ) → g < 4 → (giOf g < 4) × (ltfSizeOf g < 4) × (giLtf (giOf g) (ltfSizeOf g) ≡ g)
 gi-lt zero l = (omega arith, omega arith, refl)
 gi-lt (suc zero) l = (omega arith, omega arith, refl)
 gi-lt (suc (suc zero)) l = (omega arith, omega arith, refl)
@@ -78,7 +78,7 @@ gi-lt (suc (suc (suc zero))) l = (omega arith, omega arith, refl)
 gi-lt (suc (suc (suc (suc g)))) l = absurd (omega arith)
 
 -- the code's forms of GI and LTF size
-pub size-is : (g : ℕ) → g < 4 → 2 + g / 2 ≡ sizeOf g
+pub size-is : (g : ℕ) → g < 4 → 2 + g / 2 ≡ ltfSizeOf g
 size-is zero l = refl
 size-is (suc zero) l = refl
 size-is (suc (suc zero)) l = refl
@@ -113,8 +113,8 @@ overflow-of-word v t lv lt =
     ∙ pack-unpack overflowWidths v lv
 
 -- ---- the row
-pub slot-lt : (row : ℕ → ℕ) (n p : ℕ) → slot row n p < 2 ^ 10
-unfolding slot
+pub slot-lt : (row : ℕ → ℕ) (n p : ℕ) → valueSlot row n p < 2 ^ 10
+unfolding valueSlot
 slot-lt row n p = go (ltb p n)
   where
     go : (b : Bool) → cond b (pack (9 ∷ 1 ∷ []) (row p % 2 ^ 9 ∷ 1 ∷ [])) 0 < 2 ^ 10
@@ -122,35 +122,35 @@ slot-lt row n p = go (ltb p n)
     go false = omega arith
 
 -- a slot's value, and its known bit
-pub slot-value : (row : ℕ → ℕ) (n p : ℕ) → p < n → row p < 2 ^ 9 → slot row n p % 2 ^ 9 ≡ row p
-unfolding slot
+pub slot-value : (row : ℕ → ℕ) (n p : ℕ) → p < n → row p < 2 ^ 9 → valueSlot row n p % 2 ^ 9 ≡ row p
+unfolding valueSlot
 slot-value row n p l h =
     rw (lt-ltb p n l, mod-eq-of-lt h)
     (ap (λ (vs : List ℕ). at vs 0) (unpack-pack (9 ∷ 1 ∷ []) (row p ∷ 1 ∷ []) (h, (omega arith, tt))))
 
-pub slot-known : (row : ℕ → ℕ) (n p : ℕ) → slot row n p / 2 ^ 9 ≡ cond (ltb p n) 1 0
-unfolding slot
+pub slot-known : (row : ℕ → ℕ) (n p : ℕ) → valueSlot row n p / 2 ^ 9 ≡ cond (ltb p n) 1 0
+unfolding valueSlot
 slot-known row n p = go (ltb p n)
   where
     go : (b : Bool) → cond b (pack (9 ∷ 1 ∷ []) (row p % 2 ^ 9 ∷ 1 ∷ [])) 0 / 2 ^ 9 ≡ cond b 1 0
     go true = omega (arith, mod-lt (row p) {m = 2 ^ 9} (omega arith))
     go false = refl
 
--- the j-th slot of a word of three
-triple-slot : (row : ℕ → ℕ) (n q j : ℕ) → j < 3 → tripleWord row n q / 2 ^ (10 * j) % 2 ^ 10 ≡ slot row n (q + j)
+-- the j-th valueSlot of a word of three
+triple-slot : (row : ℕ → ℕ) (n q j : ℕ) → j < 3 → tripleWord row n q / 2 ^ (10 * j) % 2 ^ 10 ≡ valueSlot row n (q + j)
 unfolding tripleWord
 triple-slot row n q j l = go j l
   where
-    u : unpack (10 ∷ 10 ∷ 10 ∷ []) (pack (10 ∷ 10 ∷ 10 ∷ []) (slot row n q ∷ slot row n (q + 1) ∷ slot row n (q + 2) ∷ []))
-        ≡ (slot row n q ∷ slot row n (q + 1) ∷ slot row n (q + 2) ∷ [])
+    u : unpack (10 ∷ 10 ∷ 10 ∷ []) (pack (10 ∷ 10 ∷ 10 ∷ []) (valueSlot row n q ∷ valueSlot row n (q + 1) ∷ valueSlot row n (q + 2) ∷ []))
+        ≡ (valueSlot row n q ∷ valueSlot row n (q + 1) ∷ valueSlot row n (q + 2) ∷ [])
     u =
-        unpack-pack (10 ∷ 10 ∷ 10 ∷ []) (slot row n q ∷ slot row n (q + 1) ∷ slot row n (q + 2) ∷ [])
+        unpack-pack (10 ∷ 10 ∷ 10 ∷ []) (valueSlot row n q ∷ valueSlot row n (q + 1) ∷ valueSlot row n (q + 2) ∷ [])
         (slot-lt row n q, (slot-lt row n (q + 1), (slot-lt row n (q + 2), tt)))
 
     w : ℕ
-    w = pack (10 ∷ 10 ∷ 10 ∷ []) (slot row n q ∷ slot row n (q + 1) ∷ slot row n (q + 2) ∷ [])
+    w = pack (10 ∷ 10 ∷ 10 ∷ []) (valueSlot row n q ∷ valueSlot row n (q + 1) ∷ valueSlot row n (q + 2) ∷ [])
 
-    go : (i : ℕ) → i < 3 → w / 2 ^ (10 * i) % 2 ^ 10 ≡ slot row n (q + i)
+    go : (i : ℕ) → i < 3 → w / 2 ^ (10 * i) % 2 ^ 10 ≡ valueSlot row n (q + i)
     go zero k = rw (add-zero q, div-one w) (ap (λ (vs : List ℕ). at vs 0) u)
     go (suc zero) k = ap (λ (vs : List ℕ). at vs 1) u
     go (suc (suc zero)) k = let e : w / 2 ^ 20 % 2 ^ 10 ≡ w / 2 ^ 10 / 2 ^ 10 % 2 ^ 10 = omega arith in e ∙ ap (λ (vs : List ℕ). at vs 2) u
@@ -165,16 +165,16 @@ module _ (bw v t t₂ : ℕ) (row : ℕ → ℕ) (n : ℕ) (rest : List ℕ) whe
   nth-triple (suc (suc (suc (suc zero)))) l = refl
   nth-triple (suc (suc (suc (suc (suc k))))) l = absurd (omega arith)
 
-  -- the ten bits of a position's slot
-  first-slot : at (header bw v t t₂ row n ++ rest) 2 / 2 ^ 13 ≡ slot row n 0
+  -- the ten bits of a position's valueSlot
+  first-slot : at (header bw v t t₂ row n ++ rest) 2 / 2 ^ 13 ≡ valueSlot row n 0
   first-slot = unfold firstWord in omega arith
 
   later-slot : (p : ℕ) → 0 < p → p < 16
-      → at (header bw v t t₂ row n ++ rest) (3 + (p - 1) / 3) / 2 ^ (10 * ((p - 1) % 3)) % 2 ^ 10 ≡ slot row n p
+      → at (header bw v t t₂ row n ++ rest) (3 + (p - 1) / 3) / 2 ^ (10 * ((p - 1) % 3)) % 2 ^ 10 ≡ valueSlot row n p
   later-slot p l u =
       rw (nth-triple ((p - 1) / 3) (omega arith))
       (triple-slot row n (1 + 3 * ((p - 1) / 3)) ((p - 1) % 3) (omega arith)
-      ∙ ap (slot row n) (omega arith))
+      ∙ ap (valueSlot row n) (omega arith))
 
   -- the row is had back, and which positions there are
   pub value-of-header : (p : ℕ) → p < n → n ≤ 16 → row p < 2 ^ 9 → valueOf (header bw v t t₂ row n ++ rest) p ≡ row p

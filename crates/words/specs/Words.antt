@@ -25,8 +25,8 @@ abbrev pub data0Widths : List ℕ
 data0Widths = 3 ∷ 4 ∷ 2 ∷ 2 ∷ 3 ∷ 1 ∷ 2 ∷ 1 ∷ 4 ∷ 10 ∷ []
 
 -- "GI+LTF 0, 1, 2, 3 gives LTF size 2, 2, 3, 3 and GI 0, 1, 0, 2."
-abbrev pub sizeOf : ℕ → ℕ
-sizeOf g = getD (2 ∷ 2 ∷ 3 ∷ 3 ∷ []) g 0
+abbrev pub ltfSizeOf : ℕ → ℕ
+ltfSizeOf g = getD (2 ∷ 2 ∷ 3 ∷ 3 ∷ []) g 0
 
 abbrev pub giOf : ℕ → ℕ
 giOf g = getD (0 ∷ 1 ∷ 0 ∷ 2 ∷ []) g 0
@@ -37,7 +37,7 @@ data0Of vs t =
     0
     ∷ at vs 0
     ∷ giOf (at vs 1)
-    ∷ sizeOf (at vs 1)
+    ∷ ltfSizeOf (at vs 1)
     ∷ at vs 2
     ∷ at vs 3
     ∷ at vs 4
@@ -50,17 +50,17 @@ unfoldable pub overflowWord : ℕ → ℕ → ℕ
 overflowWord v t = pack data0Widths (data0Of (unpack overflowWidths v) t)
 
 -- 002: an RU Allocation of nine bits and above them its known bit; neither where the bandwidth has no such subfield
-unfoldable pub slot : (ℕ → ℕ) → ℕ → ℕ → ℕ
-slot row n p = cond (ltb p n) (pack (9 ∷ 1 ∷ []) (row p % 2 ^ 9 ∷ 1 ∷ [])) 0
+unfoldable pub valueSlot : (ℕ → ℕ) → ℕ → ℕ → ℕ
+valueSlot row n p = cond (ltb p n) (pack (9 ∷ 1 ∷ []) (row p % 2 ^ 9 ∷ 1 ∷ [])) 0
 
 -- data[1]: RU Allocation 1, of position 0, at 0x3fe000, known by 0x400000
 unfoldable pub firstWord : (ℕ → ℕ) → ℕ → ℕ
-firstWord row n = pack (13 ∷ 10 ∷ []) (0 ∷ slot row n 0 ∷ [])
+firstWord row n = pack (13 ∷ 10 ∷ []) (0 ∷ valueSlot row n 0 ∷ [])
 
 -- data[2] to data[6]: three each, from position p on. 002's order, channel 1's and channel 2's in turn, is that of the
 -- positions.
 unfoldable pub tripleWord : (ℕ → ℕ) → ℕ → ℕ → ℕ
-tripleWord row n p = pack (10 ∷ 10 ∷ 10 ∷ []) (slot row n p ∷ slot row n (p + 1) ∷ slot row n (p + 2) ∷ [])
+tripleWord row n p = pack (10 ∷ 10 ∷ 10 ∷ []) (valueSlot row n p ∷ valueSlot row n (p + 1) ∷ valueSlot row n (p + 2) ∷ [])
 
 -- data[7]: CRC2 0xf and Tail2 0x3f0, which 160 and 320 MHz have
 unfoldable pub secondWord : ℕ → ℕ → ℕ

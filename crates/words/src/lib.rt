@@ -5,7 +5,7 @@ ghost use mathlib.Core.List.{_++_};
 ghost use Prim.Native.Nat.{_+_, _*_, _≤_, _<_};
 ghost use lib.ListN.{length, drop};
 ghost use Rattle.answer.specs.Lists.{at};
-ghost use Rattle.words.specs.Words.{known, sizeOf, giOf, overflowWord, slot, firstWord, tripleWord, secondWord, header, userWord};
+ghost use Rattle.words.specs.Words.{known, ltfSizeOf, giOf, overflowWord, valueSlot, firstWord, tripleWord, secondWord, header, userWord};
 ghost use Rattle.words.specs.Engine.{giLtf, overflowOf, valueOf, fieldIn, userField};
 
 // ---- from the parts of a frame to words
@@ -18,7 +18,7 @@ fn known_word(bw: u32) -> u32
 
 fn size_of(g: u32) -> u32
     requires { ⌜ g < 4 ⌝ }
-    ensures { λ r. ⌜ (r < 4) × (r ≡ sizeOf g) ⌝ }
+    ensures { λ r. ⌜ (r < 4) × (r ≡ ltfSizeOf g) ⌝ }
 {
     2 + g / 2
 }
@@ -47,7 +47,7 @@ fn overflow_word(v: u32, t: u32) -> u32
 
 // An RU Allocation and its known bit.
 fn slot_of(row: &[u16], p: usize) -> u32
-    ensures { λ r. ⌜ (r < 1024) × (r ≡ slot (at (now (row .entry))) (length (now (row .entry))) p) ⌝ }
+    ensures { λ r. ⌜ (r < 1024) × (r ≡ valueSlot (at (now (row .entry))) (length (now (row .entry))) p) ⌝ }
 {
     if p < row.len() {
         row[p] as u32 % 512 + 512

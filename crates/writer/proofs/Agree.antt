@@ -4,7 +4,7 @@ use lib.ListN.{length}
 use denote.Ref.{now}
 use Rattle.answer.proofs.Order.{after-answered}
 use Rattle.candidate.specs.Engine.{needed, candidate}
-use Rattle.writer.specs.Result.{writeOutcome, front, answerOf, channelAfter}
+use Rattle.writer.specs.Result.{writeOutcome, front, writeAnswer, channelAfter}
 use Rattle.writer.proofs.write.Reads as write
 
 -- any two answers, and any two states of both lent channels afterwards, that `write` allows for one input
@@ -15,7 +15,7 @@ write-agrees κs a r r' s s' p q = (p .0 ∙ sym (q .0), p .1 .0 ∙ sym (q .1 .
 -- "Every refusal writes nothing": with any number but 0 both lent channels are as they were
 pub write-keeps : (κs : _) (a : _) (r : _) (s : _) → write.Post κs a r s → (r .number ≡ 0 → ⊥)
     → (now (s .1 .1 .0) ≡ now (a .1 .1 .0)) × (now (s .1 .1 .1 .0) ≡ now (a .1 .1 .1 .0))
-unfolding answerOf channelAfter
+unfolding writeAnswer channelAfter
 write-keeps κs a r s p n =
     let bw = a .0 in
     let w = now (a .1 .0) in

@@ -27,10 +27,10 @@ use Rattle.faults.proofs.Passing.{CommonRight, wrongCommon-pass, overflowDiffer
 use Rattle.answer.specs.Lists.{at}
 use Rattle.words.specs.Engine.{valueOf, userField}
 use Rattle.halves.specs.Table.{check1, check4, check5, check10, checks11, outcome11}
-use Rattle.frame.specs.Words.{wordsOf}
-use Rattle.frame.proofs.Determine.{overflow-back, value-back, user-back-1, user-back-2, value-1, value-2}
+use Rattle.frame_words.specs.Words.{wordsOf}
+use Rattle.frame_words.proofs.Determine.{overflow-back, value-back, user-back-1, user-back-2, value-1, value-2}
 use Rattle.reader.specs.Padding.{Agree, Nine}
-use Rattle.reader.proofs.Padding.{readable-same, words-same}
+use Rattle.reader.proofs.Padding.{outcome11-same, words-same}
 use Rattle.candidate.specs.Engine.{overflowIn, valueIn, countIn, firstIn, fieldIn, needed, candidate}
 use Rattle.candidate.specs.Length.{bytesFor}
 use Rattle.candidate.proofs.Contents.{determined}
@@ -185,7 +185,7 @@ module _ (bw : ℕ) (a b : List ℕ) (e : outcome11 bw a b ≡ Pass) where
 
   -- so the candidate is accepted with the same words
   pub candidate-accepted : outcome11 bw (candidate bw w 1) (candidate bw w 2) ≡ Pass
-  candidate-accepted = sym (readable-same nine candidate-agrees) ∙ e
+  candidate-accepted = sym (outcome11-same nine candidate-agrees) ∙ e
 
   pub candidate-words : wordsOf bw (candidate bw w 1) (candidate bw w 2) ≡ w
   candidate-words = sym (words-same nine candidate-agrees)

@@ -17,11 +17,11 @@ use Rattle.channel.specs.Layout.{present}
 use Rattle.halves.specs.Table.{check1}
 use Rattle.candidate.specs.Engine.{needed, candidate}
 use Rattle.writer.specs.Worked.{someRead}
-use Rattle.writer.specs.Result.{check13, noChannelRoom, check14, writeOutcome, answerOf, writeNumbers, writeChecks}
+use Rattle.writer.specs.Result.{check13, noChannelRoom, check14, writeOutcome, writeAnswer, writeNumbers, writeChecks}
 
-pub writing-rows : (bw : ℕ) (w : List ℕ) (n m : ℕ) → firstOf (writeChecks bw w n m) ≡ writeOutcome bw w n m
+pub writeChecks-first : (bw : ℕ) (w : List ℕ) (n m : ℕ) → firstOf (writeChecks bw w n m) ≡ writeOutcome bw w n m
 unfolding writeOutcome
-writing-rows bw w n m = first-chain (check1 bw) (check13 bw w ∷ check14 bw w n m ∷ [])
+writeChecks-first bw w n m = first-chain (check1 bw) (check13 bw w ∷ check14 bw w n m ∷ [])
 
 module _ (bw : ℕ) (w : List ℕ) (n m : ℕ) where
   pub only-1 : Only 1 (check1 bw)
@@ -44,27 +44,27 @@ module _ (bw : ℕ) (w : List ℕ) (n m : ℕ) where
   unfolding distinct absent
   numbers-distinct = refl
 
-  answer-rows : answerAt (firstOf (writeChecks bw w n m)) (needed bw w) ≡ answerOf bw w n m
-  unfolding answerOf
-  answer-rows = ap (λ (o : Outcome). answerAt o (needed bw w)) (writing-rows bw w n m)
+  answer-rows : answerAt (firstOf (writeChecks bw w n m)) (needed bw w) ≡ writeAnswer bw w n m
+  unfolding writeAnswer
+  answer-rows = ap (λ (o : Outcome). answerAt o (needed bw w)) (writeChecks-first bw w n m)
 
   -- number 0 exactly when none of the writeChecks applies
-  pub accepted-exactly : answerOf bw w n m .number ≡ 0 → writeOutcome bw w n m ≡ Pass
+  pub accepted-exactly : writeAnswer bw w n m .number ≡ 0 → writeOutcome bw w n m ≡ Pass
   accepted-exactly e =
-      sym (writing-rows bw w n m)
+      sym (writeChecks-first bw w n m)
       ∙ zero-pass rows-give numbers-distinct (needed bw w) (ap (λ (x : Answer). x .number) answer-rows ∙ e)
 
   -- each other number exactly when its row applies and none before it; channel and place are then that row's
-  pub refused-exactly : (k : ℕ) → k < 3 → answerOf bw w n m .number ≡ getD writeNumbers k 0 → Applies (writeChecks bw w n m) k (answerOf bw w n m)
+  pub refused-exactly : (k : ℕ) → k < 3 → writeAnswer bw w n m .number ≡ getD writeNumbers k 0 → Applies (writeChecks bw w n m) k (writeAnswer bw w n m)
   refused-exactly k l e =
       rw answer-rows at
       (number-applies rows-give numbers-distinct (needed bw w) k l (ap (λ (x : Answer). x .number) answer-rows ∙ e))
 
-  pub applies-exactly : (k : ℕ) (x : Answer) → Applies (writeChecks bw w n m) k x → (answerOf bw w n m ≡ x) × (x .number ≡ getD writeNumbers k 0)
+  pub applies-exactly : (k : ℕ) (x : Answer) → Applies (writeChecks bw w n m) k x → (writeAnswer bw w n m ≡ x) × (x .number ≡ getD writeNumbers k 0)
   applies-exactly k x a =
       let r = applies-number rows-give numbers-distinct (needed bw w) k x a in
       (sym answer-rows ∙ r .0, r .1)
 
   -- so the answer is one by these writeChecks
-  pub write-judged : Judged writeNumbers (writeChecks bw w n m) (needed bw w) (answerOf bw w n m)
+  pub write-judged : Judged writeNumbers (writeChecks bw w n m) (needed bw w) (writeAnswer bw w n m)
   write-judged = rw answer-rows at (judged rows-give numbers-distinct (needed bw w))

@@ -22,8 +22,8 @@ use Rattle.bits.specs.Bits.{Small}
 use Rattle.channel.specs.Layout.{present, count}
 use Rattle.channel.proofs.Laws.{present-1}
 use Rattle.halves.specs.Table.{check1}
-use Rattle.frame.specs.Words.{wordCount, SameFrame}
-use Rattle.frame.proofs.Determine.{words-length, words-determine}
+use Rattle.frame_words.specs.Words.{wordCount, SameFrame}
+use Rattle.frame_words.proofs.Determine.{words-length, words-determine}
 use Rattle.reader.specs.Result as R
 use Rattle.reader.proofs.read.Reads as read
 use Rattle.candidate.specs.Engine.{needed, candidate}
@@ -31,7 +31,7 @@ use Rattle.candidate.specs.Length.{bytesFor}
 use Rattle.candidate.proofs.Held.{present-length}
 use Rattle.writer.specs.Engine.{readsTo}
 use Rattle.writer.specs.Worked.{ReadsTo, someRead}
-use Rattle.writer.specs.Result.{check13, writeOutcome, writeChecks, answerOf}
+use Rattle.writer.specs.Result.{check13, writeOutcome, writeChecks, writeAnswer}
 use Rattle.writer.proofs.Candidate.{reads-to-says, says-reads-to, candidate-reads, accepted-known}
 use Rattle.writer.proofs.Worked.{candidate-small}
 use Rattle.writer.proofs.Exactly as W
@@ -84,7 +84,7 @@ pub read-after-write : (κs : _) (a : _) (r : _) (s : _) (κs' : _) (a' : _) (r'
     → now (a' .1 .1 .0) ≡ take (cond (present (a .0) 2) (r .place) 0) (now (s .1 .1 .1 .0))
     → length (now (a .1 .0)) ≤ length (now (a' .1 .1 .1 .0))
     → (r' ≡ A.no 0 0 (length (now (a .1 .0)))) × (take (length (now (a .1 .0))) (now (s' .1 .1 .1 .0)) ≡ now (a .1 .0))
-unfolding answerOf
+unfolding writeAnswer
 read-after-write κs a r s κs' a' r' s' p q z eb e1 e2 l =
     let bw = a .0 in
     let w = now (a .1 .0) in

@@ -11,18 +11,18 @@ use Rattle.answer.specs.declared.Answer.{Answer}
 use Rattle.answer.specs.declared.Outcome.the-variants.{Pass}
 use Rattle.answer.proofs.Order.{pass-left, or-pass, if-pass}
 use Rattle.halves.specs.Table.{outcome11}
-use Rattle.frame.specs.Words.{wordCount, wordsOf}
-use Rattle.frame.proofs.Determine.{words-length}
+use Rattle.frame_words.specs.Words.{wordCount, wordsOf}
+use Rattle.frame_words.proofs.Determine.{words-length}
 use Rattle.reader.specs.Table.{check12, noRoom, readOutcome}
 use Rattle.reader.specs.Result as R
-use Rattle.reader.proofs.Stages.{reading-stages}
+use Rattle.reader.proofs.Stages.{readOutcome-stages}
 use Rattle.reader.proofs.Exactly as E
-use Rattle.writer.specs.Result.{answerOf}
+use Rattle.writer.specs.Result.{writeAnswer}
 use Rattle.writer.specs.Worked.{ReadsTo}
 use Rattle.writer.specs.Inverse.{Accepts}
 
-pub read-place : (bw : ℕ) (a b : List ℕ) (room : ℕ) → readOutcome bw a b room ≡ Pass → R.answerOf bw a b room ≡ A.no 0 0 (wordCount bw a b)
-unfolding R.answerOf
+pub read-place : (bw : ℕ) (a b : List ℕ) (room : ℕ) → readOutcome bw a b room ≡ Pass → R.readAnswer bw a b room ≡ A.no 0 0 (wordCount bw a b)
+unfolding R.readAnswer
 read-place bw a b room e = rw e
 
 pub read-words : (bw : ℕ) (a b w₀ : List ℕ) → readOutcome bw a b (length w₀) ≡ Pass → take (wordCount bw a b) (R.wordsAfter bw a b w₀) ≡ wordsOf bw a b
@@ -34,7 +34,7 @@ accepts-reads bw a b w₀ w h =
     let e = E.accepted-exactly bw a b (length w₀) (h .number-0) in
     let f : readOutcome bw a b (length w₀) ≡ Pass = e in
     record {
-      accepted = pass-left (outcome11 bw a b) (check12 bw a b (length w₀)) (sym (reading-stages bw a b (length w₀)) ∙ f);
+      accepted = pass-left (outcome11 bw a b) (check12 bw a b (length w₀)) (sym (readOutcome-stages bw a b (length w₀)) ∙ f);
       the-words =
           sym (read-words bw a b w₀ f)
           ∙ ap (λ (x : Answer). take (x .place) (R.wordsAfter bw a b w₀)) (sym (read-place bw a b (length w₀) f))
@@ -44,7 +44,7 @@ accepts-reads bw a b w₀ w h =
 pub reads-pass : (bw : ℕ) (a b w : List ℕ) (room : ℕ) → ReadsTo bw a b w → length w ≤ room → readOutcome bw a b room ≡ Pass
 unfolding check12 noRoom
 reads-pass bw a b w room h l =
-    reading-stages bw a b room
+    readOutcome-stages bw a b room
     ∙ or-pass (outcome11 bw a b) (check12 bw a b room) (h .accepted)
     (if-pass _ _ (le-ltb room (wordCount bw a b) (omega (arith, words-length bw a b, ap length (h .the-words)))))
 

@@ -16,7 +16,7 @@ use Rattle.faults.proofs.Passing.{pass-wrongCommon, pass-wrongUsers}
 use Rattle.faults.proofs.Padding.{present-count}
 use Rattle.halves.specs.Table.{check4, check10}
 use Rattle.halves.specs.Engine.{Sealed}
-use Rattle.frame.specs.Words.{positionOf}
+use Rattle.frame_words.specs.Words.{positionIn}
 use Rattle.candidate.specs.Engine.{valueIn, countIn, candidate}
 use Rattle.candidate.proofs.Held.{Holds, all-subfields, candidate-carries, holds-1, holds-2}
 use Rattle.candidate.proofs.Steps.{value-of-lt}
@@ -33,7 +33,7 @@ module _ (bw : ℕ) (w : List ℕ) (c : ℕ) (h : present bw c ≡ true → Hold
       (λ k l.
       ap fieldsOf
       (candidate-carries bw w c (h p) .the-value k (rw (all-subfields bw w c (h p)) at l)
-      ∙ mod-eq-of-lt (value-of-lt w (positionOf c k))))
+      ∙ mod-eq-of-lt (value-of-lt w (positionIn c k))))
 
   pass-4 : wrongCommon bw c s ≡ Pass
   pass-4 = pass-wrongCommon bw c s (λ p. candidate-carries bw w c (h p) .common-right)

@@ -19,8 +19,8 @@ use Rattle.answer.proofs.Lists.{build-is}
 use Rattle.channel.specs.Layout.{present}
 use Rattle.channel.proofs.Laws.{present-1}
 use Rattle.halves.specs.Table.{check1, outcome11}
-use Rattle.frame.specs.Words.{wordCount, wordsOf}
-use Rattle.frame.proofs.Determine.{words-length}
+use Rattle.frame_words.specs.Words.{wordCount, wordsOf}
+use Rattle.frame_words.proofs.Determine.{words-length}
 use Rattle.candidate.specs.Engine.{countIn, needed, bytesIn, channelIn, candidate}
 use Rattle.candidate.specs.Length.{bytesFor}
 use Rattle.candidate.proofs.Held.{present-length, absent-length}

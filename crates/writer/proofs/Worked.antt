@@ -8,7 +8,7 @@ use lib.ListN.{length}
 use Rattle.bits.specs.Bits.{Small}
 use Rattle.plan.specs.Decides.{Decides}
 use Rattle.channel.specs.Layout.{present, count}
-use Rattle.frame.specs.Words.{wordsOf}
+use Rattle.frame_words.specs.Words.{wordsOf}
 use Rattle.candidate.specs.Engine.{countIn, channelIn, candidate}
 use Rattle.candidate.specs.Length.{bytesFor}
 use Rattle.candidate.proofs.Built.{sealed-small}

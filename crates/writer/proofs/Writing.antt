@@ -16,22 +16,22 @@ use Rattle.bits.specs.Bits.{bit, Same}
 use Rattle.channel.specs.Layout.{present, count, endOf}
 use Rattle.channel.proofs.Laws.{present-1}
 use Rattle.halves.specs.Table.{check1, outcome11}
-use Rattle.frame.specs.Words.{wordsOf}
+use Rattle.frame_words.specs.Words.{wordsOf}
 use Rattle.candidate.specs.Engine.{needed, candidate}
 use Rattle.candidate.specs.Length.{bytesFor}
 use Rattle.candidate.proofs.Held.{present-length, absent-length}
 use Rattle.writer.specs.Worked.{ReadsTo, someRead}
-use Rattle.writer.specs.Result.{check13, noChannelRoom, check14, writeOutcome, front, answerOf, channelAfter}
+use Rattle.writer.specs.Result.{check13, noChannelRoom, check14, writeOutcome, front, writeAnswer, channelAfter}
 use Rattle.writer.proofs.Candidate.{reads-to-says, says-reads-to, candidate-reads, accepted-known}
 use Rattle.writer.proofs.Candidate.{same-1, same-2, zero-1, zero-2, reach-1, reach-2, needed-of}
 use Rattle.writer.specs.Inverse.{Given, GivenBack}
 
 -- ---- writing, from its contract's equations
 
-writing-pass : (bw : ℕ) (w : List ℕ) (n m : ℕ) → bw ≤ 4 → ReadsTo bw (candidate bw w 1) (candidate bw w 2) w
+writeOutcome-pass : (bw : ℕ) (w : List ℕ) (n m : ℕ) → bw ≤ 4 → ReadsTo bw (candidate bw w 1) (candidate bw w 2) w
     → needed bw w ≤ n → (present bw 2 ≡ true → needed bw w ≤ m) → writeOutcome bw w n m ≡ Pass
 unfolding writeOutcome check1 check13 someRead check14 noChannelRoom
-writing-pass bw w n m l h p q =
+writeOutcome-pass bw w n m l h p q =
     or-pass _ _
     (or-pass _ _
     (if-pass _ _ (le-ltb 4 bw l))
@@ -93,16 +93,16 @@ module _ (bw : ℕ) (a b : List ℕ) (e : outcome11 bw a b ≡ Pass) where
 
   pub given-back : (x y x' y' : List ℕ) (r : Answer)
       → bytes ≤ length x → (present bw 2 ≡ true → bytes ≤ length y)
-      → r ≡ answerOf bw (wordsOf bw a b) (length x) (length y)
+      → r ≡ writeAnswer bw (wordsOf bw a b) (length x) (length y)
       → x' ≡ channelAfter bw (wordsOf bw a b) (length x) (length y) 1 x
       → y' ≡ channelAfter bw (wordsOf bw a b) (length x) (length y) 2 y
       → GivenBack bw a b x y x' y' r
-  unfolding answerOf
+  unfolding writeAnswer
   given-back x y x' y' r l m er ex ey =
       let w = wordsOf bw a b in
       let n : needed bw w ≡ bytes = needed-of bw a b e in
       let o : writeOutcome bw w (length x) (length y) ≡ Pass =
-      writing-pass bw w (length x) (length y) (accepted-known bw a b e)
+      writeOutcome-pass bw w (length x) (length y) (accepted-known bw a b e)
       (candidate-reads bw a b w (record { accepted = e; the-words = refl }))
       (rw n l) (λ p. rw n (m p)) in
       let z : r ≡ A.no 0 0 (needed bw w) = er ∙ rw o in

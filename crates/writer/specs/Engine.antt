@@ -10,7 +10,7 @@ use Rattle.answer.specs.Least.{least}
 use Rattle.answer.specs.Lists.{at}
 use Rattle.answer.specs.declared.Outcome.{Outcome}
 use Rattle.halves.specs.Table.{outcome11}
-use Rattle.frame.specs.Words.{wordsOf}
+use Rattle.frame_words.specs.Words.{wordsOf}
 
 -- whether two lists are the same: as long, and different nowhere
 unfoldable pub unlike : List ℕ → List ℕ → ℕ → Bool

@@ -10,14 +10,14 @@ use Rattle.bits.specs.Bits.{bit}
 use Rattle.channel.specs.Layout.{present, count, endOf}
 use Rattle.reader.specs.Result as R
 use Rattle.candidate.specs.Length.{bytesFor}
-use Rattle.writer.specs.Result.{answerOf}
+use Rattle.writer.specs.Result.{writeAnswer}
 
 -- ---- reading, from its contract's equations
 
 -- `read`, with room w₀, accepts a and b with exactly the words w
 pub record Accepts (bw : ℕ) (a b w₀ w : List ℕ) : Type 0 where
-  pub number-0 : R.answerOf bw a b (length w₀) .number ≡ 0
-  pub exactly : take (R.answerOf bw a b (length w₀) .place) (R.wordsAfter bw a b w₀) ≡ w
+  pub number-0 : R.readAnswer bw a b (length w₀) .number ≡ 0
+  pub exactly : take (R.readAnswer bw a b (length w₀) .place) (R.wordsAfter bw a b w₀) ≡ w
 
 -- ---- (a) write after read
 

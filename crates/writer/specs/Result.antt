@@ -28,8 +28,8 @@ unfoldable pub writeOutcome : ℕ → List ℕ → ℕ → ℕ → Outcome
 writeOutcome bw w n m = check1 bw or check13 bw w or check14 bw w n m
 
 -- "accepted, it returns 0, 0 and the bytes per channel"
-unfoldable pub answerOf : ℕ → List ℕ → ℕ → ℕ → Answer
-answerOf bw w n m = answerAt (writeOutcome bw w n m) (theBytes bw w)
+unfoldable pub writeAnswer : ℕ → List ℕ → ℕ → ℕ → Answer
+writeAnswer bw w n m = answerAt (writeOutcome bw w n m) (theBytes bw w)
 
 -- "Bytes past the count keep what they held": a lent channel d whose front is s
 unfoldable pub front : List ℕ → List ℕ → List ℕ

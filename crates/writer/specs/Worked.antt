@@ -10,7 +10,7 @@ use Rattle.bits.specs.Bits.{bit, Small, Same}
 use Rattle.plan.specs.Decides.{Decides}
 use Rattle.channel.specs.Layout.{present, count, endOf}
 use Rattle.halves.specs.Table.{outcome11}
-use Rattle.frame.specs.Words.{wordsOf}
+use Rattle.frame_words.specs.Words.{wordsOf}
 use Rattle.candidate.specs.Length.{bytesFor}
 use Rattle.candidate.specs.Engine.{needed, candidate}
 use Rattle.writer.specs.Engine.{readsTo}

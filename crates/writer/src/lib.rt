@@ -13,7 +13,7 @@ ghost use Rattle.halves.specs.Table.{check1};
 ghost use Rattle.halves.specs.Engine.{Sealed};
 ghost use Rattle.candidate.specs.Engine.{countIn, needed, bytesIn};
 ghost use Rattle.writer.specs.Engine.{unlike, sameWords, readsTo, notRead};
-ghost use Rattle.writer.specs.Result.{noChannelRoom, front, answerOf, channelAfter};
+ghost use Rattle.writer.specs.Result.{noChannelRoom, front, writeAnswer, channelAfter};
 
 // ---- whether the channels that were built read back
 
@@ -127,7 +127,7 @@ fn write_in(
 ) -> Answer
     requires { ⌜ (n ≤ 72) × (m ≤ 72) × (n ≡ countIn bw (now words) 1) × (m ≡ countIn bw (now words) 2) × (need ≡ needed bw (now words)) ⌝ }
     requires { ⌜ (now a ≡ replicate (bytesIn bw (now words) 1) 0) × (now b ≡ replicate (bytesIn bw (now words) 2) 0) ⌝ }
-    ensures { λ r. ⌜ r ≡ answerOf bw (now (words .entry)) (length (now (cc1 .entry))) (length (now (cc2 .entry))) ⌝ }
+    ensures { λ r. ⌜ r ≡ writeAnswer bw (now (words .entry)) (length (now (cc1 .entry))) (length (now (cc2 .entry))) ⌝ }
     ensures { λ _. ⌜ now (cc1 .exit) ≡ channelAfter bw (now (words .entry)) (length (now (cc1 .entry))) (length (now (cc2 .entry))) 1 (now (cc1 .entry)) ⌝ }
     ensures { λ _. ⌜ now (cc2 .exit) ≡ channelAfter bw (now (words .entry)) (length (now (cc1 .entry))) (length (now (cc2 .entry))) 2 (now (cc2 .entry)) ⌝ }
 {
@@ -149,7 +149,7 @@ fn write_in(
 // Writes both channels from the words: the answer, and on acceptance the bytes at the front of the lent buffers. A
 // refusal writes nothing.
 pub fn write(bandwidth: u32, words: &[u32], cc1: &mut [u8], cc2: &mut [u8]) -> Answer
-    ensures { λ r. ⌜ r ≡ answerOf bandwidth (now (words .entry)) (length (now (cc1 .entry))) (length (now (cc2 .entry))) ⌝ }
+    ensures { λ r. ⌜ r ≡ writeAnswer bandwidth (now (words .entry)) (length (now (cc1 .entry))) (length (now (cc2 .entry))) ⌝ }
     ensures { λ _. ⌜ now (cc1 .exit)
         ≡ channelAfter bandwidth (now (words .entry)) (length (now (cc1 .entry))) (length (now (cc2 .entry))) 1 (now (cc1 .entry)) ⌝ }
     ensures { λ _. ⌜ now (cc2 .exit)

@@ -1,6 +1,6 @@
 -- `brachymel::brachymel_write` meets its contract.
-use Rattle.writer.specs.Result.{answerOf, channelAfter}
-use Rattle.brachymel.specs.Bytes.{writeAnswer, writeChannel}
+use Rattle.writer.specs.Result.{writeAnswer, channelAfter}
+use Rattle.brachymel.specs.Bytes.{bytesWriteAnswer, writeChannel}
 use Rattle.brachymel.proofs.Early.{early-refuses, early-passes, few-words}
 use lib.ListN.{length}
 use Prim.Native.Nat.{_/_}
@@ -16,7 +16,7 @@ enum-known-early : tie.Need-enum-known-early
 enum-known-early c = search needs
 
 returns : tie.Need-returns
-unfolding writeAnswer writeChannel
+unfolding bytesWriteAnswer writeChannel
 returns c =
     let s = c .before .before .before .before .before .before .before .args in
     let f =
@@ -46,7 +46,7 @@ same-length-2 : tie.Need-same-length-2
 same-length-2 c = search needs
 
 returns-2 : tie.Need-returns-2
-unfolding writeAnswer writeChannel answerOf channelAfter
+unfolding bytesWriteAnswer writeChannel writeAnswer channelAfter
 returns-2 c =
     let refused-early = c .before .before .before .before .before .before .before .before .before .before .before .refused-early in
     let enum-told = c .before .before .before .before .before .before .before .before .before .enum-told in

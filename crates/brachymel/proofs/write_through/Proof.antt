@@ -1,5 +1,5 @@
 -- `brachymel::write_through` meets its contract.
-use Rattle.octets.specs.Octets.{wordAt}
+use Rattle.word_bytes.specs.Bytes.{wordAt}
 use Rattle.answer.specs.Lists.{build}
 use Rattle.answer.proofs.Lists.{filled-length, take-filled}
 use lib.Seq.{length-take-le}

@@ -1,5 +1,5 @@
 -- `candidate::bytes_for` meets its contract.
-use Rattle.candidate.specs.Length.{bytesFor, larger}
+use Rattle.candidate.specs.Length.{bytesFor, longer}
 use borrow.Author.Tests.{lt-ltb, le-ltb}
 use native.Mathlib.Omega.{arith}
 use borrow.Author.Needs.{needs}
@@ -19,14 +19,14 @@ add-result-2 : tie.Need-add-result-2
 add-result-2 c = search needs
 
 returns : tie.Need-returns
-unfolding bytesFor larger
+unfolding bytesFor longer
 returns c =
     let x = c .before .before .end-bit in
     let y = c .before .end-bit2 in
     (rw (← x .ensures .0, ← y .ensures .0, lt-ltb (x .result) (y .result) (c .if1 .taken)), omega arith)
 
 returns-2 : tie.Need-returns-2
-unfolding bytesFor larger
+unfolding bytesFor longer
 returns-2 c =
     let x = c .before .before .end-bit in
     let y = c .before .end-bit2 in

@@ -6,8 +6,8 @@ use borrow.Author.Needs.{needs}
 use Rattle.listing.proofs.list.Statement.{statement}
 use Rattle.listing.proofs.list.Tie as tie
 
-plan-readable-requires : tie.Need-plan-readable-requires
-plan-readable-requires c κs = search needs
+plan-accepted-requires : tie.Need-plan-accepted-requires
+plan-accepted-requires c κs = search needs
 
 enum-known-checked : tie.Need-enum-known-checked
 enum-known-checked c = search needs
@@ -16,27 +16,27 @@ returns : tie.Need-returns
 returns c =
     let s = c .before .before .before .before .before .before .before .args in
     refused-by (s .bandwidth) (s .cc1 .now) (s .cc2 .now) (s .out .now) _
-    (outcome _ _ _ (c .before .before .before .plan-readable .ensures) (c .before .checked .given .1))
+    (outcome _ _ _ (c .before .before .before .plan-accepted .ensures) (c .before .checked .given .1))
 
 enum-told : tie.Need-enum-told
 enum-told c = search needs
 
 positions-of-requires : tie.Need-positions-of-requires
-positions-of-requires c κs = code _ _ _ (c .before .before .before .before .plan-readable .ensures) (c .before .before .enum-told .given .1)
+positions-of-requires c κs = code _ _ _ (c .before .before .before .before .plan-accepted .ensures) (c .before .before .enum-told .given .1)
 
 array-share-prefix-row : tie.Need-array-share-prefix-row
 array-share-prefix-row c =
-    let l = row-16 _ _ _ (c .before .before .before .before .before .before .plan-readable .ensures) (c .before .before .before .before .enum-told .given .1) in
+    let l = row-16 _ _ _ (c .before .before .before .before .before .before .plan-accepted .ensures) (c .before .before .before .before .enum-told .given .1) in
     omega (arith, l, c .before .positions-of .ensures .1)
 
 slice-aggregate-list-given : tie.Need-slice-aggregate-list-given
 slice-aggregate-list-given c =
-    let e = c .before .before .before .before .before .before .before .plan-readable .ensures in
+    let e = c .before .before .before .before .before .before .before .plan-accepted .ensures in
     given-front _ _ _ e (c .before .before .before .before .before .enum-told .given .1) (c .before .before .positions-of .ensures .0)
 
 list-given-requires : tie.Need-list-given-requires
 list-given-requires c κs =
-    let e = c .before .before .before .before .before .before .before .before .plan-readable .ensures in
+    let e = c .before .before .before .before .before .before .before .before .plan-accepted .ensures in
     let f = c .before .before .before .before .before .before .enum-told .given .1 in
     (outcome _ _ _ e f, given _ _ _ e f (c .before .before .before .positions-of .ensures .0))
 
@@ -50,7 +50,7 @@ pub list-spec : {M : Type 1} → statement M
 list-spec =
     tie.close
     (tie.spec
-    plan-readable-requires
+    plan-accepted-requires
     enum-known-checked
     returns
     enum-told

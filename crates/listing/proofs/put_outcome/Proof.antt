@@ -6,8 +6,8 @@ use borrow.Author.Needs.{needs}
 use Rattle.listing.proofs.put_outcome.Statement.{statement}
 use Rattle.listing.proofs.put_outcome.Tie as tie
 
-plan-readable-requires : tie.Need-plan-readable-requires
-plan-readable-requires c κs = search needs
+plan-accepted-requires : tie.Need-plan-accepted-requires
+plan-accepted-requires c κs = search needs
 
 enum-known-checked : tie.Need-enum-known-checked
 enum-known-checked c = search needs
@@ -22,27 +22,27 @@ returns : tie.Need-returns
 unfolding frameText
 returns c =
     let refused = c .before .before .before .before .before in
-    rw (outcome _ _ _ (refused .before .before .plan-readable .ensures) (refused .checked .given .1)) (c .before .before .put-refusal .ensures .0)
+    rw (outcome _ _ _ (refused .before .before .plan-accepted .ensures) (refused .checked .given .1)) (c .before .before .put-refusal .ensures .0)
 
 enum-told : tie.Need-enum-told
 enum-told c = search needs
 
 positions-of-requires : tie.Need-positions-of-requires
-positions-of-requires c κs = code _ _ _ (c .before .before .before .before .plan-readable .ensures) (c .before .before .enum-told .given .1)
+positions-of-requires c κs = code _ _ _ (c .before .before .before .before .plan-accepted .ensures) (c .before .before .enum-told .given .1)
 
 array-share-prefix-row : tie.Need-array-share-prefix-row
 array-share-prefix-row c =
-    let l = row-16 _ _ _ (c .before .before .before .before .before .before .plan-readable .ensures) (c .before .before .before .before .enum-told .given .1) in
+    let l = row-16 _ _ _ (c .before .before .before .before .before .before .plan-accepted .ensures) (c .before .before .before .before .enum-told .given .1) in
     omega (arith, l, c .before .positions-of .ensures .1)
 
 slice-aggregate-put-listing : tie.Need-slice-aggregate-put-listing
 slice-aggregate-put-listing c =
-    let e = c .before .before .before .before .before .before .before .plan-readable .ensures in
+    let e = c .before .before .before .before .before .before .before .plan-accepted .ensures in
     given-front _ _ _ e (c .before .before .before .before .before .enum-told .given .1) (c .before .before .positions-of .ensures .0)
 
 put-listing-requires : tie.Need-put-listing-requires
 put-listing-requires c κs =
-    let e = c .before .before .before .before .before .before .before .before .plan-readable .ensures in
+    let e = c .before .before .before .before .before .before .before .before .plan-accepted .ensures in
     let f = c .before .before .before .before .before .before .enum-told .given .1 in
     (outcome _ _ _ e f, given _ _ _ e f (c .before .before .before .positions-of .ensures .0))
 
@@ -53,13 +53,13 @@ returns-2 : tie.Need-returns-2
 unfolding frameText
 returns-2 c =
     let passed = c .before .before .before .before .before .before .before .before .before in
-    rw (outcome _ _ _ (passed .before .before .plan-readable .ensures) (passed .enum-told .given .1)) (c .before .before .put-listing .ensures)
+    rw (outcome _ _ _ (passed .before .before .plan-accepted .ensures) (passed .enum-told .given .1)) (c .before .before .put-listing .ensures)
 
 pub put-outcome-spec : {M : Type 1} → statement M
 put-outcome-spec =
     tie.close
     (tie.spec
-    plan-readable-requires
+    plan-accepted-requires
     enum-known-checked
     put-refusal-requires
     same-length

@@ -1,5 +1,5 @@
 -- `plan::plan_of` meets its contract.
-use Rattle.plan.proofs.Value.{out-is, plan-is}
+use Rattle.plan.proofs.Value.{outcome-made, plan-is}
 use Rattle.plan.proofs.Laid.{outcome-laid}
 use Rattle.plan.specs.Engine.{sharedTo}
 use Rattle.plan.specs.Answers.{Laid}
@@ -40,7 +40,7 @@ returns c =
     let s = c .before .before .before .before .before .before .before .sharing .ensures in
     let seven = c .before .before .before .before .before .before .refuse-if .ensures in
     let eight = c .before .before .before .refuse-if2 .ensures in
-    let o = out-is row _ _ _ _ _ wrong (s .0) seven eight (c .before .before .or-else .ensures) in (
+    let o = outcome-made row _ _ _ _ _ wrong (s .0) seven eight (c .before .before .or-else .ensures) in (
       plan-is row _ _ _ _ _ o kinds (s .1 ∙ ap (sharedTo row) (s .0)) (c .before .channel-fields .ensures) (c .channel-fields2 .ensures),
       subst (Laid row) (sym o) (outcome-laid row),
     )

@@ -6,7 +6,7 @@ use Rattle.plan.specs.Engine.{onlyPlan, overAt, firstOver, sharedTo}
 use borrow.Author.Tests.{lt-ltb, le-ltb}
 use mathlib.Core.Path.{ap, _≡_, refl, sym, _∙_}
 use lib.ListN.{length}
-use Rattle.plan.specs.Fields.{total}
+use Rattle.plan.specs.Fields.{together}
 use Rattle.answer.specs.Lists.{at}
 use Rattle.answer.specs.Least.{least}
 use Rattle.answer.proofs.Least.{least-start, least-step, least-stop, least-end}
@@ -17,7 +17,7 @@ use Rattle.plan.proofs.sharing.Tie as tie
 
 abbrev Inv-loop : tie.InvT-loop
 Inv-loop kinds row n shared₀ before₀ t₀ p₀ shared before t p =
-    (p ≤ n) × (least (overAt row) p ≡ p) × (shared ≡ sharedTo row p) × (0 < p → t ≡ total before (at row) (p - 1))
+    (p ≤ n) × (least (overAt row) p ≡ p) × (shared ≡ sharedTo row p) × (0 < p → t ≡ together before (at row) (p - 1))
 
 abbrev μ-loop : tie.MeasureT-loop
 μ-loop kinds row n shared₀ before₀ t₀ p₀ shared before t p = n - p
@@ -68,7 +68,7 @@ loop-again c =
     let l = c .before .before .before .before .before .loop in
     let k = c .before .before .before .kind-at in
     let t = c .before .before .total-from in
-    let e : t .result ≡ total (onlyPlan (at row) (l .p)) (at row) (l .p) = t .ensures ∙ ap (λ (x : ℕ). total x (at row) (l .p)) (k .ensures .1) in
+    let e : t .result ≡ together (onlyPlan (at row) (l .p)) (at row) (l .p) = t .ensures ∙ ap (λ (x : ℕ). together x (at row) (l .p)) (k .ensures .1) in
     let d : l .p + 1 - 1 ≡ l .p = omega arith in (
       omega arith,
       least-step (overAt row) (l .p) (l .inv .1) (over-at row (l .p) (k .result) (t .result) (k .ensures .1) (t .ensures) ∙ le-ltb 8 (t .result) (omega arith)),

@@ -2,7 +2,7 @@
 use mathlib.Core.Path.{_∙_}
 use Rattle.answer.proofs.Order.{pass-or}
 use Rattle.halves.specs.Engine.{outcome9to11}
-use Rattle.frame.proofs.Counted.{counted}
+use Rattle.frame_words.proofs.Counted.{counted}
 use Rattle.reader.specs.Table.{check12}
 use borrow.Author.Needs.{needs}
 use Rattle.reader.proofs.check_users.Statement.{statement}

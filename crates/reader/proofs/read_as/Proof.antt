@@ -9,11 +9,11 @@ use Rattle.channel.proofs.Laws.{row-length}
 use Rattle.halves.proofs.Stages.{common-pass}
 use Rattle.halves.proofs.Rows.{front, sixteen}
 use Rattle.halves.proofs.Half.{Made, planned-made}
-use Rattle.frame.specs.Words.{wordsOf}
-use Rattle.frame.proofs.Counted.{counted}
+use Rattle.frame_words.specs.Words.{wordsOf}
+use Rattle.frame_words.proofs.Counted.{counted}
 use Rattle.reader.specs.Table.{readOutcome}
-use Rattle.reader.specs.Result.{answerOf, wordsAfter}
-use Rattle.reader.proofs.Stages.{reading-pass}
+use Rattle.reader.specs.Result.{readAnswer, wordsAfter}
+use Rattle.reader.proofs.Stages.{readOutcome-pass}
 use Rattle.reader.proofs.Halves.{first-refuses, second-says, formats}
 use borrow.Author.Needs.{needs}
 use Rattle.reader.proofs.read_as.Statement.{statement}
@@ -26,7 +26,7 @@ enum-known-planned : tie.Need-enum-known-planned
 enum-known-planned c = search needs
 
 returns : tie.Need-returns
-unfolding answerOf wordsAfter
+unfolding readAnswer wordsAfter
 returns c =
     let s = c .before .before .before .before .before .before .before .args in
     let e =
@@ -85,7 +85,7 @@ enum-known-outcome : tie.Need-enum-known-outcome
 enum-known-outcome c = search needs
 
 returns-2 : tie.Need-returns-2
-unfolding answerOf wordsAfter
+unfolding readAnswer wordsAfter
 returns-2 c =
     let plan-frame = c .before .before .before .before .before .before .plan-frame in
     let s = c .before .before .before .before .before .before .before .before .before .before .args in
@@ -119,7 +119,7 @@ put-frame-requires c κs =
     let s = c .before .before .before .before .before .before .before .before .before .before .before .before .before .args in
     let m = made (c .before .before .before .before .before .before .before) in
     let f = row-is (c .before .before) in (
-      reading-pass (s .bandwidth) (s .cc1 .now) (s .cc2 .now) (length (s .words .now)) (read-passes (c .before .before .before .before)) .room-enough,
+      readOutcome-pass (s .bandwidth) (s .cc1 .now) (s .cc2 .now) (length (s .words .now)) (read-passes (c .before .before .before .before)) .room-enough,
       known (c .before .before .before .before .before .before .before),
       f,
       formats (s .bandwidth) (s .cc1 .now) (s .cc2 .now) _ m f,
@@ -141,7 +141,7 @@ same-length : tie.Need-same-length
 same-length c = search needs
 
 returns-3 : tie.Need-returns-3
-unfolding answerOf wordsAfter wordsOf
+unfolding readAnswer wordsAfter wordsOf
 returns-3 c =
     let s = c .before .before .before .before .before .before .before .before .before .before .before .before .before .before .before .before .args in
     let m = made (c .before .before .before .before .before .before .before .before .before .before) in

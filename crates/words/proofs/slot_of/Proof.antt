@@ -1,7 +1,7 @@
 -- `words::slot_of` meets its contract.
 use borrow.Author.Tests.{lt-ltb, le-ltb}
 use lib.ListN.{length}
-use Rattle.words.specs.Words.{slot}
+use Rattle.words.specs.Words.{valueSlot}
 use native.Mathlib.Omega.{arith}
 use borrow.Author.Needs.{needs}
 use Rattle.words.proofs.slot_of.Statement.{statement}
@@ -20,13 +20,13 @@ add-result : tie.Need-add-result
 add-result c = search needs
 
 returns : tie.Need-returns
-unfolding slot
+unfolding valueSlot
 returns c =
     let a = c .before .before .args in
     (omega arith, rw (lt-ltb (a .p) (length (a .row .now)) (omega arith)))
 
 returns-2 : tie.Need-returns-2
-unfolding slot
+unfolding valueSlot
 returns-2 c =
     let a = c .before .args in
     (omega arith, rw (le-ltb (a .p) (length (a .row .now)) (omega arith)))

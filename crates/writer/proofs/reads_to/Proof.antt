@@ -4,7 +4,7 @@ use mathlib.Core.Path.{refl, sym, _∙_, ap}
 use native.Mathlib.Omega.{arith}
 use lib.ListN.{length, replicate}
 use Rattle.answer.specs.declared.Answer.{Answer}
-use Rattle.frame.proofs.Determine.{words-length}
+use Rattle.frame_words.proofs.Determine.{words-length}
 use Rattle.writer.proofs.Steps.{reads-yes, words-front}
 use Rattle.writer.proofs.Back.{back-refused, back-accepted, back-count, back-words, back-room}
 use Rattle.writer.proofs.reads_to.Statement.{statement}

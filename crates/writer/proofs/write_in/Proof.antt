@@ -1,7 +1,7 @@
 -- `writer::write_in` meets its contract.
 use Rattle.writer.proofs.Steps.{candidate-is, writing-is, writing-room}
 use Rattle.writer.proofs.Sealed.{candidate-sealed}
-use Rattle.writer.specs.Result.{writeOutcome, front, answerOf, channelAfter}
+use Rattle.writer.specs.Result.{writeOutcome, front, writeAnswer, channelAfter}
 use Rattle.candidate.specs.Engine.{firstIn, candidate}
 use lib.ListN.{length}
 use mathlib.Core.List.{List}
@@ -69,7 +69,7 @@ same-length-2 : tie.Need-same-length-2
 same-length-2 c = search needs
 
 returns : tie.Need-returns
-unfolding answerOf channelAfter
+unfolding writeAnswer channelAfter
 returns c =
     let e = judged (c .before .before .before) ∙ c .before .outcome .given .1 in
     (rw e, (rw e, rw e))
@@ -106,7 +106,7 @@ same-length-6 : tie.Need-same-length-6
 same-length-6 c = search needs
 
 returns-2 : tie.Need-returns-2
-unfolding answerOf channelAfter
+unfolding writeAnswer channelAfter
 returns-2 c =
     let mid = c .before .before .before .before .before .before .before .before .before .before .before .before in
     let s = mid .before .before .before .before .before .before .before .before .before .before .before .before .before .before .before .before in

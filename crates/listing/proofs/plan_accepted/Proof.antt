@@ -1,0 +1,39 @@
+-- `listing::plan_accepted` meets its contract.
+use mathlib.Core.Bool.{false≢true}
+use Rattle.halves.proofs.Stages.{common-pass}
+use Rattle.halves.proofs.Half.{planned-made}
+use Rattle.listing.proofs.Halves.{stopped, both}
+use borrow.Author.Needs.{needs}
+use Rattle.listing.proofs.plan_accepted.Statement.{statement}
+use Rattle.listing.proofs.plan_accepted.Tie as tie
+
+plan-frame-requires : tie.Need-plan-frame-requires
+plan-frame-requires c κs = λ e. absurd (false≢true e)
+
+enum-told : tie.Need-enum-told
+enum-told c = search needs
+
+returns : tie.Need-returns
+returns c =
+    let s = c .before .before .before .before .before .args in
+    stopped (s .bw) (s .a .now) (s .b .now) _ _ (c .before .before .plan-frame .ensures) (c .enum-told .given .1)
+
+enum-told-2 : tie.Need-enum-told-2
+enum-told-2 c = search needs
+
+then-users-requires : tie.Need-then-users-requires
+then-users-requires c κs =
+    let s = c .before .before .before .before .before .args in
+    let m = planned-made (s .bw) (s .a .now) (s .b .now) _ (c .before .before .plan-frame .ensures) (c .enum-told2 .given .1) in
+    (λ e. absurd (false≢true e), common-pass (s .bw) (s .a .now) (s .b .now) (m .common) .short, m .most1, m .most2, m .count1, m .count2)
+
+returns-2 : tie.Need-returns-2
+returns-2 c =
+    let s = c .before .before .before .before .before .before .before .before .args in
+    let e = c .before .before .before .before .before .plan-frame .ensures in
+    both (s .bw) (s .a .now) (s .b .now) _ _ e (c .before .before .before .enum-told2 .given .1) (c .before .before .then-users .ensures)
+
+pub plan-accepted-spec : {M : Type 1} → statement M
+plan-accepted-spec =
+    tie.close
+    (tie.spec plan-frame-requires enum-told returns enum-told-2 then-users-requires returns-2)
