@@ -32,7 +32,8 @@ module _ (bw : ℕ) (a b : List ℕ) where
   accepted-exactly room = zero-pass (table-gives room) numbers-distinct (wordCount bw a b)
 
   -- .. and number k + 1 exactly when check k + 1 does and none before it; the channel and place are then that check's
-  pub refused-exactly : (room k : ℕ) → k < 12 → readAnswer bw a b room .number ≡ getD readNumbers k 0 → Applies (readChecks bw a b room) k (readAnswer bw a b room)
+  pub refused-exactly : (room k : ℕ) → k < 12 → readAnswer bw a b room .number ≡ getD readNumbers k 0
+      → Applies (readChecks bw a b room) k (readAnswer bw a b room)
   unfolding readAnswer readOutcome
   refused-exactly room k l = number-applies (table-gives room) numbers-distinct (wordCount bw a b) k l
 
