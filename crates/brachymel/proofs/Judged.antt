@@ -1,4 +1,4 @@
--- The C entries' answers are by the same bytesChecks of 01's table, and a refusal writes nothing.
+-- The C entries' answers are by the same rows of 01's table, and a refusal writes nothing.
 use mathlib.Core.Path.{_≡_, refl, _∙_, ap}
 use mathlib.Core.Bool.{true, not}
 use mathlib.Core.List.{List, [], _∷_}

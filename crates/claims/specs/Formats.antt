@@ -1,7 +1,7 @@
 -- The format of each User word of a frame, by the resource that owns its field.
 --
 -- 01, "Bandwidth and channels": "A User field alone on its resource: .. Where the resource has two or more fields over both channels
--- fieldsOn: .."; "What comes back": "User words: known bits 0x3F, or 0x47 on a shared resource."
+-- together: .."; "What comes back": "User words: known bits 0x3F, or 0x47 on a shared resource."
 use mathlib.Core.Path.{_≡_}
 use mathlib.Core.Bool.{true, false}
 use mathlib.Core.List.{List}
@@ -17,7 +17,7 @@ use Rattle.records.specs.Owns.{Owns}
 use Rattle.channel.specs.Layout.{row, count, userAt}
 use Rattle.words.specs.Words.{userWord}
 
--- a resource's fields "over both channels fieldsOn"
+-- a resource's fields "over both channels together"
 abbrev pub fieldsOn : Record → ℕ
 fieldsOn x = x .fields1 + x .fields2
 

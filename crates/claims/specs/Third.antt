@@ -5,8 +5,8 @@
 -- plan no two resources share a subcarrier, none has one in a punctured 20 MHz, and each User field in either channel has exactly one
 -- resource."
 --
--- A plan is `plan`'s `Signals`; its resources are `records`' `recordsOf`; what 01 answers for its layout is `Laid`; what
--- `reader::read` answers to channels that carry the row is what its contract says, `read.Post`.
+-- A plan is `plan`'s `Signals`; its resources are `records`' `recordsOf`; what 01 answers for its layout is `Laid`; what `reader::read` answers to
+-- channels that carry the row is all that its contract allows, `Reads`.
 use mathlib.Core.Path.{_≡_}
 use mathlib.Core.Logic.{_≢_, _⊎_}
 use mathlib.Core.List.{List}

@@ -1,4 +1,4 @@
--- "22 is first of all and 23 last": a listing's answer is one by the listChecks 1 to 11 and 23.
+-- "22 is first of all and 23 last": a listing's answer is one by the rows 1 to 11 and 23.
 use mathlib.Core.Path.{_≡_, refl, _∙_, ap}
 use mathlib.Core.Bool.{true}
 use mathlib.Core.List.{List, [], _∷_}

@@ -188,7 +188,7 @@ abbrev pub above : ℤ → List Span → Bool
 above h [] = true
 above h (s ∷ ss) = ltZ (sucℤ h) (s .lo)
 
--- "Tones are maximal runs, rising": noSpan is empty, and each ends below the next, which it does not touch
+-- "Tones are maximal runs, rising": none is empty, and each ends below the next, which it does not touch
 abbrev pub rising : List Span → Bool
 rising [] = true
 rising (s ∷ ss) = leZ (s .lo) (s .hi) && above (s .hi) ss && rising ss

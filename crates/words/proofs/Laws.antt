@@ -136,7 +136,7 @@ slot-known row n p = go (ltb p n)
     go true = omega (arith, mod-lt (row p) {m = 2 ^ 9} (omega arith))
     go false = refl
 
--- the j-th valueSlot of a word of three
+-- the j-th slot of a word of three
 triple-slot : (row : ℕ → ℕ) (n q j : ℕ) → j < 3 → tripleWord row n q / 2 ^ (10 * j) % 2 ^ 10 ≡ valueSlot row n (q + j)
 unfolding tripleWord
 triple-slot row n q j l = go j l
@@ -165,7 +165,7 @@ module _ (bw v t t₂ : ℕ) (row : ℕ → ℕ) (n : ℕ) (rest : List ℕ) whe
   nth-triple (suc (suc (suc (suc zero)))) l = refl
   nth-triple (suc (suc (suc (suc (suc k))))) l = absurd (omega arith)
 
-  -- the ten bits of a position's valueSlot
+  -- the ten bits of a position's slot
   first-slot : at (header bw v t t₂ row n ++ rest) 2 / 2 ^ 13 ≡ valueSlot row n 0
   first-slot = unfold firstWord in omega arith
 

@@ -48,7 +48,7 @@ module _ (bw : ℕ) (w : List ℕ) (n m : ℕ) where
   unfolding writeAnswer
   answer-rows = ap (λ (o : Outcome). answerAt o (needed bw w)) (writeChecks-first bw w n m)
 
-  -- number 0 exactly when none of the writeChecks applies
+  -- number 0 exactly when none of the rows applies
   pub accepted-exactly : writeAnswer bw w n m .number ≡ 0 → writeOutcome bw w n m ≡ Pass
   accepted-exactly e =
       sym (writeChecks-first bw w n m)
@@ -65,6 +65,6 @@ module _ (bw : ℕ) (w : List ℕ) (n m : ℕ) where
       let r = applies-number rows-give numbers-distinct (needed bw w) k x a in
       (sym answer-rows ∙ r .0, r .1)
 
-  -- so the answer is one by these writeChecks
+  -- so the answer is one by these rows
   pub write-judged : Judged writeNumbers (writeChecks bw w n m) (needed bw w) (writeAnswer bw w n m)
   write-judged = rw answer-rows at (judged rows-give numbers-distinct (needed bw w))
