@@ -18,8 +18,8 @@ unfoldable pub numberFrom : ℕ → List ℕ → ℕ
 numberFrom v [] = v
 numberFrom v (c ∷ cs) = cond (eqb (withDigit v c) unread) unread (numberFrom (withDigit v c) cs)
 
-unfoldable pub numberOf : List ℕ → ℕ
-numberOf s = cond (eqb (length s) 0) unread (numberFrom 0 s)
+unfoldable pub decimalOf : List ℕ → ℕ
+decimalOf s = cond (eqb (length s) 0) unread (numberFrom 0 s)
 
 -- The value of a capital hex digit; 16 for what is none.
 abbrev pub hexOf : ℕ → ℕ

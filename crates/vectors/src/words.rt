@@ -2,7 +2,7 @@
 ghost use mathlib.Core.Path.{_≡_};
 ghost use Prim.Native.Nat.{_≤_, _<_};
 ghost use lib.ListN.{length, take};
-ghost use Rattle.vectors.specs.Text.{withDigit, numberOf, hexOf, unread};
+ghost use Rattle.vectors.specs.Text.{withDigit, decimalOf, hexOf, unread};
 
 // What a word that is no number below this is read as.
 pub const UNREAD: usize = 100000000000000000;
@@ -85,7 +85,7 @@ fn with_digit(v: usize, c: u8) -> usize
 
 // The number that a text is.
 fn number_of(s: &[u8]) -> usize
-    ensures { λ r. ⌜ (r ≡ numberOf (now (s .entry))) × (r ≤ unread) ⌝ }
+    ensures { λ r. ⌜ (r ≡ decimalOf (now (s .entry))) × (r ≤ unread) ⌝ }
 {
     if s.len() == 0 {
         return UNREAD;

@@ -2,7 +2,7 @@
 use Prim.Native.Nat.{_≤_, _<_, _-_}
 use mathlib.Core.Path.{_≡_, refl, sym, _∙_}
 use lib.ListN.{length, drop, getD}
-use Rattle.vectors.specs.Text.{unread, withDigit, numberFrom, numberOf}
+use Rattle.vectors.specs.Text.{unread, withDigit, numberFrom, decimalOf}
 use Rattle.vectors.proofs.Digits.{number-turn, number-stop, number-end}
 use borrow.Author.Tests.{eq-eqb, ne-eqb}
 use native.Mathlib.Omega.{arith}
@@ -11,17 +11,17 @@ use Rattle.vectors.proofs.words.number_of.Statement.{statement}
 use Rattle.vectors.proofs.words.number_of.Tie as tie
 
 abbrev Inv-loop : tie.InvT-loop
-Inv-loop s v₀ i₀ v i = (i ≤ length s) × (v < unread) × (numberFrom v (drop i s) ≡ numberOf s)
+Inv-loop s v₀ i₀ v i = (i ≤ length s) × (v < unread) × (numberFrom v (drop i s) ≡ decimalOf s)
 
 abbrev μ-loop : tie.MeasureT-loop
 μ-loop s v₀ i₀ v i = length s - i
 
 returns : tie.Need-returns Inv-loop μ-loop
-unfolding numberOf
+unfolding decimalOf
 returns c = (rw (eq-eqb _ 0 (c .if1 .taken)), search needs)
 
 loop-holds : tie.Need-loop-holds Inv-loop μ-loop
-unfolding numberOf
+unfolding decimalOf
 loop-holds c = (omega arith, omega arith, rw (ne-eqb _ 0 (c .if1 .left)))
 
 shared-slice-read-with-digit : tie.Need-shared-slice-read-with-digit Inv-loop μ-loop
