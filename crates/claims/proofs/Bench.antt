@@ -60,74 +60,31 @@ zero row rs e f = (
 )
 
 -- ---- each check is worked out
-abbrev Computed : Check → Type 0
-Computed (gets-7 row) = planOutcome row ≡ Refuse (no 7 0 0)
-Computed (gets-8 row) = planOutcome row ≡ Refuse (no 8 0 0)
-Computed (gets-0 row rs) = (planOutcome row ≡ Pass) × (map shown (recordsOf (onlyPlan (at row)) row) ≡ rs)
-Computed (has-check s n v) = check s 0 n ≡ v
+data Computed : List Check → Type 0 where
+  done : Computed []
+  of-7 : {row : List ℕ} {cs : List Check} → planOutcome row ≡ Refuse (no 7 0 0) → Computed cs → Computed (gets-7 row ∷ cs)
+  of-8 : {row : List ℕ} {cs : List Check} → planOutcome row ≡ Refuse (no 8 0 0) → Computed cs → Computed (gets-8 row ∷ cs)
+  of-0 : {row : List ℕ} {rs : List (List ℕ)} {cs : List Check} → planOutcome row ≡ Pass → map shown (recordsOf (onlyPlan (at row)) row) ≡ rs
+      → Computed cs → Computed (gets-0 row rs ∷ cs)
+  of-check : {s : List ℕ} {n v : ℕ} {cs : List Check} → check s 0 n ≡ v → Computed cs → Computed (has-check s n v ∷ cs)
 
-abbrev AllComputed : List Check → Type 0
-AllComputed [] = Unit {0}
-AllComputed (c ∷ cs) = Computed c × AllComputed cs
+all-hold : {cs : List Check} → Computed cs → All cs
+all-hold done = tt
+all-hold (of-7 {row} e es) = (seven row 0 e, all-hold es)
+all-hold (of-8 {row} e es) = (eight row 0 e, all-hold es)
+all-hold (of-0 {row} {rs} e f es) = (zero row rs e f, all-hold es)
+all-hold (of-check e es) = (e, all-hold es)
 
-holds : (c : Check) → Computed c → Holds c
-holds (gets-7 row) e = seven row 0 e
-holds (gets-8 row) e = eight row 0 e
-holds (gets-0 row rs) e = zero row rs (e .0) (e .1)
-holds (has-check s n v) e = e
-
-all-hold : (cs : List Check) → AllComputed cs → All cs
-all-hold [] e = tt
-all-hold (c ∷ cs) e = (holds c (e .0), all-hold cs (e .1))
-
-computed : AllComputed bench
+computed : Computed bench
 unfolding planOutcome firstWrong firstOver least rightAt within fitting onlyPlan choose tells orElse kindNamed kindOf mustName blankAt
     takesBlock takes mask span family kindAt kinds gives share fieldsIn _or_ listAt lead resourceColumn larger pieceFields divides pieces
     fieldsOf ownPieces smallerAt indexOf resourceAt carried bit step register sent check
-computed = (
-  (refl, refl),
-  (
-    refl,
-    (
-      (refl, refl),
-      (
-        refl,
-        (
-          (refl, refl),
-          (
-            refl,
-            (
-              (refl, refl),
-              (
-                refl,
-                (
-                  (refl, refl),
-                  (
-                    refl,
-                    (
-                      (refl, refl),
-                      (
-                        refl,
-                        (
-                          refl,
-                          (
-                            refl,
-                            ((refl, refl), tt),
-                          ),
-                        ),
-                      ),
-                    ),
-                  ),
-                ),
-              ),
-            ),
-          ),
-        ),
-      ),
-    ),
-  ),
-)
+computed =
+    of-0 refl refl (of-7 refl (of-0 refl refl (of-7 refl (of-0 refl refl
+    (of-8 refl (of-0 refl refl (of-7 refl (of-0 refl refl (of-7 refl
+    (of-0 refl refl (of-7 refl (of-7 refl (of-check refl (of-0 refl refl
+    done))))))))))))))
 
 -- ---- the claim
 pub bench-holds : All bench
-bench-holds = all-hold bench computed
+bench-holds = all-hold computed
