@@ -809,6 +809,19 @@ static unsigned count_resources(const plan *l)
     return r;
 }
 
+static unsigned count_stations(const parsed *f)
+{
+    unsigned n = 0;
+    for (unsigned k = 0; k < f->total; k++)
+        n += (f->field[k] & 0x7FF) != 2046;
+    return n;
+}
+
+static char *put_station(char *t, unsigned id)
+{
+    return id == 2046 ? PUT(t, "sta=none") : put_number(PUT(t, "sta="), id);
+}
+
 brachymel_answer NAME(list)(uint32_t bandwidth, const uint8_t *cc1, size_t cc1_len, const uint8_t *cc2, size_t cc2_len,
                             uint8_t *text, size_t text_len)
 {
@@ -826,11 +839,11 @@ brachymel_answer NAME(list)(uint32_t bandwidth, const uint8_t *cc1, size_t cc1_l
     t = put_number(PUT(t, "\nresources="), count_resources(&f.plan));
     t = put_number(PUT(t, "\nfields1="), f.plan.n[0]);
     t = put_number(PUT(t, "\nfields2="), f.plan.n[1]);
-    t = put_number(PUT(t, "\nstations="), f.total);
+    t = put_number(PUT(t, "\nstations="), count_stations(&f));
     *t++ = '\n';
     t = put_resources(t, &f.plan, owning, &resources);
     for (unsigned k = 0; k < f.total; k++) {
-        t = put_number(PUT(t, "sta="), f.field[k] & 0x7FF);
+        t = put_station(t, f.field[k] & 0x7FF);
         t = put_number(PUT(t, " resource="), owning[k]);
         *t++ = '\n';
     }

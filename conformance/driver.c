@@ -259,6 +259,32 @@ static void largest(chance *c)
     }
 }
 
+/* Nobody has the fields of channel 1, of channel 2, of both (02, T-01): on resources with eight fields and with nine, and
+ * where each resource has its own. */
+static void unassigned(chance *c)
+{
+    static const struct {
+        unsigned bandwidth, row[16];
+    } of[] = {{0, {71}}, {0, {24}}, {1, {75, 75}}, {1, {75, 76}}, {2, {83, 83, 30, 30}}, {2, {83, 84, 30, 30}},
+              {3, {26, 97, 29, 29, 120, 29, 28, 50}}, {4, {0}}};
+    static frame f;
+    for (size_t k = 0; k < sizeof of / sizeof of[0]; k++)
+        for (unsigned channels = 1; channels <= 3; channels++) {
+            build_frame(c, of[k].bandwidth, of[k].row, &f);
+            for (unsigned ch = 0; ch < 2; ch++) {
+                unsigned n = 0;
+                for (unsigned p = ch; p < positions_of(of[k].bandwidth); p += 2)
+                    n += fields_of(of[k].row[p]);
+                for (unsigned j = 0; j < n && (channels >> ch & 1) != 0; j++)
+                    put_field(f.cc[ch], MOST_LENT, user_field_at(of[k].bandwidth, j), 11, BRACHYMEL_UNASSIGNED);
+            }
+            mend_checks(&f);
+            call_read(c, &f, BRACHYMEL_WORDS_SIZE);
+            call_list(c, &f, BRACHYMEL_LISTING_SIZE);
+            call_list(c, &f, draw_listing_room(c, &f));
+        }
+}
+
 /* A good frame of each bandwidth with each of its bits turned over, one by one; and its words. */
 static void every_bit(chance *c, unsigned bandwidth)
 {
@@ -344,6 +370,7 @@ int main(int argc, char **argv)
     prepare(&other);
     c = chance_from(seed, 'C');
     largest(&c);
+    unassigned(&c);
     for (unsigned bandwidth = 0; bandwidth <= 4; bandwidth++) {
         every_length(&c, bandwidth);
         every_bit(&c, bandwidth);

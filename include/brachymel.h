@@ -57,13 +57,18 @@ enum {
 };
 
 /* Sizes, in bytes, that always suffice. No smaller one does: 320 MHz with all values 0 needs each of the last three,
- * the listing where every STA-ID has four digits. A call with too little room is refused with what it needs. */
+ * the listing where every STA-ID has four digits (or is none, in 44 lines at the most). A call with too little room is
+ * refused with what it needs. */
 enum {
     BRACHYMEL_CHANNEL_LIMIT = 512,   /* a longer channel is refused */
     BRACHYMEL_WORDS_SIZE = 616,      /* 154 words: 10, and 144 User fields */
     BRACHYMEL_CHANNEL_SIZE = 257,    /* a channel that is written */
     BRACHYMEL_LISTING_SIZE = 10131   /* a listing: proved to be the longest */
 };
+
+/* The STA-ID (bits 8 to 18) of a User word whose resource nobody has. Such a field is read and written as any other and
+ * is one of the eight that a resource may have; a listing does not count it as a station. */
+enum { BRACHYMEL_UNASSIGNED = 2046 };
 
 /* Reads two channels into words. Refusals 1 to 12. Only whole words of the buffer count. */
 brachymel_answer brachymel_read(uint32_t bandwidth, const uint8_t *cc1, size_t cc1_len, const uint8_t *cc2, size_t cc2_len,
@@ -76,7 +81,8 @@ brachymel_answer brachymel_write(uint32_t bandwidth, const uint8_t *words, size_
                                  uint8_t *cc1, size_t cc1_len, uint8_t *cc2, size_t cc2_len);
 
 /* Reads two channels and lists their resources and stations as text: lines that each end with a line feed, and
- * no terminating zero. Refusals 1 to 11, then 23. */
+ * no terminating zero. stations= counts the User fields that are not BRACHYMEL_UNASSIGNED; the line of one that is has
+ * none for its number, and its resource. Refusals 1 to 11, then 23. */
 brachymel_answer brachymel_list(uint32_t bandwidth, const uint8_t *cc1, size_t cc1_len, const uint8_t *cc2, size_t cc2_len,
                                 uint8_t *text, size_t text_len);
 

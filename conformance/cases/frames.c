@@ -58,7 +58,20 @@ static uint32_t draw_station(chance *c, uint8_t used[2048])
     return id;
 }
 
-/* A frame of this row: random padding, overflow and User fields, checks right. */
+/* Fields that nobody has (02, T-01: STA-ID 2046): all of one channel's, all of the frame's, or about half. */
+static void unassign(chance *c, frame *f)
+{
+    unsigned which = (unsigned)below(c, 4);
+    for (unsigned ch = 0; ch < channels_of(f->bandwidth); ch++) {
+        unsigned n = fields_told(f, ch);
+        for (unsigned j = 0; j < n; j++)
+            if (which == ch || which == 2 || (which == 3 && one_in(c, 2)))
+                put_field(f->cc[ch], MOST_LENT, user_field_at(f->bandwidth, j), 11, 2046);
+    }
+}
+
+/* A frame of this row: random padding, overflow and User fields, checks right; of one in six, fields that
+ * nobody has. */
 void build_frame(chance *c, unsigned bandwidth, const unsigned *row, frame *f)
 {
     uint8_t used[2048] = {0};
@@ -87,6 +100,8 @@ void build_frame(chance *c, unsigned bandwidth, const unsigned *row, frame *f)
     }
     if (bandwidth == 0)
         f->length[1] = 0;
+    if (one_in(c, 6))
+        unassign(c, f);
     mend_checks(f);
 }
 

@@ -4,6 +4,31 @@
 #include <stdio.h>
 #include <string.h>
 
+/* "STA-ID 2046 marks a resource that nobody has." (02, T-01) */
+static int is_station(uint32_t id)
+{
+    return id != 2046;
+}
+
+/* "stations= leaves it out": the User fields of a station, of both channels. */
+static unsigned stations_of(const reading *r)
+{
+    unsigned n = 0;
+    for (unsigned c = 0; c < 2; c++)
+        for (unsigned j = 0; j < r->layout.fields[c]; j++)
+            if (is_station(r->station[c][j]))
+                n++;
+    return n;
+}
+
+/* "its line has none for the number, resource= staying". */
+static size_t station_line(uint32_t id, unsigned resource, char *text)
+{
+    if (!is_station(id))
+        return (size_t)sprintf(text, "sta=none resource=%u\n", resource);
+    return (size_t)sprintf(text, "sta=%lu resource=%u\n", (unsigned long)id, resource);
+}
+
 /* The listing's lines, in the order of 01's example; "sta= lines follow the User words", and resource=
  * counts the ru= lines from 1 (decision). */
 static size_t listing_text(unsigned bandwidth, const reading *r, char *text)
@@ -15,7 +40,7 @@ static size_t listing_text(unsigned bandwidth, const reading *r, char *text)
     n += (size_t)sprintf(text + n, "resources=%u\n", l->records);
     n += (size_t)sprintf(text + n, "fields1=%u\n", l->fields[0]);
     n += (size_t)sprintf(text + n, "fields2=%u\n", l->fields[1]);
-    n += (size_t)sprintf(text + n, "stations=%u\n", l->fields[0] + l->fields[1]); /* "Stations counts User fields" */
+    n += (size_t)sprintf(text + n, "stations=%u\n", stations_of(r));
     for (unsigned k = 0; k < l->records; k++) {
         const record *x = &l->record[k];
         n += (size_t)sprintf(text + n, "ru=%s index=%u segment=%u users=%u tones=", name_of_size[x->size],
@@ -25,8 +50,7 @@ static size_t listing_text(unsigned bandwidth, const reading *r, char *text)
     }
     for (unsigned c = 0; c < 2; c++)
         for (unsigned j = 0; j < l->fields[c]; j++)
-            n += (size_t)sprintf(text + n, "sta=%lu resource=%u\n", (unsigned long)r->station[c][j],
-                                 l->owner[c][j] + 1);
+            n += station_line(r->station[c][j], l->owner[c][j] + 1, text + n);
     return n;
 }
 

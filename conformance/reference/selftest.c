@@ -283,28 +283,77 @@ static size_t frame(unsigned bandwidth, const unsigned *row, const uint32_t *sta
     return (longer + 7) / 8;
 }
 
+static size_t hex_line(const char *key, const uint8_t *bytes, size_t length, char *text)
+{
+    size_t n = (size_t)sprintf(text, "%s", key);
+    for (size_t k = 0; k < length; k++)
+        n += (size_t)sprintf(text + n, "%02X", bytes[k]);
+    return n + (size_t)sprintf(text + n, "\n");
+}
+
+/* What the program writes of a frame with this row and these stations. */
+static void listing_is(unsigned bandwidth, const unsigned *row, const uint32_t *stations, const char *printed,
+                       const char *what)
+{
+    static char out[MOST_LISTING];
+    uint8_t cc[2][512];
+    char text[4096];
+    size_t bytes = frame(bandwidth, row, stations, cc), n = (size_t)sprintf(text, "bw=%u\n", bandwidth);
+    n += hex_line("cc1=", cc[0], bytes, text + n);
+    n += hex_line("cc2=", cc[1], bandwidth == 0 ? 0 : bytes, text + n);
+    expect(reference_program((const uint8_t *)text, n, out) == strlen(printed)
+        && memcmp(out, printed, strlen(printed)) == 0, what);
+}
+
 /* The listing that 01 prints, whole, and the program's text. */
 static void worked_listing(void)
 {
     static const unsigned row[2] = {50, 26};
     static const uint32_t stations[2] = {11, 12};
-    static const char printed[] =
-        "answer=0\nbw=1\nresources=2\nfields1=2\nfields2=0\nstations=2\n"
-        "ru=106 index=1 segment=0 users=1 tones=-243:-138\n"
-        "ru=106+26 index=2 segment=0 users=1 tones=-136:-111,-109:-4\n"
-        "sta=11 resource=1\nsta=12 resource=2\n";
-    static char out[MOST_LISTING];
+    listing_is(1, row, stations,
+               "answer=0\nbw=1\nresources=2\nfields1=2\nfields2=0\nstations=2\n"
+               "ru=106 index=1 segment=0 users=1 tones=-243:-138\n"
+               "ru=106+26 index=2 segment=0 users=1 tones=-136:-111,-109:-4\n"
+               "sta=11 resource=1\nsta=12 resource=2\n", "01's listing, whole");
+}
+
+/* 02, T-01: "stations= leaves it out and its line has none for the number, resource= staying". "It keeps its
+ * User field, its word and its share of the eight"; "The repeat check was never about it." */
+static void unassigned(void)
+{
+    static const unsigned row[2] = {50, 26}, shared[2] = {75, 75}, over[2] = {75, 76}, alone[1] = {64}, upper[2] = {26, 66};
+    static const uint32_t second[2] = {11, 2046}, beside[2] = {2045, 2047}, again[1] = {2046}, of_channel_2[3] = {2046, 7, 2046};
+    static const uint32_t none[9] = {2046, 2046, 2046, 2046, 2046, 2046, 2046, 2046, 2046};
     uint8_t cc[2][512];
-    char text[4096];
-    size_t bytes = frame(1, row, stations, cc), n = (size_t)sprintf(text, "bw=1\ncc1=");
-    for (size_t k = 0; k < bytes; k++)
-        n += (size_t)sprintf(text + n, "%02X", cc[0][k]);
-    n += (size_t)sprintf(text + n, "\ncc2=");
-    for (size_t k = 0; k < bytes; k++)
-        n += (size_t)sprintf(text + n, "%02X", cc[1][k]);
-    n += (size_t)sprintf(text + n, "\n");
-    expect(reference_program((const uint8_t *)text, n, out) == sizeof printed - 1
-        && memcmp(out, printed, sizeof printed - 1) == 0, "01's listing, whole");
+    uint32_t words[154];
+    size_t bytes;
+    listing_is(1, row, second,
+               "answer=0\nbw=1\nresources=2\nfields1=2\nfields2=0\nstations=1\n"
+               "ru=106 index=1 segment=0 users=1 tones=-243:-138\n"
+               "ru=106+26 index=2 segment=0 users=1 tones=-136:-111,-109:-4\n"
+               "sta=11 resource=1\nsta=none resource=2\n", "a resource that nobody has");
+    listing_is(1, row, beside,
+               "answer=0\nbw=1\nresources=2\nfields1=2\nfields2=0\nstations=2\n"
+               "ru=106 index=1 segment=0 users=1 tones=-243:-138\n"
+               "ru=106+26 index=2 segment=0 users=1 tones=-136:-111,-109:-4\n"
+               "sta=2045 resource=1\nsta=2047 resource=2\n", "2045 and 2047 are stations");
+    listing_is(0, alone, again,
+               "answer=0\nbw=0\nresources=1\nfields1=1\nfields2=0\nstations=0\n"
+               "ru=242 index=1 segment=0 users=1 tones=-122:-2,2:122\nsta=none resource=1\n", "20 MHz, nobody at all");
+    listing_is(1, upper, of_channel_2,
+               "answer=0\nbw=1\nresources=1\nfields1=0\nfields2=3\nstations=1\n"
+               "ru=242 index=2 segment=0 users=3 tones=3:244\n"
+               "sta=none resource=1\nsta=7 resource=1\nsta=none resource=1\n", "fields of channel 2 that nobody has");
+    listing_is(1, shared, none,
+               "answer=0\nbw=1\nresources=1\nfields1=4\nfields2=4\nstations=0\n"
+               "ru=484 index=1 segment=0 users=8 tones=-244:-3,3:244\n"
+               "sta=none resource=1\nsta=none resource=1\nsta=none resource=1\nsta=none resource=1\n"
+               "sta=none resource=1\nsta=none resource=1\nsta=none resource=1\nsta=none resource=1\n",
+               "eight fields of one resource, nobody's");
+    listing_is(1, over, none, "answer=8\nchannel=0\nplace=0\n", "a share of the eight is nobody's too");
+    bytes = frame(1, shared, none, cc);
+    answer_is(reference_read(1, cc[0], bytes, cc[1], bytes, words, 154), 0, 0, 18, "a word for each, 2046 repeating");
+    expect((words[10] >> 8 & 0x7FF) == 2046 && (words[17] >> 8 & 0x7FF) == 2046, "the words say 2046");
 }
 
 static void text_is(const char *text, const char *expected)
@@ -407,6 +456,7 @@ int self_test(void)
     indices();
     example();
     worked_listing();
+    unassigned();
     texts();
     answers();
     printf("reference: held to the papers\n%d passed, %d failed\n", passed, failed);
