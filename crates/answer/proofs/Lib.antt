@@ -1,5 +1,6 @@
 pub mod Agree
 pub mod Least
+pub mod Tally
 pub mod Lists
 pub mod Order
 pub mod First

@@ -1,4 +1,5 @@
 pub mod Least
+pub mod Tally
 pub mod Answer
 pub mod Order
 pub mod Lists

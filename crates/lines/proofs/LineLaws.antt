@@ -1,15 +1,18 @@
--- The lengths of a listing's lines.
+-- The lengths of a listing's lines, and what the line of a User field says.
+use mathlib.Core.Path.{_≡_, refl, sym, ap, _∙_}
+use mathlib.Core.Logic.{_≢_}
 use mathlib.Core.Bool.{Bool, true, false, cond}
-use mathlib.Core.List.{[]}
-use Prim.Native.Nat.{ℕ, suc, _≤_}
+use mathlib.Core.List.{List, [], _++_}
+use Prim.Native.Nat.{ℕ, suc, _≤_, _<_}
 use native.Mathlib.Omega.{arith}
 use lib.Dec.{eqb}
 use lib.IntN.{ℤ, pos, negsuc}
-use lib.ListN.{length, length-append}
+use lib.ListN.{length, getD, length-append}
+use borrow.Author.Tests.{eq-eqb, ne-eqb, eqb-true, eqb-false}
 use Rattle.resource.specs.Tones.{Span}
-use Rattle.text.specs.Text.{codes, signed}
-use Rattle.text.proofs.Laws.{dec-short}
-use Rattle.lines.specs.Lines.{comma, spanText}
+use Rattle.text.specs.Text.{codes, dec, signed}
+use Rattle.text.proofs.Laws.{dec-short, dec-fit, dec-digit}
+use Rattle.lines.specs.Lines.{keyed, line, comma, spanText, assigned, idText, staLine}
 
 -- ---- lengths
 pub comma-short : (i : ℕ) → length (comma i) ≤ 1
@@ -28,3 +31,33 @@ signed-short (negsuc n) = let h = dec-short (suc n) in omega arith
 pub span-short : (i : ℕ) (s : Span) → length (spanText i s) ≤ 44
 span-short i s =
     simp length-append (omega (arith, comma-short i, signed-short (s .lo), signed-short (s .hi)))
+
+-- none is as long as a number of four digits
+pub id-short : (id : ℕ) → id < 10000 → length (idText id) ≤ 4
+unfolding idText
+id-short id l = go (assigned id)
+  where
+    go : (t : Bool) → length (cond t (dec id) (codes "none")) ≤ 4
+    go true = dec-fit 3 id (omega arith)
+    go false = omega arith
+
+-- ---- the line of a User field
+pub number-line : (id r : ℕ) → id ≢ 2046 → staLine id r ≡ keyed (codes "sta=") id ++ line (codes " resource=") r
+unfolding staLine idText
+number-line id r n = rw (ne-eqb id 2046 n)
+
+pub none-line : (id r : ℕ) → id ≡ 2046 → staLine id r ≡ line (codes "sta=none resource=") r
+unfolding staLine idText
+none-line id r e = rw (eq-eqb id 2046 e)
+
+-- where it is not a number's first digit that follows the key, the resource is nobody's
+pub only-none : (id r : ℕ) (rest : List ℕ) → staLine id r ≡ codes "sta=none " ++ rest → id ≡ 2046
+unfolding staLine idText
+only-none id r rest e = go (eqb id 2046) refl
+  where
+    go : (t : Bool) → eqb id 2046 ≡ t → id ≡ 2046
+    go true f = eqb-true id 2046 f
+    go false f =
+        let d : getD (dec id ++ line (codes " resource=") r) 0 0 ≡ 110 =
+        ap (λ (t : List ℕ). getD t 4 0) (sym (number-line id r (eqb-false id 2046 f)) ∙ e) in
+        omega (arith, dec-digit id (line (codes " resource=") r))

@@ -7,11 +7,11 @@ use resource::Tones;
 ghost use mathlib.Core.Path.{_≡_};
 ghost use Prim.Native.Nat.{_+_, _*_, _≤_, _<_};
 ghost use lib.ListN.{length};
-ghost use Rattle.text.specs.Text.{Wrote};
+ghost use Rattle.text.specs.Text.{codes, Wrote};
 ghost use Rattle.resource.specs.Names.{numberOf};
 ghost use Rattle.resource.specs.Engine.{spanOf};
 ghost use Rattle.lines.specs.Lines.{keyed, line, sizeText, pairingText, nameText, comma, spanText, tonesText, ruHead, ruLine};
-ghost use Rattle.lines.specs.Lines.{staLine, refusalText, headText};
+ghost use Rattle.lines.specs.Lines.{assigned, staLine, refusalText, headText};
 ghost use Rattle.lines.specs.Engine.{heldSpans};
 
 // A fixed key and a number.
@@ -153,14 +153,33 @@ pub fn put_ru(
     text::put(out, c, b'\n')
 }
 
-// The line of a station.
+// Whether a STA-ID is a station's: 2046 marks a resource that nobody has.
+pub fn is_assigned(id: u32) -> bool
+    ensures { λ r. ⌜ r ≡ assigned id ⌝ }
+{
+    id != 2046
+}
+
+// The line of a User field whose resource nobody has.
+fn put_none(out: &mut [u8], at: usize, resource: usize) -> usize
+    requires { ⌜ at ≤ 60000 ⌝ }
+    ensures { λ r. ⌜ Wrote (now (out .entry)) at (line (codes "sta=none resource=") resource) (now (out .exit)) r ⌝ }
+    ensures bounded { λ r. ⌜ r ≤ at + 55 ⌝ }
+{
+    put_line(out, at, b"sta=none resource=", resource as u64)
+}
+
+// The line of a User field.
 pub fn put_sta(out: &mut [u8], at: usize, id: u32, resource: usize) -> usize
     requires { ⌜ at ≤ 60000 ⌝ }
     ensures { λ r. ⌜ Wrote (now (out .entry)) at (staLine id resource) (now (out .exit)) r ⌝ }
     ensures bounded { λ r. ⌜ r ≤ at + 55 ⌝ }
 {
-    let a = put_key(out, at, b"sta=", id as u64);
-    put_line(out, a, b" resource=", resource as u64)
+    if is_assigned(id) {
+        let a = put_key(out, at, b"sta=", id as u64);
+        return put_line(out, a, b" resource=", resource as u64);
+    }
+    put_none(out, at, resource)
 }
 
 // The three lines of a refusal.
@@ -174,9 +193,15 @@ pub fn put_refusal(out: &mut [u8], number: u32, channel: u32, place: usize) -> u
 }
 
 // The lines before the resources.
-pub fn put_head(out: &mut [u8], bw: u32, resources: usize, fields1: usize, fields2: usize) -> usize
-    requires { ⌜ (fields1 ≤ 72) × (fields2 ≤ 72) ⌝ }
-    ensures { λ r. ⌜ Wrote (now (out .entry)) 0 (headText bw resources fields1 fields2) (now (out .exit)) r ⌝ }
+pub fn put_head(
+    out: &mut [u8],
+    bw: u32,
+    resources: usize,
+    fields1: usize,
+    fields2: usize,
+    stations: usize,
+) -> usize
+    ensures { λ r. ⌜ Wrote (now (out .entry)) 0 (headText bw resources fields1 fields2 stations) (now (out .exit)) r ⌝ }
     ensures bounded { λ r. ⌜ r ≤ 200 ⌝ }
 {
     let a = put_line(out, 0, b"answer=", 0);
@@ -184,5 +209,5 @@ pub fn put_head(out: &mut [u8], bw: u32, resources: usize, fields1: usize, field
     let c = put_line(out, b, b"resources=", resources as u64);
     let d = put_line(out, c, b"fields1=", fields1 as u64);
     let e = put_line(out, d, b"fields2=", fields2 as u64);
-    put_line(out, e, b"stations=", (fields1 + fields2) as u64)
+    put_line(out, e, b"stations=", stations as u64)
 }

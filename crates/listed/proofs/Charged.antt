@@ -29,17 +29,18 @@ use Rattle.channel.proofs.Laws.{positions-le}
 use Rattle.text.specs.Text.{dec, signed, upto}
 use Rattle.text.proofs.Laws.{dec-fit}
 use Rattle.lines.specs.Lines.{nameText, comma, tonesText, ruHead, ruLine, staLine}
+use Rattle.lines.proofs.LineLaws.{id-short}
 use Rattle.listed.proofs.Owner.{at-small}
 use Rattle.listed.proofs.Lengths.{sum-split, sum-most, sum-each, sum-both, digits, dec-most, sizes, sizes-short}
 
 -- ---- the lines of the stations, by position
--- a STA-ID has at most four digits
+-- a STA-ID has at most four digits, and none has four letters
 abbrev pub staMost : ℕ → ℕ
 staMost x = 19 + length (dec (x + 1))
 
 pub sta-most : (id x : ℕ) → id < 2048 → length (staLine id (x + 1)) ≤ staMost x
 unfolding staLine
-sta-most id x l = simp length-append (omega (arith, dec-fit 3 id (omega arith)))
+sta-most id x l = simp length-append (omega (arith, id-short id (omega arith)))
 
 module _ (o row : ℕ → ℕ) where
   abbrev pub stas : ℕ → ℕ

@@ -67,10 +67,10 @@ dec-most m n h l = go (ltb n 10) (ltb n 100) refl refl
 abbrev pub headMost : ℕ → ℕ → ℕ → ℕ
 headMost n m k = 53 + digits n + digits m + digits k + digits (m + k)
 
-pub head-most : (bw r m k r′ m′ k′ : ℕ) → bw ≤ 4 → r ≤ r′ → m ≤ m′ → k ≤ k′ → r′ < 1000 → m′ < 500 → k′ < 500
-    → length (headText bw r m k) ≤ headMost r′ m′ k′
+pub head-most : (bw r m k s r′ m′ k′ : ℕ) → bw ≤ 4 → r ≤ r′ → m ≤ m′ → k ≤ k′ → s ≤ m + k → r′ < 1000 → m′ < 500 → k′ < 500
+    → length (headText bw r m k s) ≤ headMost r′ m′ k′
 unfolding headText
-head-most bw r m k r′ m′ k′ l a b c x y z =
+head-most bw r m k s r′ m′ k′ l a b c d x y z =
     simp length-append
     (omega (
       arith,
@@ -79,7 +79,7 @@ head-most bw r m k r′ m′ k′ l a b c x y z =
       dec-most r r′ a x,
       dec-most m m′ b (omega arith),
       dec-most k k′ c (omega arith),
-      dec-most (m + k) (m′ + k′) (omega arith) (omega arith),
+      dec-most s (m′ + k′) (omega arith) (omega arith),
     ))
 
 -- ---- a line of any resource

@@ -12,6 +12,7 @@ use Rattle.answer.specs.declared.Outcome.{Outcome}
 use Rattle.answer.specs.declared.Outcome.the-variants.{Pass, Refuse}
 use Rattle.answer.specs.Lists.{build, at}
 use Rattle.answer.proofs.Lists.{getD-build}
+use Rattle.answer.proofs.Tally.{tally-le}
 use Rattle.bits.proofs.Fields.{field-lt}
 use Rattle.resource.specs.Index.{indexOf, resourceAt, positionOf, placeOf}
 use Rattle.resource.specs.Tones.{tonesAt, tonesOf}
@@ -28,13 +29,13 @@ use Rattle.records.proofs.Listing.{records-most}
 use Rattle.records.proofs.Owners.{in-most}
 use Rattle.channel.specs.Layout.{positions, row, userAt}
 use Rattle.channel.proofs.Laws.{positions-le, row-length}
-use Rattle.stations.specs.Stations.{stationAt}
+use Rattle.stations.specs.Stations.{stationAt, stationOf}
 use Rattle.halves.specs.Table.{outcome11}
 use Rattle.text.specs.Text.{dec, signed, upto, Wrote}
 use Rattle.text.proofs.Laws.{count as written, dec-short}
 use Rattle.input.specs.Worked.{Said, wrong, frame, said}
-use Rattle.lines.specs.Lines.{nameText, comma, tonesText, ruHead, ruLine, refusalText, headText}
-use Rattle.listed.specs.Listing.{resources, ruLines, ownerIn, staLineAt, staLines, listingOf}
+use Rattle.lines.specs.Lines.{nameText, comma, tonesText, ruHead, ruLine, assigned, refusalText, headText}
+use Rattle.listed.specs.Listing.{resources, ruLines, ownerIn, staLineAt, staLines, stationsIn, listingOf}
 use Rattle.listed.specs.Listing.{listing, outcomeText, frameText, saidText, programText}
 use Rattle.listed.proofs.Accepted.{known-code, accepted-signals}
 use Rattle.listed.proofs.Stations.{fields-1, fields-2}
@@ -99,14 +100,16 @@ module _ (bw : ℕ) (r a b : List ℕ) where
       )
 
   row-most : bw < 5 → length r ≡ 2 ^ bw → Signals (onlyPlan (at r)) (at r) 0 (length r) → length (listingOf bw r a b first second) ≤ longest (length r)
-  unfolding listingOf longest positions
+  unfolding listingOf stationsIn longest positions
   row-most h e s =
       let o = onlyPlan (at r) in
       let n = length r in
       let few : n ≤ 16 = omega (arith, positions-le bw (omega arith)) in
-      let hd : length (headText bw (length (resources r)) first second) ≤ headMost (9 * n) (fieldsBefore 1 (λ p. 0) n) (fieldsBefore 2 (λ p. 0) n) =
-      head-most bw (length (resources r)) first second (9 * n) (fieldsBefore 1 (λ p. 0) n) (fieldsBefore 2 (λ p. 0) n) (omega arith)
-      (records-most o (at r) n) (fields-zeros 1 (at r) n) (fields-zeros 2 (at r) n) (omega arith)
+      let stations = stationsIn bw a b first (first + second) in
+      let hd : length (headText bw (length (resources r)) first second stations) ≤ headMost (9 * n) (fieldsBefore 1 (λ p. 0) n) (fieldsBefore 2 (λ p. 0) n) =
+      head-most bw (length (resources r)) first second stations (9 * n) (fieldsBefore 1 (λ p. 0) n) (fieldsBefore 2 (λ p. 0) n) (omega arith)
+      (records-most o (at r) n) (fields-zeros 1 (at r) n) (fields-zeros 2 (at r) n)
+      (tally-le (λ i. assigned (stationOf bw a b first i)) (first + second)) (omega arith)
       (omega (arith, fields-nine 1 (λ p. 0) n)) (omega (arith, fields-nine 2 (λ p. 0) n)) in
       let ru : length (ruLines n (resources r)) ≡ sumTo (λ p. sizes n (listAt (o p) (at r) p)) n = lines-sizes n (resources r) ∙ sizes-positions o (at r) n n in
       let all : sumTo (λ p. sizes n (listAt (o p) (at r) p)) n + sumTo (stas o (at r)) n ≤ sumTo (λ p. most n p 0) n =
@@ -114,10 +117,10 @@ module _ (bw : ℕ) (r a b : List ℕ) where
       Signals o (at r) 0 m → sumTo (λ p. sizes m (listAt (o p) (at r) p)) m + sumTo (stas o (at r)) m ≤ sumTo (λ p. most m p 0) m)
       (sym e) (positions-charge o (at r) bw h) s in
       let both : length (listingOf bw r a b first second)
-      ≡ length (headText bw (length (resources r)) first second) + length (ruLines n (resources r)) + length (staLines bw r a b first (first + second)) =
-      length-append (headText bw (length (resources r)) first second ++ ruLines n (resources r)) (staLines bw r a b first (first + second))
+      ≡ length (headText bw (length (resources r)) first second stations) + length (ruLines n (resources r)) + length (staLines bw r a b first (first + second)) =
+      length-append (headText bw (length (resources r)) first second stations ++ ruLines n (resources r)) (staLines bw r a b first (first + second))
       ∙ ap (λ (m : ℕ). m + length (staLines bw r a b first (first + second)))
-      (length-append (headText bw (length (resources r)) first second) (ruLines n (resources r))) in
+      (length-append (headText bw (length (resources r)) first second stations) (ruLines n (resources r))) in
       omega (arith, both, hd, ru, all, stations-most)
 
 -- ---- the listing of an accepted frame, at every bandwidth

@@ -1,29 +1,38 @@
--- "Stations counts User fields; sta= lines follow the User words" (01, "Listing"): how many `sta=` lines there are, what each says, and
--- whose field it is.
+-- How many `sta=` lines there are, what each says, and whose field it is (01, "Listing": "sta= lines follow the User words"); how many of the
+-- User fields are stations' (02, T-01).
 use mathlib.Core.Path.{_≡_, refl, sym, ap, _∙_}
-use mathlib.Core.Bool.{Bool, true, false, cond}
+use mathlib.Core.Logic.{_≢_}
+use mathlib.Core.Bool.{Bool, true, false, not, cond}
 use mathlib.Core.List.{List}
 use Prim.Native.Nat.{ℕ, _+_, _-_, _*_, _/_, _%_, _≤_, _<_}
 use native.Mathlib.Omega.{arith}
-use borrow.Author.Tests.{lt-ltb, le-ltb, ltb-true, ltb-false}
+use borrow.Author.Tests.{ltb-true, ltb-false, eqb-true, eqb-false}
 use lib.Dec.{ltb, eqb}
 use lib.ListN.{length}
 use Rattle.answer.specs.declared.Outcome.the-variants.{Pass}
+use Rattle.answer.specs.Lists.{at}
+use Rattle.answer.specs.Tally.{tally}
+use Rattle.answer.proofs.Tally.{tally-both}
 use Rattle.bits.specs.Bits.{field}
 use Rattle.bits.proofs.Fields.{field-lt, field-split}
-use Rattle.answer.specs.Lists.{at}
 use Rattle.words.specs.Engine.{fieldIn, userField}
 use Rattle.channel.specs.Layout.{row, count, userAt}
-use Rattle.plan.specs.Engine.{onlyPlan}
-use Rattle.records.specs.Owns.{fieldsBefore, Owns}
-use Rattle.records.proofs.Owners.{owner-owns}
-use Rattle.records.proofs.Shares.{owner-listed}
+use Rattle.stations.specs.Stations.{stationAt, stationOf}
+use Rattle.plan.specs.Worked.{thePlan}
+use Rattle.plan.proofs.Tests.{Tested}
+use Rattle.records.specs.Owns.{fieldsBefore}
+use Rattle.records.specs.Worked.{Worked, theOwner}
+use Rattle.records.proofs.Shares.{counts-of}
+use Rattle.records.proofs.Worked.{worked}
 use Rattle.halves.specs.Table.{outcome11}
 use Rattle.frame_words.specs.Words.{wordCount, wordsOf}
 use Rattle.frame_words.proofs.Determine.{words-length, user-back-1, user-back-2}
 use Rattle.frame_words.proofs.Counts.{row-count-1, row-count-2}
-use Rattle.listed.specs.Listing.{ownerIn, staLineAt}
-use Rattle.listed.specs.Stations.{Station}
+use Rattle.text.specs.Text.{codes}
+use Rattle.lines.specs.Lines.{line, assigned, staLine}
+use Rattle.lines.proofs.LineLaws.{number-line, none-line, only-none}
+use Rattle.listed.specs.Listing.{ownerIn, staLineAt, stationsIn}
+use Rattle.listed.specs.Stations.{channelAt, placeIn, wordStation, SaysNone, Station, Counted}
 use Rattle.listed.proofs.Accepted.{known-code, accepted-signals}
 
 -- ---- how many: "the count is the sum over the row's values", in each channel
@@ -37,10 +46,10 @@ module _ (bw : ℕ) (a b : List ℕ) (l : bw ≤ 4) where
   pub fields-2 : fieldsBefore 2 (at (row bw a b)) (length (row bw a b)) ≡ count bw 2 b
   fields-2 = row-count-2 bw a b l
 
--- stations=: their sum, as many as there are words past the first ten
-pub stations-words : (bw : ℕ) (a b : List ℕ) → count bw 1 a + count bw 2 b ≡ length (wordsOf bw a b) - 10
+-- and together, as many as there are words past the first ten
+pub fields-words : (bw : ℕ) (a b : List ℕ) → count bw 1 a + count bw 2 b ≡ length (wordsOf bw a b) - 10
 unfolding wordCount
-stations-words bw a b = omega (arith, words-length bw a b)
+fields-words bw a b = omega (arith, words-length bw a b)
 
 -- ---- the STA-ID of a User word: 002, "STA-ID 0x7ff00", its bits 8 to 18
 low-part : (x y : ℕ) → x < 2048 → (x + 2048 * y) % 2048 ≡ x
@@ -57,8 +66,36 @@ station-bits w = go (eqb (w % 256) 0x47)
 first-11 : (s : List ℕ) (n : ℕ) → field s n 22 % 2048 ≡ field s n 11
 first-11 s n = omega (arith, field-split s n 11 11, field-lt s n 11)
 
+-- of a word that is made of the User field at bit n
+said-11 : (w : ℕ) (s : List ℕ) (n : ℕ) → userField w ≡ field s n 22 → w / 256 % 2048 ≡ field s n 11
+said-11 w s n e = sym (station-bits w) ∙ ap (λ (x : ℕ). x % 2048) e ∙ first-11 s n
+
+module _ (bw : ℕ) (a b : List ℕ) where
+  -- the i-th User word's is the i-th User field's
+  pub word-station : (i : ℕ) → i < length (wordsOf bw a b) - 10 → wordStation (wordsOf bw a b) i ≡ stationOf bw a b (count bw 1 a) i
+  word-station i l = go (ltb i (count bw 1 a)) refl
+    where
+      go : (t : Bool) → ltb i (count bw 1 a) ≡ t
+          → wordStation (wordsOf bw a b) i ≡ cond t (stationAt bw a i) (stationAt bw b (i - count bw 1 a))
+      go true f = said-11 _ a (userAt bw i) (user-back-1 bw a b i (ltb-true i (count bw 1 a) f))
+      go false f =
+          let j = i - count bw 1 a in
+          let h = ltb-false i (count bw 1 a) f in
+          let n : 10 + i ≡ 10 + count bw 1 a + j = omega arith in
+          said-11 _ b (userAt bw j)
+          (ap (λ (x : ℕ). userField (at (wordsOf bw a b) x)) n ∙ user-back-2 bw a b j (omega (arith, fields-words bw a b)))
+
 -- ---- "sta= lines follow the User words"
 
+owner-is : (r : List ℕ) (m i : ℕ) → ownerIn r m i ≡ theOwner r (channelAt m i) (placeIn m i)
+unfolding ownerIn
+owner-is r m i = go (ltb i m)
+  where
+    go : (t : Bool) → cond t (theOwner r 1 i) (theOwner r 2 (i - m)) ≡ theOwner r (cond t 1 2) (cond t i (i - m))
+    go true = refl
+    go false = refl
+
+-- of an accepted frame
 module _ (bw : ℕ) (a b : List ℕ) (e : outcome11 bw a b ≡ Pass) where
   abbrev the-row : List ℕ
   the-row = row bw a b
@@ -66,44 +103,57 @@ module _ (bw : ℕ) (a b : List ℕ) (e : outcome11 bw a b ≡ Pass) where
   abbrev first : ℕ
   first = count bw 1 a
 
-  -- of channel 1
-  station-1 : (i : ℕ) → i < first → Station bw a b the-row first i
-  unfolding staLineAt ownerIn
-  station-1 i l =
-      let f : i < fieldsBefore 1 (at the-row) (length the-row) = omega (arith, fields-1 bw a b (known-code bw a b e)) in
-      let s = accepted-signals bw a b e in
-      let t : ltb i first ≡ true = lt-ltb i first l in
-      let w : at (wordsOf bw a b) (10 + i) / 256 % 2048 ≡ field a (userAt bw i) 11 =
-      sym (station-bits (at (wordsOf bw a b) (10 + i))) ∙ ap (λ (x : ℕ). x % 2048) (user-back-1 bw a b i l) ∙ first-11 a (userAt bw i) in
-      record {
-        line = rw (t, w);
-        listed = rw t (owner-listed (onlyPlan (at the-row)) (at the-row) (length the-row) s 1 i f);
-        owns = rw t (owner-owns (onlyPlan (at the-row)) (at the-row) (length the-row) s 1 i f);
-      }
-
-  -- of channel 2
-  station-2 : (i : ℕ) → first ≤ i → i - first < count bw 2 b → Station bw a b the-row first i
-  unfolding staLineAt ownerIn
-  station-2 i h l =
-      let j = i - first in
-      let f : j < fieldsBefore 2 (at the-row) (length the-row) = omega (arith, fields-2 bw a b (known-code bw a b e)) in
-      let s = accepted-signals bw a b e in
-      let t : ltb i first ≡ false = le-ltb i first h in
-      let n : 10 + i ≡ 10 + first + j = omega arith in
-      let w : at (wordsOf bw a b) (10 + i) / 256 % 2048 ≡ field b (userAt bw j) 11 =
-      sym (station-bits (at (wordsOf bw a b) (10 + i)))
-      ∙ ap (λ (x : ℕ). x % 2048) (ap (λ (x : ℕ). userField (at (wordsOf bw a b) x)) n ∙ user-back-2 bw a b j l)
-      ∙ first-11 b (userAt bw j) in
-      record {
-        line = rw (t, w);
-        listed = rw t (owner-listed (onlyPlan (at the-row)) (at the-row) (length the-row) s 2 j f);
-        owns = rw t (owner-owns (onlyPlan (at the-row)) (at the-row) (length the-row) s 2 j f);
-      }
-
-  -- of an accepted frame, for each User word
-  pub station : (i : ℕ) → i < length (wordsOf bw a b) - 10 → Station bw a b (row bw a b) (count bw 1 a) i
-  station i l = go (ltb i first) refl
+  owner : (i : ℕ) → i < length (wordsOf bw a b) - 10 → Worked (thePlan the-row) the-row (channelAt first i) (placeIn first i)
+  owner i l = worked (thePlan the-row) the-row (accepted-signals bw a b e) (channelAt first i) (placeIn first i) (go (ltb i first) refl)
     where
-      go : (t : Bool) → ltb i first ≡ t → Station bw a b the-row first i
-      go true f = station-1 i (ltb-true i first f)
-      go false f = let h = ltb-false i first f in station-2 i h (omega (arith, stations-words bw a b))
+      go : (t : Bool) → ltb i first ≡ t → cond t i (i - first) < fieldsBefore (cond t 1 2) (at the-row) (length the-row)
+      go true f = omega (arith, ltb-true i first f, fields-1 bw a b (known-code bw a b e))
+      go false f = omega (arith, ltb-false i first f, fields-words bw a b, fields-2 bw a b (known-code bw a b e))
+
+  -- each User word has its line
+  pub station : (i : ℕ) → i < length (wordsOf bw a b) - 10 → Station bw a b the-row first i
+  unfolding staLineAt
+  station i l =
+      let w = owner i l in
+      let o = owner-is the-row first i in
+      let s = word-station bw a b i l in
+      let n = ownerIn the-row first i + 1 in
+      record {
+        number-line = λ h. rw s (number-line (stationOf bw a b first i) n (λ z. h (s ∙ z)));
+        none-line = λ h. none-line (stationOf bw a b first i) n (sym s ∙ h);
+        only-none = λ h. s ∙ only-none (stationOf bw a b first i) n (h .0) (h .1);
+        listed = rw o (w .listed);
+        owns = rw o (w .owns);
+        only-owner = λ x h. w .only x h ∙ sym o;
+      }
+
+  -- ---- 02, T-01: "stations= leaves it out"
+  is-station : (i : ℕ) → i < length (wordsOf bw a b) - 10 → Tested (assigned (stationOf bw a b first i)) (wordStation (wordsOf bw a b) i ≢ 2046)
+  is-station i l = rw (word-station bw a b i l) (go (eqb (stationOf bw a b first i) 2046) refl)
+    where
+      go : (t : Bool) → eqb (stationOf bw a b first i) 2046 ≡ t → Tested (not t) (stationOf bw a b first i ≢ 2046)
+      go true f = λ h. h (eqb-true (stationOf bw a b first i) 2046 f)
+      go false f = eqb-false (stationOf bw a b first i) 2046 f
+
+  says-none : (i : ℕ) → Tested (not (assigned (stationOf bw a b first i))) (SaysNone (staLineAt bw the-row a b first i))
+  unfolding staLineAt
+  says-none i = go (eqb (stationOf bw a b first i) 2046) refl
+    where
+      n : ℕ
+      n = ownerIn the-row first i + 1
+
+      go : (t : Bool) → eqb (stationOf bw a b first i) 2046 ≡ t → Tested (not (not t)) (SaysNone (staLine (stationOf bw a b first i) n))
+      go true f = (line (codes "resource=") n, none-line (stationOf bw a b first i) n (eqb-true (stationOf bw a b first i) 2046 f))
+      go false f = λ h. eqb-false (stationOf bw a b first i) 2046 f (only-none (stationOf bw a b first i) n (h .0) (h .1))
+
+  pub counted : Counted bw a b the-row first (count bw 2 b)
+  unfolding stationsIn
+  counted =
+      let t : ℕ → Bool = λ i. assigned (stationOf bw a b first i) in
+      let k = first + count bw 2 b in
+      record {
+        stations = rw (fields-words bw a b) (counts-of (λ i. wordStation (wordsOf bw a b) i ≢ 2046) t (length (wordsOf bw a b) - 10) is-station);
+        nones = tally (λ i. not (t i)) k;
+        none-lines = counts-of (λ i. SaysNone (staLineAt bw the-row a b first i)) (λ i. not (t i)) k (λ i l. says-none i);
+        all-fields = tally-both t k;
+      }

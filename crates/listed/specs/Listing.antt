@@ -11,6 +11,7 @@ use Rattle.answer.specs.declared.Answer.{Answer}
 use Rattle.answer.specs.declared.Outcome.{Outcome}
 use Rattle.answer.specs.declared.Outcome.the-variants.{Pass, Refuse}
 use Rattle.answer.specs.Lists.{at}
+use Rattle.answer.specs.Tally.{tally}
 use Rattle.resource.specs.Tones.{tonesOf}
 use Rattle.plan.specs.Worked.{thePlan}
 use Rattle.records.specs.declared.Record.{Record}
@@ -21,7 +22,7 @@ use Rattle.stations.specs.Stations.{stationOf}
 use Rattle.halves.specs.Table.{outcome11, checks11}
 use Rattle.text.specs.Text.{upto}
 use Rattle.input.specs.Worked.{Said, wrong, frame, said}
-use Rattle.lines.specs.Lines.{ruLine, staLine, refusalText, headText}
+use Rattle.lines.specs.Lines.{ruLine, assigned, staLine, refusalText, headText}
 
 -- ---- the listing of a row r
 
@@ -52,9 +53,15 @@ staLineAt bw r a b m i = staLine (stationOf bw a b m i) (ownerIn r m i + 1)
 unfoldable pub staLines : ℕ → List ℕ → List ℕ → List ℕ → ℕ → ℕ → List ℕ
 staLines bw r a b m n = upto (staLineAt bw r a b m) n
 
+-- 02, T-01: "stations= leaves it out": how many of the first n User fields over both channels are a station's
+unfoldable pub stationsIn : ℕ → List ℕ → List ℕ → ℕ → ℕ → ℕ
+stationsIn bw a b m n = tally (λ i. assigned (stationOf bw a b m i)) n
+
 unfoldable pub listingOf : ℕ → List ℕ → List ℕ → List ℕ → ℕ → ℕ → List ℕ
 listingOf bw r a b m k =
-    headText bw (length (resources r)) m k ++ ruLines (length r) (resources r) ++ staLines bw r a b m (m + k)
+    headText bw (length (resources r)) m k (stationsIn bw a b m (m + k))
+    ++ ruLines (length r) (resources r)
+    ++ staLines bw r a b m (m + k)
 
 -- ---- the listing of a frame
 unfoldable pub listing : ℕ → List ℕ → List ℕ → List ℕ

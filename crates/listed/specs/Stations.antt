@@ -1,16 +1,18 @@
--- Whose station a `sta=` line names (01, "Listing"): "sta= lines follow the User words".
+-- Whose station a `sta=` line names, and which are counted (01, "Listing": "sta= lines follow the User words"; 02, T-01).
 use mathlib.Core.Path.{_≡_}
 use mathlib.Core.Bool.{cond}
-use mathlib.Core.List.{List}
+use mathlib.Core.List.{List, _++_}
+use mathlib.Core.Logic.{_≢_}
 use Prim.Native.Nat.{ℕ, _+_, _-_, _/_, _%_, _<_}
 use lib.Dec.{ltb}
 use lib.ListN.{length}
 use Rattle.answer.specs.Lists.{at}
+use Rattle.text.specs.Text.{codes}
 use Rattle.plan.specs.Worked.{thePlan}
-use Rattle.records.specs.Owns.{Owns}
+use Rattle.records.specs.Owns.{Owns, Counts}
 use Rattle.frame_words.specs.Words.{wordsOf}
-use Rattle.lines.specs.Lines.{staLine}
-use Rattle.listed.specs.Listing.{resources, ownerIn, staLineAt}
+use Rattle.lines.specs.Lines.{keyed, line}
+use Rattle.listed.specs.Listing.{resources, ownerIn, staLineAt, stationsIn}
 
 -- "one per User field, channel 1 first": of the i-th User field over both channels, m of which are channel 1's, the channel
 -- and its number there
@@ -20,11 +22,35 @@ channelAt m i = cond (ltb i m) 1 2
 abbrev pub placeIn : ℕ → ℕ → ℕ
 placeIn m i = cond (ltb i m) i (i - m)
 
+-- 002, "STA-ID 0x7ff00": bits 8 to 18 of the i-th User word
+abbrev pub wordStation : List ℕ → ℕ → ℕ
+wordStation words i = at words (10 + i) / 256 % 2048
+
+-- a line that has none for the number
+abbrev pub SaysNone : List ℕ → Type 0
+SaysNone t = (rest : List ℕ) × (t ≡ codes "sta=none " ++ rest)
+
 -- the i-th `sta=` line is that of the i-th User word
 pub record Station (bw : ℕ) (a b r : List ℕ) (m i : ℕ) : Type 0 where
   -- it says the word's STA-ID, and a resource's number, from 1
-  pub line : staLineAt bw r a b m i ≡ staLine (at (wordsOf bw a b) (10 + i) / 256 % 2048) (ownerIn r m i + 1)
-  -- which has a `ru=` line
+  pub number-line : wordStation (wordsOf bw a b) i ≢ 2046
+      → staLineAt bw r a b m i ≡ keyed (codes "sta=") (wordStation (wordsOf bw a b) i) ++ line (codes " resource=") (ownerIn r m i + 1)
+  -- "its line has none for the number, resource= staying"
+  pub none-line : wordStation (wordsOf bw a b) i ≡ 2046
+      → staLineAt bw r a b m i ≡ line (codes "sta=none resource=") (ownerIn r m i + 1)
+  -- and no other line has
+  pub only-none : SaysNone (staLineAt bw r a b m i) → wordStation (wordsOf bw a b) i ≡ 2046
+  -- the resource has a `ru=` line
   pub listed : ownerIn r m i < length (resources r)
-  -- and owns the field
+  -- and is the one that owns the field
   pub owns : Owns (thePlan r) (at r) (length r) (ownerIn r m i) (channelAt m i) (placeIn m i)
+  pub only-owner : (x : ℕ) → Owns (thePlan r) (at r) (length r) x (channelAt m i) (placeIn m i) → x ≡ ownerIn r m i
+
+-- "stations= leaves it out", of m User fields in channel 1 and k in channel 2
+pub record Counted (bw : ℕ) (a b r : List ℕ) (m k : ℕ) : Type 0 where
+  -- stations= is how many User words have another STA-ID than 2046
+  pub stations : Counts (λ i. wordStation (wordsOf bw a b) i ≢ 2046) (length (wordsOf bw a b) - 10) (stationsIn bw a b m (m + k))
+  -- the lines that say none are the others
+  pub nones : ℕ
+  pub none-lines : Counts (λ i. SaysNone (staLineAt bw r a b m i)) (m + k) nones
+  pub all-fields : stationsIn bw a b m (m + k) + nones ≡ m + k

@@ -8,6 +8,8 @@ use native.Mathlib.Omega.{arith}
 use borrow.Author.Tests.{eq-eqb, ne-eqb, eqb-true}
 use lib.Dec.{eqb}
 use lib.ListN.{getD}
+use Rattle.answer.specs.Tally.{tally}
+use Rattle.answer.proofs.Tally.{tally-cong, tally-split, tally-none, tally-all, tally-once}
 use Rattle.plan.specs.Kinds.{span}
 use Rattle.plan.specs.Signals.{Takes, Place, Fits, Signals}
 use Rattle.plan.specs.Fields.{share, channelShare, fieldsIn}
@@ -19,7 +21,6 @@ use Rattle.records.specs.Records.{inChannel, recordsFrom, blank as noRec
 use Rattle.records.specs.Owns.{fieldsBefore, number, Channel, shareOf}
 use Rattle.records.specs.Engine.{lowest, ownerAt, ownerOf}
 use Rattle.records.proofs.Sums.{sumTo, sum-cong, sum-one, sum-past, sum-window, from-cong}
-use Rattle.records.proofs.Sums.{tally, tally-cong, tally-split, tally-none, tally-all, tally-once}
 use Rattle.records.proofs.Lead.{lowest-place, lowest-only, itself-place, itself-lowest}
 use Rattle.records.proofs.Listing.{Located, located-record, located-once, recordAt, own-length, own-record, larger-record, larger-one, once-lead}
 use Rattle.records.proofs.Owners.{found-left, divided-itself}

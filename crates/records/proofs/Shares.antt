@@ -10,6 +10,7 @@ use native.Mathlib.Numerals.{add-one}
 use borrow.Author.Tests.{eqb-true, eqb-false}
 use lib.Dec.{eqb}
 use lib.ListN.{length, getD}
+use Rattle.answer.specs.Tally.{tally}
 use Rattle.plan.specs.Signals.{Signals}
 use Rattle.plan.proofs.Tests.{Tested}
 use Rattle.resource.specs.Values.{divides}
@@ -17,14 +18,14 @@ use Rattle.records.specs.declared.Record.{Record}
 use Rattle.records.specs.Records.{recordsFrom, blank as noRecord}
 use Rattle.records.specs.Owns.{fieldsBefore, ComesFrom, number, Owns, Counts, none, one-more, no-more, Channel, shareOf, allShares}
 use Rattle.records.specs.Engine.{lowest, ownerAt, ownerOf}
-use Rattle.records.proofs.Sums.{sumTo, sum-cong, tally, all-placed, sum-first}
+use Rattle.records.proofs.Sums.{sumTo, sum-cong, all-placed, sum-first}
 use Rattle.records.proofs.Listing.{located}
 use Rattle.records.proofs.Owners.{owner-only, owner-owns, search-comes, comes}
 use Rattle.records.proofs.Homes.{home-piece, home-whole, located-below}
 use Rattle.records.proofs.Owned.{owned-at}
 
--- ---- counting
-counts-of : (P : ℕ → Type 0) (t : ℕ → Bool) (n : ℕ) → ((j : ℕ) → j < n → Tested (t j) (P j)) → Counts P n (tally t n)
+-- ---- counting: as many as pass a test that decides
+pub counts-of : (P : ℕ → Type 0) (t : ℕ → Bool) (n : ℕ) → ((j : ℕ) → j < n → Tested (t j) (P j)) → Counts P n (tally t n)
 counts-of P t zero h = none
 counts-of P t (suc n) h = go (t n) (h n (omega arith)) (counts-of P t n (λ j l. h j (omega arith)))
   where

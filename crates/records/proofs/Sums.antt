@@ -1,12 +1,13 @@
--- Sums over the numbers below a bound, and how many of them pass a test.
+-- Sums over the numbers below a bound.
 use mathlib.Core.Path.{_≡_, refl, sym, _∙_}
 use mathlib.Core.Logic.{⊎-elim, _≢_}
-use mathlib.Core.Bool.{Bool, true, false, cond}
+use mathlib.Core.Bool.{cond}
 use Prim.Native.Nat.{ℕ, zero, suc, _+_, _-_, _≤_, _<_}
 use native.Mathlib.Omega.{arith}
 use native.Mathlib.Nat.{add-zero, add-suc, eq-or-lt-of-le, le-of-suc-le-suc}
 use borrow.Author.Tests.{eq-eqb, ne-eqb}
 use lib.Dec.{eqb}
+use Rattle.answer.specs.Tally.{tally}
 
 abbrev pub sumTo : (ℕ → ℕ) → ℕ → ℕ
 sumTo g zero = 0
@@ -56,36 +57,7 @@ pub from-cong : (g h : ℕ → ℕ) (a s : ℕ) → ((k : ℕ) → k < s → g (
 from-cong g h a zero e = refl
 from-cong g h a (suc s) e = rw (from-cong g h a s (λ k l. e k (omega arith)), e s (omega arith))
 
--- ---- how many pass
-abbrev pub tally : (ℕ → Bool) → ℕ → ℕ
-tally t zero = 0
-tally t (suc n) = tally t n + cond (t n) 1 0
-
-pub tally-cong : (t u : ℕ → Bool) (n : ℕ) → ((k : ℕ) → k < n → t k ≡ u k) → tally t n ≡ tally u n
-tally-cong t u zero e = refl
-tally-cong t u (suc n) e = rw (tally-cong t u n (λ k l. e k (omega arith)), e n (omega arith))
-
-pub tally-split : (t : ℕ → Bool) (a b : ℕ) → tally t (a + b) ≡ tally t a + tally (λ k. t (a + k)) b
-tally-split t a zero = rw (add-zero a) (omega arith)
-tally-split t a (suc b) = rw (add-suc a b) (omega (arith, tally-split t a b))
-
-pub tally-none : (t : ℕ → Bool) (n : ℕ) → ((k : ℕ) → k < n → t k ≡ false) → tally t n ≡ 0
-tally-none t zero e = refl
-tally-none t (suc n) e = rw (e n (omega arith)) (omega (arith, tally-none t n (λ k l. e k (omega arith))))
-
-pub tally-all : (t : ℕ → Bool) (n : ℕ) → ((k : ℕ) → k < n → t k ≡ true) → tally t n ≡ n
-tally-all t zero e = refl
-tally-all t (suc n) e = rw (e n (omega arith)) (omega (arith, tally-all t n (λ k l. e k (omega arith))))
-
-pub tally-once : (t : ℕ → Bool) (n m : ℕ) → m < n → t m ≡ true → ((k : ℕ) → k < n → k ≢ m → t k ≡ false) → tally t n ≡ 1
-tally-once t zero m h e f = absurd (omega arith)
-tally-once t (suc n) m h e f =
-    ⊎-elim
-    (λ (g : m ≡ n). let z : t n ≡ true = rw (← g) e in rw z (omega (arith, tally-none t n (λ k l. f k (omega arith) (λ w. omega arith)))))
-    (λ (l : m < n). rw (f n (omega arith) (λ w. omega arith)) (omega (arith, tally-once t n m l e (λ k i. f k (omega arith)))))
-    (eq-or-lt-of-le (le-of-suc-le-suc h))
-
--- each of n things goes to one of m
+-- ---- each of n things goes to one of m
 one-place : (m x : ℕ) → x < m → sumTo (λ i. cond (eqb x i) 1 0) m ≡ 1
 one-place m x h =
     sum-one (λ i. cond (eqb x i) 1 0) m x h (λ p l n. rw (ne-eqb x p (λ e. n (sym e)))) ∙ rw (eq-eqb x x refl)

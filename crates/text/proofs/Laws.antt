@@ -152,6 +152,24 @@ pub dec-fit : (k n : ℕ) → n < 10 ^ suc k → length (dec n) ≤ suc k
 unfolding dec
 dec-fit k n l = decs-fit 20 k n l
 
+-- a decimal begins with a digit
+decs-digit : (k n : ℕ) (t : List ℕ) → getD (decs (suc k) n ++ t) 0 0 < 58
+decs-digit zero n t = go (ltb n 10)
+  where
+    go : (b : Bool) → getD ((cond b [] [] ++ ((48 + n % 10) ∷ [])) ++ t) 0 0 < 58
+    go true = omega arith
+    go false = omega arith
+decs-digit (suc k) n t = go (ltb n 10) (decs-digit k (n / 10) (((48 + n % 10) ∷ []) ++ t))
+  where
+    go : (b : Bool) → getD (decs (suc k) (n / 10) ++ (((48 + n % 10) ∷ []) ++ t)) 0 0 < 58
+        → getD ((cond b [] (decs (suc k) (n / 10)) ++ ((48 + n % 10) ∷ [])) ++ t) 0 0 < 58
+    go true h = omega arith
+    go false h = rw (append-assoc (decs (suc k) (n / 10)) ((48 + n % 10) ∷ []) t) h
+
+pub dec-digit : (n : ℕ) (t : List ℕ) → getD (dec n ++ t) 0 0 < 58
+unfolding dec
+dec-digit n t = decs-digit 19 n t
+
 -- ---- signed decimals: u - z of two naturals
 pub signed-low : (u z : ℕ) → u < z → signed (pos u -ℤ pos z) ≡ codes "-" ++ dec (z - u)
 unfolding signed

@@ -39,9 +39,6 @@ put-line-requires-5 c κs = search needs
 slice-aggregate-put-line-6 : tie.Need-slice-aggregate-put-line-6
 slice-aggregate-put-line-6 c = search needs
 
-add-put-line : tie.Need-add-put-line
-add-put-line c = search needs
-
 put-line-requires-6 : tie.Need-put-line-requires-6
 put-line-requires-6 c κs = search needs
 
@@ -75,7 +72,6 @@ put-head-spec =
     slice-aggregate-put-line-5
     put-line-requires-5
     slice-aggregate-put-line-6
-    add-put-line
     put-line-requires-6
     same-length
     returns)
