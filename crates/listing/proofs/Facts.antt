@@ -26,7 +26,7 @@ use Rattle.reader.specs.Result.{readAnswer}
 use Rattle.input.specs.Engine.{parsed}
 use Rattle.input.specs.Worked.{said}
 use Rattle.lines.specs.Lines.{headText}
-use Rattle.listed.specs.Listing.{recordLine, resources, ruLines, staLineAt, staLines, listingOf, listing}
+use Rattle.listed.specs.Listing.{recordLine, resources, ruLines, staLineAt, staLines, stationsIn, listingOf, listing}
 use Rattle.listed.specs.Listing.{check23, listOutcome, listAnswer, listAfter, programText}
 use Rattle.listing.proofs.list.Reads as list
 use Rattle.listing.proofs.respond.Reads as respond
@@ -71,7 +71,7 @@ list-accepts bw a b room e = go (ltb room (length (listing bw a b))) refl
 -- ---- the k-th `ru=` line is the k-th record's, the i-th `sta=` line is the i-th User field's (`listed/proofs/Stations.antt`)
 pub listing-lines : (bw : ℕ) (a b : List ℕ)
     → listing bw a b
-    ≡ headText bw (length (resources (row bw a b))) (count bw 1 a) (count bw 2 b)
+    ≡ headText bw (length (resources (row bw a b))) (count bw 1 a) (count bw 2 b) (stationsIn bw a b (count bw 1 a) (count bw 1 a + count bw 2 b))
     ++ upto (λ k. recordLine (length (row bw a b)) (getD (resources (row bw a b)) k blank)) (length (resources (row bw a b)))
     ++ upto (staLineAt bw (row bw a b) a b (count bw 1 a)) (count bw 1 a + count bw 2 b)
 unfolding listing listingOf ruLines staLines

@@ -18,7 +18,7 @@ use Rattle.halves.specs.Table.{outcome11}
 use Rattle.halves.specs.Engine.{plannedOf}
 use Rattle.text.specs.Text.{upto}
 use Rattle.lines.specs.Lines.{ruLine, staLine, headText}
-use Rattle.listed.specs.Listing.{resources, staLines}
+use Rattle.listed.specs.Listing.{resources, staLines, stationsIn}
 
 -- what the first half tells, with another outcome
 abbrev pub withOutcome : Outcome → Planned → Planned
@@ -56,4 +56,6 @@ runsLines n rs = upto (λ i. runsLine n (getD rs i blank)) (length rs)
 -- of the row r, with m fields in channel 1 and k in channel 2
 unfoldable pub runsListing : ℕ → List ℕ → List ℕ → List ℕ → ℕ → ℕ → List ℕ
 runsListing bw r a b m k =
-    headText bw (length (resources r)) m k ++ runsLines (length r) (resources r) ++ staLines bw r a b m (m + k)
+    headText bw (length (resources r)) m k (stationsIn bw a b m (m + k))
+    ++ runsLines (length r) (resources r)
+    ++ staLines bw r a b m (m + k)

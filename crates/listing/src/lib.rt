@@ -3,6 +3,7 @@ use answer::Answer;
 use answer::Outcome;
 use halves::Planned;
 use input::Parsed;
+use lines::is_assigned;
 use lines::put_head;
 use lines::put_refusal;
 use lines::put_ru;
@@ -12,6 +13,8 @@ use resource::Tones;
 ghost use mathlib.Core.Path.{_≡_};
 ghost use Prim.Native.Nat.{_+_, _*_, _≤_, _<_};
 ghost use lib.ListN.{length, getD};
+ghost use Rattle.answer.specs.Tally.{tally};
+ghost use Rattle.stations.specs.Stations.{stationAt};
 ghost use Rattle.text.specs.Text.{Wrote, upto};
 ghost use Rattle.input.specs.Engine.{bytesAt, secondAt};
 ghost use Rattle.resource.specs.Values.{ownPieces};
@@ -20,6 +23,7 @@ ghost use Rattle.plan.specs.Engine.{kindsOf};
 ghost use Rattle.records.specs.Records.{pieceRecord, listAt};
 ghost use Rattle.records.specs.Engine.{numbersOf};
 ghost use Rattle.halves.specs.Table.{outcome11};
+ghost use Rattle.lines.specs.Lines.{assigned};
 ghost use Rattle.listing.specs.Engine.{Given, acceptedPlan, ownedLine, ownersIn, runsLine, runsLines, runsListing};
 ghost use Rattle.listed.specs.Longest.{longestAt};
 ghost use Rattle.listed.specs.Listing.{listedAt, resources, staLines, listing, listAnswer, listAfter, frameText, programText};
@@ -171,6 +175,22 @@ fn put_stations(
     put_owned(out, o, bw, b, row, kinds, before, 2, k)
 }
 
+// How many of a channel's n User fields are a station's.
+fn stations_in(bw: u32, s: &[u8], n: usize) -> usize
+    requires { ⌜ n ≤ 72 ⌝ }
+    ensures { λ r. ⌜ r ≡ tally (λ i. assigned (stationAt bw (now (s .entry)) i)) n ⌝ }
+    ensures bounded { λ r. ⌜ r ≤ n ⌝ }
+{
+    let mut stations: usize = 0;
+    let mut i: usize = 0;
+    while i < n {
+        let id = bits::field_at(s, channel::user_bit(bw, i), 11);
+        stations += is_assigned(id) as usize;
+        i += 1;
+    }
+    stations
+}
+
 // The listing of a frame whose row is given with its tables, with m fields in channel 1 and k in channel 2.
 fn put_tabled(
     out: &mut [u8],
@@ -187,7 +207,8 @@ fn put_tabled(
     ensures { λ r. ⌜ Wrote (now (out .entry)) 0 (runsListing bw (now (row .entry)) (now (a .entry)) (now (b .entry)) m k) (now (out .exit)) r ⌝ }
 {
     let resources = records::count_in(before, row) as usize;
-    let o = put_head(out, bw, resources, m, k);
+    let stations = stations_in(bw, a, m) + stations_in(bw, b, k);
+    let o = put_head(out, bw, resources, m, k, stations);
     let p = put_records(out, o, row, kinds);
     put_stations(out, p, bw, a, b, row, kinds, before, m, k)
 }
