@@ -5,3 +5,4 @@ pub mod Bench
 pub mod Channels
 pub mod Answers
 pub mod Formats
+pub mod Unassigned

@@ -5,3 +5,4 @@ pub mod Third
 pub mod Bench
 pub mod Rows
 pub mod Formats
+pub mod Unassigned

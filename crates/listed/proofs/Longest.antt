@@ -106,21 +106,23 @@ module _ (bw : ℕ) (r a b : List ℕ) where
       let n = length r in
       let few : n ≤ 16 = omega (arith, positions-le bw (omega arith)) in
       let stations = stationsIn bw a b first (first + second) in
-      let hd : length (headText bw (length (resources r)) first second stations) ≤ headMost (9 * n) (fieldsBefore 1 (λ p. 0) n) (fieldsBefore 2 (λ p. 0) n) =
-      head-most bw (length (resources r)) first second stations (9 * n) (fieldsBefore 1 (λ p. 0) n) (fieldsBefore 2 (λ p. 0) n) (omega arith)
+      let head-text = headText bw (length (resources r)) first second stations in
+      let ru-text = ruLines n (resources r) in
+      let sta-text = staLines bw r a b first (first + second) in
+      let most-1 = fieldsBefore 1 (λ p. 0) n in
+      let most-2 = fieldsBefore 2 (λ p. 0) n in
+      let hd : length head-text ≤ headMost (9 * n) most-1 most-2 =
+      head-most bw (length (resources r)) first second stations (9 * n) most-1 most-2 (omega arith)
       (records-most o (at r) n) (fields-zeros 1 (at r) n) (fields-zeros 2 (at r) n)
       (tally-le (λ i. assigned (stationOf bw a b first i)) (first + second)) (omega arith)
       (omega (arith, fields-nine 1 (λ p. 0) n)) (omega (arith, fields-nine 2 (λ p. 0) n)) in
-      let ru : length (ruLines n (resources r)) ≡ sumTo (λ p. sizes n (listAt (o p) (at r) p)) n = lines-sizes n (resources r) ∙ sizes-positions o (at r) n n in
+      let ru : length ru-text ≡ sumTo (λ p. sizes n (listAt (o p) (at r) p)) n = lines-sizes n (resources r) ∙ sizes-positions o (at r) n n in
       let all : sumTo (λ p. sizes n (listAt (o p) (at r) p)) n + sumTo (stas o (at r)) n ≤ sumTo (λ p. most n p 0) n =
       subst (λ (m : ℕ).
       Signals o (at r) 0 m → sumTo (λ p. sizes m (listAt (o p) (at r) p)) m + sumTo (stas o (at r)) m ≤ sumTo (λ p. most m p 0) m)
       (sym e) (positions-charge o (at r) bw h) s in
-      let both : length (listingOf bw r a b first second)
-      ≡ length (headText bw (length (resources r)) first second stations) + length (ruLines n (resources r)) + length (staLines bw r a b first (first + second)) =
-      length-append (headText bw (length (resources r)) first second stations ++ ruLines n (resources r)) (staLines bw r a b first (first + second))
-      ∙ ap (λ (m : ℕ). m + length (staLines bw r a b first (first + second)))
-      (length-append (headText bw (length (resources r)) first second stations) (ruLines n (resources r))) in
+      let both : length (listingOf bw r a b first second) ≡ length head-text + length ru-text + length sta-text =
+      length-append (head-text ++ ru-text) sta-text ∙ ap (λ (m : ℕ). m + length sta-text) (length-append head-text ru-text) in
       omega (arith, both, hd, ru, all, stations-most)
 
 -- ---- the listing of an accepted frame, at every bandwidth
