@@ -150,20 +150,11 @@ static void of_written_refusal(chance *c, uint32_t number)
         } while (should_be(k).number != number);
 }
 
-/* Every station 2046, which may repeat, so that there is nothing for the repeat check to find. */
+/* Every STA-ID 2047, which may repeat, so that there is nothing for the repeat check to find. */
 static void of_one_station(void)
 {
-    for (unsigned k = 0; k < used; k++) {
-        frame *f = &frames[k];
-        for (unsigned ch = 0; ch < 2; ch++) {
-            unsigned n = 0;
-            for (unsigned j = 0; j < subfields_of(f->bandwidth); j++)
-                n += fields_of(field_of(f->cc[ch], MOST_LENT, subfield_at(f->bandwidth, j), 9));
-            for (unsigned j = 0; j < n; j++)
-                put_field(f->cc[ch], MOST_LENT, user_field_at(f->bandwidth, j), 11, 2046);
-        }
-        mend_checks(f);
-    }
+    for (unsigned k = 0; k < used; k++)
+        put_stations(&frames[k], 3, 2047);
     complete();
 }
 

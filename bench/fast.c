@@ -813,13 +813,13 @@ static unsigned count_stations(const parsed *f)
 {
     unsigned n = 0;
     for (unsigned k = 0; k < f->total; k++)
-        n += (f->field[k] & 0x7FF) != 2046;
+        n += (f->field[k] & 0x7FF) != BRACHYMEL_UNASSIGNED;
     return n;
 }
 
 static char *put_station(char *t, unsigned id)
 {
-    return id == 2046 ? PUT(t, "sta=none") : put_number(PUT(t, "sta="), id);
+    return id == BRACHYMEL_UNASSIGNED ? PUT(t, "sta=none") : put_number(PUT(t, "sta="), id);
 }
 
 brachymel_answer NAME(list)(uint32_t bandwidth, const uint8_t *cc1, size_t cc1_len, const uint8_t *cc2, size_t cc2_len,

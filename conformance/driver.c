@@ -271,14 +271,7 @@ static void unassigned(chance *c)
     for (size_t k = 0; k < sizeof of / sizeof of[0]; k++)
         for (unsigned channels = 1; channels <= 3; channels++) {
             build_frame(c, of[k].bandwidth, of[k].row, &f);
-            for (unsigned ch = 0; ch < 2; ch++) {
-                unsigned n = 0;
-                for (unsigned p = ch; p < positions_of(of[k].bandwidth); p += 2)
-                    n += fields_of(of[k].row[p]);
-                for (unsigned j = 0; j < n && (channels >> ch & 1) != 0; j++)
-                    put_field(f.cc[ch], MOST_LENT, user_field_at(of[k].bandwidth, j), 11, BRACHYMEL_UNASSIGNED);
-            }
-            mend_checks(&f);
+            put_stations(&f, channels, BRACHYMEL_UNASSIGNED);
             call_read(c, &f, BRACHYMEL_WORDS_SIZE);
             call_list(c, &f, BRACHYMEL_LISTING_SIZE);
             call_list(c, &f, draw_listing_room(c, &f));

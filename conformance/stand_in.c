@@ -3,6 +3,8 @@
 #include "brachymel.h"
 #include "reference/reference.h"
 
+#include <string.h>
+
 #ifndef FAULT
 #define FAULT 0
 #endif
@@ -47,5 +49,8 @@ brachymel_answer brachymel_list(uint32_t bandwidth, const uint8_t *cc1, size_t c
     answer a = reference_list(bandwidth, cc1, cc1_len, cc2, cc2_len, text, text_len);
     if (FAULT == 8 && a.number == 0)
         text[a.place] = 0; /* a zero after the text */
+    for (uint64_t k = 0; FAULT == 9 && a.number == 0 && k + 8 <= a.place; k++)
+        if (memcmp(text + k, "sta=none", 8) == 0)
+            memcpy(text + k + 4, "2046", 4); /* a station that is nobody's */
     return as_answer(a);
 }

@@ -57,8 +57,8 @@ enum {
 };
 
 /* Sizes, in bytes, that always suffice. No smaller one does: 320 MHz with all values 0 needs each of the last three,
- * the listing where every STA-ID has four digits (or is none, in 44 lines at the most). A call with too little room is
- * refused with what it needs. */
+ * the listing where every STA-ID has four digits, at most 44 of them 2046. A call with too little room is refused with
+ * what it needs. */
 enum {
     BRACHYMEL_CHANNEL_LIMIT = 512,   /* a longer channel is refused */
     BRACHYMEL_WORDS_SIZE = 616,      /* 154 words: 10, and 144 User fields */

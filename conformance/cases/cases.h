@@ -34,6 +34,7 @@ typedef struct {
 void draw_good_frame(chance *c, frame *f);
 void build_frame(chance *c, unsigned bandwidth, const unsigned *row, frame *f);
 void mend_checks(frame *f);
+void put_stations(frame *f, unsigned channels, uint32_t id); /* and mends the checks */
 void draw_frame(chance *c, frame *f); /* good, damaged in one way or two, or of random bytes */
 size_t draw_words_room(chance *c, const frame *f);
 

@@ -44,6 +44,38 @@ void mend_checks(frame *f)
     }
 }
 
+/* This STA-ID in every User field of some channels: bit 0 is channel 1, bit 1 channel 2. */
+void put_stations(frame *f, unsigned channels, uint32_t id)
+{
+    for (unsigned ch = 0; ch < channels_of(f->bandwidth); ch++) {
+        unsigned n = fields_told(f, ch);
+        for (unsigned j = 0; j < n && (channels >> ch & 1) != 0; j++)
+            put_field(f->cc[ch], MOST_LENT, user_field_at(f->bandwidth, j), 11, id);
+    }
+    mend_checks(f);
+}
+
+/* Of one frame in six nobody has (02, T-01: STA-ID 2046) the fields of channel 1, of channel 2 or of both, or about half of
+ * them. Drawn apart, so that all else of a frame, and the next one, is what it would be. */
+static void unassign(const chance *c, frame *f)
+{
+    chance own = chance_from(c->state, 'u');
+    unsigned channels = (unsigned)below(&own, 4);
+    if (!one_in(&own, 6))
+        return;
+    if (channels != 0) {
+        put_stations(f, channels, 2046);
+        return;
+    }
+    for (unsigned ch = 0; ch < channels_of(f->bandwidth); ch++) {
+        unsigned n = fields_told(f, ch);
+        for (unsigned j = 0; j < n; j++)
+            if (one_in(&own, 2))
+                put_field(f->cc[ch], MOST_LENT, user_field_at(f->bandwidth, j), 11, 2046);
+    }
+    mend_checks(f);
+}
+
 /* A STA-ID that has not been drawn for this frame, or one of those that may repeat. */
 static uint32_t draw_station(chance *c, uint8_t used[2048])
 {
@@ -58,20 +90,7 @@ static uint32_t draw_station(chance *c, uint8_t used[2048])
     return id;
 }
 
-/* Fields that nobody has (02, T-01: STA-ID 2046): all of one channel's, all of the frame's, or about half. */
-static void unassign(chance *c, frame *f)
-{
-    unsigned which = (unsigned)below(c, 4);
-    for (unsigned ch = 0; ch < channels_of(f->bandwidth); ch++) {
-        unsigned n = fields_told(f, ch);
-        for (unsigned j = 0; j < n; j++)
-            if (which == ch || which == 2 || (which == 3 && one_in(c, 2)))
-                put_field(f->cc[ch], MOST_LENT, user_field_at(f->bandwidth, j), 11, 2046);
-    }
-}
-
-/* A frame of this row: random padding, overflow and User fields, checks right; of one in six, fields that
- * nobody has. */
+/* A frame of this row: random padding, overflow and User fields, checks right. */
 void build_frame(chance *c, unsigned bandwidth, const unsigned *row, frame *f)
 {
     uint8_t used[2048] = {0};
@@ -100,8 +119,6 @@ void build_frame(chance *c, unsigned bandwidth, const unsigned *row, frame *f)
     }
     if (bandwidth == 0)
         f->length[1] = 0;
-    if (one_in(c, 6))
-        unassign(c, f);
     mend_checks(f);
 }
 
@@ -115,6 +132,7 @@ void draw_good_frame(chance *c, frame *f)
     unsigned row[16], bandwidth = draw_bandwidth(c);
     draw_good_row(c, positions_of(bandwidth), row);
     build_frame(c, bandwidth, row, f);
+    unassign(c, f);
 }
 
 static void flip(frame *f, unsigned ch, uint64_t i)
@@ -199,6 +217,7 @@ void draw_frame(chance *c, frame *f)
     }
     draw_row(c, positions_of(bandwidth), row);
     build_frame(c, bandwidth, row, f);
+    unassign(c, f);
     if (one_in(c, 2))
         damage_frame(c, f);
     if (one_in(c, 12) && f->bandwidth <= 4)

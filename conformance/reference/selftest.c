@@ -322,7 +322,7 @@ static void worked_listing(void)
 static void unassigned(void)
 {
     static const unsigned row[2] = {50, 26}, shared[2] = {75, 75}, over[2] = {75, 76}, alone[1] = {64}, upper[2] = {26, 66};
-    static const uint32_t second[2] = {11, 2046}, beside[2] = {2045, 2047}, again[1] = {2046}, of_channel_2[3] = {2046, 7, 2046};
+    static const uint32_t second[2] = {11, 2046}, beside[2] = {2045, 2047}, of_channel_2[3] = {2046, 7, 2046};
     static const uint32_t none[9] = {2046, 2046, 2046, 2046, 2046, 2046, 2046, 2046, 2046};
     uint8_t cc[2][512];
     uint32_t words[154];
@@ -337,7 +337,7 @@ static void unassigned(void)
                "ru=106 index=1 segment=0 users=1 tones=-243:-138\n"
                "ru=106+26 index=2 segment=0 users=1 tones=-136:-111,-109:-4\n"
                "sta=2045 resource=1\nsta=2047 resource=2\n", "2045 and 2047 are stations");
-    listing_is(0, alone, again,
+    listing_is(0, alone, none,
                "answer=0\nbw=0\nresources=1\nfields1=1\nfields2=0\nstations=0\n"
                "ru=242 index=1 segment=0 users=1 tones=-122:-2,2:122\nsta=none resource=1\n", "20 MHz, nobody at all");
     listing_is(1, upper, of_channel_2,
