@@ -9,6 +9,7 @@ use Rattle.answer.specs.declared.Answer.{Answer}
 use Rattle.reader.proofs.read.Reads as read
 use Rattle.writer.proofs.write.Reads as write
 use Rattle.listing.proofs.list.Reads as list
+use Rattle.listing.proofs.respond.Reads as respond
 use Rattle.brachymel.proofs.brachymel_read.Reads as c-read
 use Rattle.brachymel.proofs.brachymel_write.Reads as c-write
 use Rattle.brachymel.proofs.brachymel_list.Reads as c-list
@@ -31,6 +32,13 @@ pub record WriteCall : Type 0 where
   pub answer : Answer
   pub after-1 : List ℕ
   pub after-2 : List ℕ
+
+-- a call of the program's text: its input, the lent buffer, and then how many bytes the text has and what the buffer holds
+pub record TextCall : Type 0 where
+  pub text : List ℕ
+  pub lent : List ℕ
+  pub bytes : ℕ
+  pub after : List ℕ
 
 abbrev call : ℕ → List ℕ → List ℕ → List ℕ → Answer → List ℕ → Call
 call bw a b d r e = record { bandwidth = bw; channel-1 = a; channel-2 = b; lent = d; answer = r; after = e }
@@ -55,6 +63,11 @@ pub data Lists : Call → Type 0 where
 pub data Writes : WriteCall → Type 0 where
   writes : (κs : _) (a : _) (r : _) (s : _) → write.Post κs a r s
       → Writes (write-call (a .0) (now (a .1 .0)) (now (a .1 .1 .0)) (now (a .1 .1 .1 .0)) r (now (s .1 .1 .0)) (now (s .1 .1 .1 .0)))
+
+-- `listing::respond`, with lent bytes
+pub data Responds : TextCall → Type 0 where
+  responds : (κs : _) (a : _) (r : _) (s : _) → respond.Post κs a r s
+      → Responds (record { text = now (a .0); lent = now (a .1 .0); bytes = r; after = now (s .1 .0) })
 
 -- from C: `brachymel_read`, `brachymel_list` and `brachymel_write`, with lent bytes and the words as bytes
 pub data C-reads : Call → Type 0 where

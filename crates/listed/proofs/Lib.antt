@@ -5,3 +5,4 @@ pub mod Lengths
 pub mod Charged
 pub mod Longest
 pub mod Attained
+pub mod Example

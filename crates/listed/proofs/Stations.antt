@@ -6,7 +6,7 @@ use mathlib.Core.Bool.{Bool, true, false, not, cond}
 use mathlib.Core.List.{List}
 use Prim.Native.Nat.{ℕ, _+_, _-_, _*_, _/_, _%_, _≤_, _<_}
 use native.Mathlib.Omega.{arith}
-use borrow.Author.Tests.{ltb-true, ltb-false, eqb-true, eqb-false}
+use borrow.Author.Tests.{ltb-true, ltb-false}
 use lib.Dec.{ltb, eqb}
 use lib.ListN.{length}
 use Rattle.answer.specs.declared.Outcome.the-variants.{Pass}
@@ -19,7 +19,7 @@ use Rattle.words.specs.Engine.{fieldIn, userField}
 use Rattle.channel.specs.Layout.{row, count, userAt}
 use Rattle.stations.specs.Stations.{stationAt, stationOf}
 use Rattle.plan.specs.Worked.{thePlan}
-use Rattle.plan.proofs.Tests.{Tested}
+use Rattle.plan.proofs.Tests.{Tested, eqb-decides, move}
 use Rattle.records.specs.Owns.{fieldsBefore}
 use Rattle.records.specs.Worked.{Worked, theOwner}
 use Rattle.records.proofs.Shares.{counts-of}
@@ -85,6 +85,10 @@ module _ (bw : ℕ) (a b : List ℕ) where
           said-11 _ b (userAt bw j)
           (ap (λ (x : ℕ). userField (at (wordsOf bw a b) x)) n ∙ user-back-2 bw a b j (omega (arith, fields-words bw a b)))
 
+not-tested : (t : Bool) (A : Type 0) → Tested t A → Tested (not t) (A → ⊥)
+not-tested true A p = λ h. h p
+not-tested false A p = p
+
 -- ---- "sta= lines follow the User words"
 
 owner-is : (r : List ℕ) (m i : ℕ) → ownerIn r m i ≡ theOwner r (channelAt m i) (placeIn m i)
@@ -119,8 +123,8 @@ module _ (bw : ℕ) (a b : List ℕ) (e : outcome11 bw a b ≡ Pass) where
       let s = word-station bw a b i l in
       let n = ownerIn the-row first i + 1 in
       record {
-        number-line = λ h. rw s (number-line (stationOf bw a b first i) n (λ z. h (s ∙ z)));
         none-line = λ h. none-line (stationOf bw a b first i) n (sym s ∙ h);
+        number-line = λ h. rw s (number-line (stationOf bw a b first i) n (λ z. h (s ∙ z)));
         only-none = λ h. s ∙ only-none (stationOf bw a b first i) n (h .0) (h .1);
         listed = rw o (w .listed);
         owns = rw o (w .owns);
@@ -128,32 +132,27 @@ module _ (bw : ℕ) (a b : List ℕ) (e : outcome11 bw a b ≡ Pass) where
       }
 
   -- ---- 02, T-01: "stations= leaves it out"
-  is-station : (i : ℕ) → i < length (wordsOf bw a b) - 10 → Tested (assigned (stationOf bw a b first i)) (wordStation (wordsOf bw a b) i ≢ 2046)
-  is-station i l = rw (word-station bw a b i l) (go (eqb (stationOf bw a b first i) 2046) refl)
-    where
-      go : (t : Bool) → eqb (stationOf bw a b first i) 2046 ≡ t → Tested (not t) (stationOf bw a b first i ≢ 2046)
-      go true f = λ h. h (eqb-true (stationOf bw a b first i) 2046 f)
-      go false f = eqb-false (stationOf bw a b first i) 2046 f
+  abbrev id : ℕ → ℕ
+  id i = stationOf bw a b first i
 
-  says-none : (i : ℕ) → Tested (not (assigned (stationOf bw a b first i))) (SaysNone (staLineAt bw the-row a b first i))
+  is-station : (i : ℕ) → i < length (wordsOf bw a b) - 10 → Tested (assigned (id i)) (wordStation (wordsOf bw a b) i ≢ 2046)
+  is-station i l = rw (word-station bw a b i l) (not-tested (eqb (id i) 2046) (id i ≡ 2046) (eqb-decides (id i) 2046))
+
+  says-none : (i : ℕ) → Tested (eqb (id i) 2046) (SaysNone (staLineAt bw the-row a b first i))
   unfolding staLineAt
-  says-none i = go (eqb (stationOf bw a b first i) 2046) refl
-    where
-      n : ℕ
-      n = ownerIn the-row first i + 1
-
-      go : (t : Bool) → eqb (stationOf bw a b first i) 2046 ≡ t → Tested (not (not t)) (SaysNone (staLine (stationOf bw a b first i) n))
-      go true f = (line (codes "resource=") n, none-line (stationOf bw a b first i) n (eqb-true (stationOf bw a b first i) 2046 f))
-      go false f = λ h. eqb-false (stationOf bw a b first i) 2046 f (only-none (stationOf bw a b first i) n (h .0) (h .1))
+  says-none i =
+      let n = ownerIn the-row first i + 1 in
+      move (eqb (id i) 2046) (id i ≡ 2046) (SaysNone (staLine (id i) n))
+      (λ e. (line (codes "resource=") n, none-line (id i) n e)) (λ h. only-none (id i) n (h .0) (h .1)) (eqb-decides (id i) 2046)
 
   pub counted : Counted bw a b the-row first (count bw 2 b)
   unfolding stationsIn
   counted =
-      let t : ℕ → Bool = λ i. assigned (stationOf bw a b first i) in
       let k = first + count bw 2 b in
       record {
-        stations = rw (fields-words bw a b) (counts-of (λ i. wordStation (wordsOf bw a b) i ≢ 2046) t (length (wordsOf bw a b) - 10) is-station);
-        nones = tally (λ i. not (t i)) k;
-        none-lines = counts-of (λ i. SaysNone (staLineAt bw the-row a b first i)) (λ i. not (t i)) k (λ i l. says-none i);
-        all-fields = tally-both t k;
+        stations = rw (fields-words bw a b)
+            (counts-of (λ i. wordStation (wordsOf bw a b) i ≢ 2046) (λ i. assigned (id i)) (length (wordsOf bw a b) - 10) is-station);
+        nones = tally (λ i. eqb (id i) 2046) k;
+        none-lines = counts-of (λ i. SaysNone (staLineAt bw the-row a b first i)) (λ i. eqb (id i) 2046) k (λ i l. says-none i);
+        all-fields = omega (arith, tally-both (λ i. eqb (id i) 2046) k);
       }

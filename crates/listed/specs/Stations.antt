@@ -32,13 +32,13 @@ SaysNone t = (rest : List ℕ) × (t ≡ codes "sta=none " ++ rest)
 
 -- the i-th `sta=` line is that of the i-th User word
 pub record Station (bw : ℕ) (a b r : List ℕ) (m i : ℕ) : Type 0 where
-  -- it says the word's STA-ID, and a resource's number, from 1
-  pub number-line : wordStation (wordsOf bw a b) i ≢ 2046
-      → staLineAt bw r a b m i ≡ keyed (codes "sta=") (wordStation (wordsOf bw a b) i) ++ line (codes " resource=") (ownerIn r m i + 1)
-  -- "its line has none for the number, resource= staying"
+  -- "its line has none for the number, resource= staying": a resource's number, from 1
   pub none-line : wordStation (wordsOf bw a b) i ≡ 2046
       → staLineAt bw r a b m i ≡ line (codes "sta=none resource=") (ownerIn r m i + 1)
-  -- and no other line has
+  -- any other says the word's STA-ID
+  pub number-line : wordStation (wordsOf bw a b) i ≢ 2046
+      → staLineAt bw r a b m i ≡ keyed (codes "sta=") (wordStation (wordsOf bw a b) i) ++ line (codes " resource=") (ownerIn r m i + 1)
+  -- and never none
   pub only-none : SaysNone (staLineAt bw r a b m i) → wordStation (wordsOf bw a b) i ≡ 2046
   -- the resource has a `ru=` line
   pub listed : ownerIn r m i < length (resources r)

@@ -8,8 +8,8 @@ use native.Mathlib.Omega.{arith}
 use borrow.Author.Tests.{lt-ltb, le-ltb, ltb-true, ltb-false}
 use denote.Ref.{now}
 use lib.Dec.{ltb}
-use lib.ListN.{length, take, getD}
-use lib.Seq.{take-all, length-take-le}
+use lib.ListN.{length, take, drop, getD}
+use lib.Seq.{take-all, length-take-le, take-append-seam}
 use Rattle.answer.specs.Answer.{_or_}
 use Rattle.answer.proofs.Order.{after-kept}
 use Rattle.answer.specs.declared.Answer.{Answer}
@@ -44,6 +44,12 @@ respond-agrees κs a r r' s s' p q = (p .next ∙ sym (q .next), p .bytes ∙ sy
 pub list-kept : (bw : ℕ) (a b d : List ℕ) → (listAnswer bw a b (length d) .number ≡ 0 → ⊥) → listAfter bw a b d ≡ d
 unfolding listAnswer listAfter
 list-kept bw a b d h = after-kept (listOutcome bw a b (length d)) (length (listing bw a b)) _ d h
+
+-- accepted, the text stands at the front of the buffer
+pub list-text : (bw : ℕ) (a b d : List ℕ) → listOutcome bw a b (length d) ≡ Pass
+    → take (listAnswer bw a b (length d) .place) (listAfter bw a b d) ≡ listing bw a b
+unfolding listAnswer listAfter
+list-text bw a b d e = rw e (take-append-seam (listing bw a b) (drop (length (listing bw a b)) d))
 
 -- ---- 1 to 11 as the reader: `list` refuses with one of them exactly when `read` with room for 154 words does
 pub read-refuses : (bw : ℕ) (a b : List ℕ) (x : Answer) → outcome11 bw a b ≡ Refuse x → readAnswer bw a b 154 ≡ x

@@ -1,23 +1,22 @@
 -- "22 is first of all and 23 last": a listing's answer is one by the rows 1 to 11 and 23.
-use mathlib.Core.Path.{_≡_, refl, sym, _∙_, ap}
+use mathlib.Core.Path.{_≡_, refl, _∙_, ap}
 use mathlib.Core.Bool.{true}
 use mathlib.Core.List.{List, [], _∷_}
 use Prim.Native.Nat.{ℕ}
 use lib.Dec.{ltb}
-use lib.ListN.{length, take, drop}
-use lib.Seq.{take-append-seam}
+use lib.ListN.{length}
 use denote.Ref.{now}
 use Rattle.answer.specs.Answer.{_or_}
 use Rattle.answer.specs.Order.{firstOf, Judged}
 use Rattle.answer.specs.declared.Answer.{Answer}
 use Rattle.answer.specs.declared.Outcome.{Outcome}
 use Rattle.answer.specs.declared.Outcome.the-variants.{Pass}
-use Rattle.answer.proofs.Numbers.{Only, only-if, distinct, absent, judged}
-use Rattle.answer.proofs.First.{first-append, pass-first}
+use Rattle.answer.proofs.Numbers.{Only, only-if, distinct, absent, zero-pass, judged}
+use Rattle.answer.proofs.First.{first-append}
 use Rattle.answer.proofs.Order.{or-end}
 use Rattle.halves.specs.Table.{checks11, outcome11}
 use Rattle.halves.proofs.Exactly.{checks11-then}
-use Rattle.listed.specs.Listing.{listing, check23, listOutcome, listAnswer, listAfter, listNumbers, listChecks}
+use Rattle.listed.specs.Listing.{listing, check23, listOutcome, listAnswer, listNumbers, listChecks}
 use Rattle.listing.proofs.Facts.{list-kept}
 use Rattle.listing.proofs.list.Reads as list
 
@@ -40,16 +39,13 @@ unfolding listAnswer
 list-judged bw a b room =
     rw (listable-rows bw a b room) at (judged (checks11-then bw a b (only-23 bw a b room)) numbers-distinct (length (listing bw a b)))
 
+-- the answer has number 0 exactly when no row applies
+pub accepted-exactly : (bw : ℕ) (a b : List ℕ) (room : ℕ) → listAnswer bw a b room .number ≡ 0 → listOutcome bw a b room ≡ Pass
+unfolding listAnswer
+accepted-exactly bw a b room =
+    rw (listable-rows bw a b room) at (zero-pass (checks11-then bw a b (only-23 bw a b room)) numbers-distinct (length (listing bw a b)))
+
 -- "Every refusal writes nothing", of what `list` allows
 pub list-keeps : (κs : _) (a : _) (r : _) (s : _) → list.Post κs a r s → (r .number ≡ 0 → ⊥) → now (s .1 .1 .1 .0) ≡ now (a .1 .1 .1 .0)
 list-keeps κs a r s p n =
     p .1 ∙ list-kept (a .0) (now (a .1 .0)) (now (a .1 .1 .0)) (now (a .1 .1 .1 .0)) (λ e. n (ap (λ (z : Answer). z .number) (p .0) ∙ e))
-
--- ---- an accepted call: every row passes, and the text stands at the front of the buffer
-pub list-passed : (bw : ℕ) (a b : List ℕ) (room : ℕ) → listAnswer bw a b room .number ≡ 0 → listOutcome bw a b room ≡ Pass
-list-passed bw a b room e = sym (listable-rows bw a b room) ∙ pass-first (listChecks bw a b room) (λ k l. list-judged bw a b room .accepted e .1 k)
-
-pub list-text : (bw : ℕ) (a b d : List ℕ) → listAnswer bw a b (length d) .number ≡ 0
-    → take (listAnswer bw a b (length d) .place) (listAfter bw a b d) ≡ listing bw a b
-unfolding listAnswer listAfter
-list-text bw a b d e = rw (list-passed bw a b (length d) e) (take-append-seam (listing bw a b) (drop (length (listing bw a b)) d))

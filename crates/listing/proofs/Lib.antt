@@ -4,5 +4,4 @@ pub mod Halves
 pub mod Channels
 pub mod Outcome
 pub mod Facts
-pub mod Example
 pub mod Judged

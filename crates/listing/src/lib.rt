@@ -132,7 +132,7 @@ fn put_channel(out: &mut [u8], at: usize, bw: u32, s: &[u8], owners: &[u16; 72],
     o
 }
 
-// The same by the row's tables, of channel 0 or 1. One without fields asks for no owners.
+// The same by the row's tables, of channel 1 or 2. One without fields asks for no owners.
 fn put_owned(
     out: &mut [u8],
     at: usize,

@@ -1,4 +1,4 @@
--- `lines::is_assigned` meets its contract.
+-- `lines::is_assigned` meets its contract. Written out, though `search` finds it, so that an edit is refused here.
 use mathlib.Core.Path.{refl}
 use Rattle.lines.proofs.is_assigned.Statement.{statement}
 use Rattle.lines.proofs.is_assigned.Tie as tie

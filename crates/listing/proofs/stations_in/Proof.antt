@@ -6,9 +6,8 @@ use mathlib.Core.Bool.{Bool, true, false, cond}
 use Prim.Native.Nat.{ℕ, _+_, _-_, _≤_}
 use mir.Val.{boolByte}
 use Rattle.answer.specs.Tally.{tally}
-use Rattle.answer.proofs.Tally.{tally-le, tally-step}
+use Rattle.answer.proofs.Tally.{tally-step}
 use Rattle.bits.specs.Bits.{field}
-use Rattle.channel.specs.Layout.{userAt}
 use Rattle.stations.specs.Stations.{stationAt}
 use Rattle.lines.specs.Lines.{assigned}
 use Rattle.listing.proofs.stations_in.Statement.{statement}
