@@ -85,6 +85,7 @@ module _ (bw : ℕ) (a b : List ℕ) where
           said-11 _ b (userAt bw j)
           (ap (λ (x : ℕ). userField (at (wordsOf bw a b) x)) n ∙ user-back-2 bw a b j (omega (arith, fields-words bw a b)))
 
+-- a test that decides a fact, turned round, decides its denial
 not-tested : (t : Bool) (A : Type 0) → Tested t A → Tested (not t) (A → ⊥)
 not-tested true A p = λ h. h p
 not-tested false A p = p
@@ -107,6 +108,9 @@ module _ (bw : ℕ) (a b : List ℕ) (e : outcome11 bw a b ≡ Pass) where
   abbrev first : ℕ
   first = count bw 1 a
 
+  abbrev id : ℕ → ℕ
+  id i = stationOf bw a b first i
+
   owner : (i : ℕ) → i < length (wordsOf bw a b) - 10 → Worked (thePlan the-row) the-row (channelAt first i) (placeIn first i)
   owner i l = worked (thePlan the-row) the-row (accepted-signals bw a b e) (channelAt first i) (placeIn first i) (go (ltb i first) refl)
     where
@@ -123,18 +127,15 @@ module _ (bw : ℕ) (a b : List ℕ) (e : outcome11 bw a b ≡ Pass) where
       let s = word-station bw a b i l in
       let n = ownerIn the-row first i + 1 in
       record {
-        none-line = λ h. none-line (stationOf bw a b first i) n (sym s ∙ h);
-        number-line = λ h. rw s (number-line (stationOf bw a b first i) n (λ z. h (s ∙ z)));
-        only-none = λ h. s ∙ only-none (stationOf bw a b first i) n (h .0) (h .1);
+        none-line = λ h. none-line (id i) n (sym s ∙ h);
+        number-line = λ h. rw s (number-line (id i) n (λ z. h (s ∙ z)));
+        only-none = λ h. s ∙ only-none (id i) n (h .0) (h .1);
         listed = rw o (w .listed);
         owns = rw o (w .owns);
         only-owner = λ x h. w .only x h ∙ sym o;
       }
 
   -- ---- 02, T-01: "stations= leaves it out"
-  abbrev id : ℕ → ℕ
-  id i = stationOf bw a b first i
-
   is-station : (i : ℕ) → i < length (wordsOf bw a b) - 10 → Tested (assigned (id i)) (wordStation (wordsOf bw a b) i ≢ 2046)
   is-station i l = rw (word-station bw a b i l) (not-tested (eqb (id i) 2046) (id i ≡ 2046) (eqb-decides (id i) 2046))
 
