@@ -66,8 +66,8 @@ enum {
     BRACHYMEL_LISTING_SIZE = 10131   /* a listing: proved to be the longest */
 };
 
-/* The STA-ID (bits 8 to 18) of a User word whose resource nobody has. Such a field is read and written as any other and
- * is one of the eight that a resource may have; a listing does not count it as a station. */
+/* The STA-ID (bits 8 to 18) of a User word whose resource nobody has. Such a field is read and written as any other, though
+ * its other bits mean nothing, and is one of the eight that a resource may have; a listing does not count it as a station. */
 enum { BRACHYMEL_UNASSIGNED = 2046 };
 
 /* Reads two channels into words. Refusals 1 to 12. Only whole words of the buffer count. */

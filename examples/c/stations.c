@@ -28,11 +28,11 @@ static uint32_t word_at(const uint8_t *words, uint64_t k)
 static void print_station(uint32_t word)
 {
     unsigned id = word >> 8 & 0x7FF;
-    if (id == BRACHYMEL_UNASSIGNED) /* a resource that nobody has */
-        printf("station none: ");
-    else
-        printf("station %u: ", id);
-    printf("MCS %u, coding %u, ", (unsigned)(word >> 20 & 0xF), (unsigned)(word >> 19 & 1));
+    if (id == BRACHYMEL_UNASSIGNED) { /* a resource that nobody has: the rest of its field is arbitrary */
+        printf("station none\n");
+        return;
+    }
+    printf("station %u: MCS %u, coding %u, ", id, (unsigned)(word >> 20 & 0xF), (unsigned)(word >> 19 & 1));
     if (word & 0x40) /* on a resource that it shares */
         printf("spatial configuration %u\n", (unsigned)(word >> 24 & 0x3F));
     else
