@@ -39,7 +39,7 @@ unfolding listAnswer
 list-judged bw a b room =
     rw (listable-rows bw a b room) at (judged (checks11-then bw a b (only-23 bw a b room)) numbers-distinct (length (listing bw a b)))
 
--- the answer has number 0 exactly when no row applies
+-- number 0 is given only where every row passes
 pub accepted-exactly : (bw : ℕ) (a b : List ℕ) (room : ℕ) → listAnswer bw a b room .number ≡ 0 → listOutcome bw a b room ≡ Pass
 unfolding listAnswer
 accepted-exactly bw a b room =
