@@ -5,11 +5,6 @@
 
 #include <string.h>
 
-static unsigned channels_of(unsigned bandwidth)
-{
-    return bandwidth == 0 ? 1 : 2;
-}
-
 /* The User fields that a channel's own values tell of, whatever their layout. */
 static unsigned fields_told(const frame *f, unsigned ch)
 {

@@ -9,19 +9,19 @@ enum { SPATIAL_REUSE = 0, GI_LTF = 4, LTF_SYMBOLS = 6, LDPC_EXTRA = 9, PRE_FEC =
        DISREGARD = 13, OVERFLOW_BITS = 17 };
 
 /* "At 20 MHz channel 2 is lent empty and only 2 looks at it." */
-static unsigned channels_of(unsigned bandwidth)
+unsigned channels_of(unsigned bandwidth)
 {
     return bandwidth == 0 ? 1 : 2;
 }
 
 /* "First RU Allocation subfields, 9 bits each: one at 20 and 40 MHz, two from 80 up." */
-static unsigned first_subfields(unsigned bandwidth)
+unsigned first_subfields(unsigned bandwidth)
 {
     return bandwidth < 2 ? 1 : 2;
 }
 
 /* "At 160 two more subfields, at 320 six more, then check 4, tail 6." */
-static unsigned further_subfields(unsigned bandwidth)
+unsigned further_subfields(unsigned bandwidth)
 {
     return bandwidth == 3 ? 2 : bandwidth == 4 ? 6 : 0;
 }
@@ -32,12 +32,12 @@ unsigned subfields_of(unsigned bandwidth)
 }
 
 /* Where the first check stands, and where the second does. */
-static unsigned first_check_at(unsigned bandwidth)
+unsigned first_check_at(unsigned bandwidth)
 {
     return OVERFLOW_BITS + 9 * first_subfields(bandwidth);
 }
 
-static unsigned second_check_at(unsigned bandwidth)
+unsigned second_check_at(unsigned bandwidth)
 {
     return first_check_at(bandwidth) + 10 + 9 * further_subfields(bandwidth);
 }
@@ -88,12 +88,12 @@ static answer check_2(unsigned bandwidth, const channel *ch)
     return answer_of(0, 0, 0);
 }
 
-/* 3: "common field cut short | channel, bits lent". */
+/* 3: "common field cut short", with 02's place (T-03): "the first bit of the field that didn't fit". */
 static answer check_3(unsigned bandwidth, const channel *ch)
 {
     for (unsigned c = 0; c < channels_of(bandwidth); c++)
         if (bits_lacking(ch[c].bytes, ch[c].length, 0, common_bits(bandwidth)) != 0)
-            return answer_of(3, c + 1, 8 * (uint64_t)ch[c].length);
+            return answer_of(3, c + 1, first_that_lacks(bandwidth, 0, ch[c].bytes, ch[c].length));
     return answer_of(0, 0, 0);
 }
 
@@ -135,12 +135,12 @@ static answer check_6(unsigned bandwidth, const channel *ch)
     return answer_of(0, 0, 0);
 }
 
-/* 9: "User blocks cut short | channel, bits lent". */
+/* 9: "User blocks cut short", with 02's place (T-03): "the first bit of the field that didn't fit". */
 static answer check_9(unsigned bandwidth, const channel *ch, const layout *l)
 {
     for (unsigned c = 0; c < channels_of(bandwidth); c++)
         if (bits_lacking(ch[c].bytes, ch[c].length, 0, end_of_channel(bandwidth, l->fields[c])) != 0)
-            return answer_of(9, c + 1, 8 * (uint64_t)ch[c].length);
+            return answer_of(9, c + 1, first_that_lacks(bandwidth, l->fields[c], ch[c].bytes, ch[c].length));
     return answer_of(0, 0, 0);
 }
 

@@ -85,6 +85,18 @@ unsigned punctured_tones(unsigned position, unsigned positions, run runs[MOST_RU
 size_t tones_text(const record *r, unsigned positions, char *text);
 extern const char *const name_of_size[];
 
+/* fields.c: the layout of a channel, field by field. */
+
+/* A field that 01's layout names: an overflow field, an RU Allocation subfield, a check, a tail or a User
+ * field. Its first bit, and how many bits it has. */
+typedef struct {
+    unsigned at, width;
+} named_field;
+
+#define MOST_NAMED 163 /* 7 of the overflow, 8 subfields, 72 User fields; check and tail of 2 and 36 blocks */
+unsigned named_fields(unsigned bandwidth, unsigned users, named_field field[MOST_NAMED]);
+uint64_t first_that_lacks(unsigned bandwidth, unsigned users, const uint8_t *bytes, size_t length);
+
 /* reader.c */
 #define MOST_WORDS 154 /* "At most 16 positions of 9 fields: 154 words" */
 
@@ -96,8 +108,13 @@ typedef struct {
     uint32_t word[MOST_WORDS];
 } reading;
 
+unsigned channels_of(unsigned bandwidth);
 unsigned common_bits(unsigned bandwidth);
+unsigned first_subfields(unsigned bandwidth);
+unsigned further_subfields(unsigned bandwidth);
 unsigned subfields_of(unsigned bandwidth);
+unsigned first_check_at(unsigned bandwidth);
+unsigned second_check_at(unsigned bandwidth);
 unsigned subfield_at(unsigned bandwidth, unsigned k);
 unsigned user_field_at(unsigned bandwidth, unsigned j);
 unsigned end_of_channel(unsigned bandwidth, unsigned fields);

@@ -238,7 +238,7 @@ static void example(void)
     expect(got[0] == 0xA5A5A5A5, "a refusal writes nothing");
     answer_is(reference_read(3, channel_1_mended, 23, channel_2, 23, got, 14), 12, 0, 15, "004 with too few words");
     answer_is(reference_read(3, channel_1_mended, 14, channel_2, 23, got, 16), 0, 0, 15, "004 without its padding");
-    answer_is(reference_read(3, channel_1_mended, 14, channel_2, 22, got, 16), 9, 2, 176, "004 cut short");
+    answer_is(reference_read(3, channel_1_mended, 14, channel_2, 22, got, 16), 9, 2, 175, "004 cut short");
     memset(cc1, 0xA5, sizeof cc1);
     memset(cc2, 0xA5, sizeof cc2);
     answer_is(reference_write(3, words, 15, cc1, 24, cc2, 24), 0, 0, 23, "004's words are written");
@@ -356,6 +356,157 @@ static void unassigned(void)
     expect((words[10] >> 8 & 0x7FF) == 2046 && (words[17] >> 8 & 0x7FF) == 2046, "the words say 2046");
 }
 
+/* The list of named fields is this one. */
+static void fields_are(unsigned bandwidth, unsigned users, const named_field *written, size_t count, const char *what)
+{
+    named_field field[MOST_NAMED];
+    int same = named_fields(bandwidth, users, field) == count;
+    for (size_t k = 0; k < count && same; k++)
+        same = field[k].at == written[k].at && field[k].width == written[k].width;
+    expect(same, what);
+}
+
+/* "Layout of a channel", added up by hand. */
+static void written_fields(void)
+{
+    static const named_field
+        one_at_20[] = {{0, 4}, {4, 2}, {6, 3}, {9, 1}, {10, 2}, {12, 1}, {13, 4}, {17, 9}, {26, 4}, {30, 6},
+                       {36, 22}, {58, 4}, {62, 6}},
+        two_at_40[] = {{0, 4}, {4, 2}, {6, 3}, {9, 1}, {10, 2}, {12, 1}, {13, 4}, {17, 9}, {26, 4}, {30, 6},
+                       {36, 22}, {58, 22}, {80, 4}, {84, 6}},
+        none_at_80[] = {{0, 4}, {4, 2}, {6, 3}, {9, 1}, {10, 2}, {12, 1}, {13, 4}, {17, 9}, {26, 9}, {35, 4}, {39, 6}},
+        three_at_160[] = {{0, 4}, {4, 2}, {6, 3}, {9, 1}, {10, 2}, {12, 1}, {13, 4}, {17, 9}, {26, 9}, {35, 4}, {39, 6},
+                          {45, 9}, {54, 9}, {63, 4}, {67, 6}, {73, 22}, {95, 22}, {117, 4}, {121, 6}, {127, 22},
+                          {149, 4}, {153, 6}},
+        one_at_320[] = {{0, 4}, {4, 2}, {6, 3}, {9, 1}, {10, 2}, {12, 1}, {13, 4}, {17, 9}, {26, 9}, {35, 4}, {39, 6},
+                        {45, 9}, {54, 9}, {63, 9}, {72, 9}, {81, 9}, {90, 9}, {99, 4}, {103, 6}, {109, 22}, {131, 4},
+                        {135, 6}};
+    fields_are(0, 1, one_at_20, 13, "20 MHz, one User field: the named fields");
+    fields_are(1, 2, two_at_40, 14, "40 MHz, two User fields: the named fields");
+    fields_are(2, 0, none_at_80, 11, "80 MHz, no User field: the named fields");
+    fields_are(3, 3, three_at_160, 22, "160 MHz, three User fields: the named fields");
+    fields_are(4, 1, one_at_320, 22, "320 MHz, one User field: the named fields");
+}
+
+static int is_named(const named_field *field, unsigned count, unsigned at, unsigned width)
+{
+    for (unsigned k = 0; k < count; k++)
+        if (field[k].at == at && field[k].width == width)
+            return 1;
+    return 0;
+}
+
+static int check_is_named(const named_field *field, unsigned count, unsigned at)
+{
+    return is_named(field, count, at, 4) && is_named(field, count, at + 4, 6);
+}
+
+/* Each field starts where the one before it ends, the first at 0; the last ends where the padding starts. */
+static int fields_tile(unsigned bandwidth, unsigned users)
+{
+    named_field field[MOST_NAMED];
+    unsigned count = named_fields(bandwidth, users, field), end = 0;
+    for (unsigned k = 0; k < count; k++) {
+        if (field[k].at != end || field[k].width == 0)
+            return 0;
+        end += field[k].width;
+    }
+    return end == end_of_channel(bandwidth, users);
+}
+
+/* What the reader reads and checks is on the list: subfields, User fields, and each check with its tail. */
+static int what_is_read_is_named(unsigned bandwidth, unsigned users)
+{
+    named_field field[MOST_NAMED];
+    unsigned count = named_fields(bandwidth, users, field);
+    int named = check_is_named(field, count, first_check_at(bandwidth));
+    if (further_subfields(bandwidth) != 0)
+        named = named && check_is_named(field, count, second_check_at(bandwidth));
+    for (unsigned k = 0; k < subfields_of(bandwidth); k++)
+        named = named && is_named(field, count, subfield_at(bandwidth, k), 9);
+    for (unsigned j = 0; j < users; j++)
+        named = named && is_named(field, count, user_field_at(bandwidth, j), 22);
+    for (unsigned j = 0; j < users; j += 2)
+        named = named && check_is_named(field, count, user_field_at(bandwidth, j) + (j + 1 < users ? 44 : 22));
+    return named;
+}
+
+static void every_field(void)
+{
+    for (unsigned bandwidth = 0; bandwidth <= 4; bandwidth++) {
+        int tile = 1, named = 1;
+        for (unsigned users = 0; users <= 72; users++) {
+            tile = tile && fields_tile(bandwidth, users);
+            named = named && what_is_read_is_named(bandwidth, users);
+        }
+        expect(tile, "the named fields leave no gap and do not overlap, up to the padding");
+        expect(named, "what is read and checked is a named field");
+    }
+}
+
+/* A frame of this row, its channels cut to so many bytes. */
+static void cut_is(unsigned bandwidth, const unsigned *row, size_t bytes_1, size_t bytes_2, uint32_t number,
+                   uint32_t channel, uint64_t place)
+{
+    uint8_t cc[2][512];
+    uint32_t words[154];
+    char what[80];
+    frame(bandwidth, row, NULL, cc);
+    sprintf(what, "code %u, cut to %u and %u bytes: %u %u %u", bandwidth, (unsigned)bytes_1, (unsigned)bytes_2,
+            (unsigned)number, (unsigned)channel, (unsigned)place);
+    answer_is(reference_read(bandwidth, cc[0], bytes_1, cc[1], bytes_2, words, 154), number, channel, place, what);
+}
+
+/* 02, T-03: "3 and 9 now give as place the first bit of the field that didn't fit, meaning the smallest named in
+ * document 01's layout, a User field being one." Places by length in bytes, counted out by hand. */
+static void cut(void)
+{
+    static const unsigned r_25[1] = {25}, r_48_25[2] = {48, 25}, r_80[4] = {64, 26, 26, 25},
+        r_160[8] = {26, 97, 29, 29, 120, 29, 28, 50}, zeros[16] = {0};
+    static const unsigned
+        three_at_20[16] = {0, 6, 13, 17, 30, 36, 36, 36, 58, 58, 80, 84, 90, 90, 112, 116},
+        two_at_40[12] = {0, 6, 13, 17, 30, 36, 36, 36, 58, 58, 80, 84},
+        three_at_40[16] = {0, 6, 13, 17, 30, 36, 36, 36, 58, 58, 80, 84, 90, 90, 112, 116},
+        one_at_80[10] = {0, 6, 13, 17, 26, 39, 45, 45, 45, 71},
+        three_at_80[17] = {0, 6, 13, 17, 26, 39, 45, 45, 45, 67, 67, 67, 93, 99, 99, 99, 125},
+        one_at_160[14] = {0, 6, 13, 17, 26, 39, 45, 54, 63, 67, 73, 73, 95, 99},
+        four_at_160[23] = {0, 6, 13, 17, 26, 39, 45, 54, 63, 67, 73, 73, 95, 95, 95, 117, 127, 127, 127, 149, 149, 149,
+                           175},
+        many_at_320[18] = {0, 6, 13, 17, 26, 39, 45, 54, 63, 72, 72, 81, 90, 103, 109, 109, 109, 131};
+    for (unsigned n = 0; n < 16; n++)
+        cut_is(0, r_25, n, 0, n < 5 ? 3 : 9, 1, three_at_20[n]);
+    for (unsigned n = 0; n < 12; n++)
+        cut_is(1, r_48_25, n, 16, n < 5 ? 3 : 9, 1, two_at_40[n]);
+    for (unsigned n = 0; n < 16; n++)
+        cut_is(1, r_48_25, 12, n, n < 5 ? 3 : 9, 2, three_at_40[n]);
+    for (unsigned n = 0; n < 10; n++)
+        cut_is(2, r_80, n, 17, n < 6 ? 3 : 9, 1, one_at_80[n]);
+    for (unsigned n = 0; n < 17; n++)
+        cut_is(2, r_80, 10, n, n < 6 ? 3 : 9, 2, three_at_80[n]);
+    for (unsigned n = 0; n < 14; n++)
+        cut_is(3, r_160, n, 23, n < 10 ? 3 : 9, 1, one_at_160[n]);
+    for (unsigned n = 0; n < 23; n++)
+        cut_is(3, r_160, 14, n, n < 10 ? 3 : 9, 2, four_at_160[n]);
+    for (unsigned n = 0; n < 18; n++) {
+        cut_is(4, zeros, n, 257, n < 14 ? 3 : 9, 1, many_at_320[n]);
+        cut_is(4, zeros, 257, n, n < 14 ? 3 : 9, 2, many_at_320[n]);
+    }
+    /* the last block at 320 MHz: User fields at 1999 and 2021, check at 2043, tail at 2047, padding at 2053 */
+    cut_is(4, zeros, 249, 257, 9, 1, 1989);
+    cut_is(4, zeros, 250, 257, 9, 1, 1999);
+    cut_is(4, zeros, 253, 257, 9, 1, 2021);
+    cut_is(4, zeros, 257, 255, 9, 2, 2021);
+    cut_is(4, zeros, 257, 256, 9, 2, 2047);
+    /* "inside one, channel 1 first", and 3 before 9 */
+    cut_is(1, r_48_25, 4, 0, 3, 1, 30);
+    cut_is(1, r_48_25, 11, 5, 9, 1, 84);
+    cut_is(1, r_48_25, 11, 4, 3, 2, 30);
+    /* whole: the last byte has the last bit of the last tail */
+    cut_is(0, r_25, 16, 0, 0, 0, 13);
+    cut_is(1, r_48_25, 12, 16, 0, 0, 15);
+    cut_is(4, zeros, 257, 257, 0, 0, 154);
+}
+
 static void text_is(const char *text, const char *expected)
 {
     static char out[MOST_LISTING];
@@ -405,7 +556,7 @@ static void answers(void)
     answer_is(reference_read(4, large, 513, large, 513, words, 0), 2, 1, 0, "channel 1 over 512 bytes");
     answer_is(reference_read(4, NULL, 0, large, 513, words, 0), 2, 2, 0, "2 in channel 2 before 3 in channel 1");
     answer_is(reference_read(0, NULL, 0, large, 1, words, 0), 2, 2, 0, "channel 2 at 20 MHz");
-    answer_is(reference_read(1, large, 5, large, 4, words, 0), 3, 2, 32, "3 in channel 2 before 4 in channel 1");
+    answer_is(reference_read(1, large, 5, large, 4, words, 0), 3, 2, 30, "3 in channel 2 before 4 in channel 1");
     answer_is(reference_read(1, large, 5, large, 5, words, 0), 4, 1, 26, "the check of zeros is not zero");
     bytes = frame(4, zeros, NULL, cc);
     expect(bytes == 257, "320, all 0: 257 bytes");
@@ -457,6 +608,9 @@ int self_test(void)
     example();
     worked_listing();
     unassigned();
+    written_fields();
+    every_field();
+    cut();
     texts();
     answers();
     printf("reference: held to the papers\n%d passed, %d failed\n", passed, failed);
