@@ -21,6 +21,13 @@ void draw_good_row(chance *c, unsigned positions, unsigned *row);
 void damage_row(chance *c, unsigned positions, unsigned *row);
 void draw_row(chance *c, unsigned positions, unsigned *row); /* mostly good */
 
+typedef struct {
+    unsigned bandwidth, row[16];
+} cut_row;
+
+#define CUT_ROWS 25
+extern const cut_row cut_rows[CUT_ROWS]; /* good ones, whose channels are cut to every length */
+
 /* frames.c: a pair of channels. */
 #define MOST_LENT 640
 
@@ -34,6 +41,7 @@ typedef struct {
 void draw_good_frame(chance *c, frame *f);
 void build_frame(chance *c, unsigned bandwidth, const unsigned *row, frame *f);
 void mend_checks(frame *f);
+size_t bytes_told(const frame *f, unsigned ch); /* up to the padding */
 void put_stations(frame *f, unsigned channels, uint32_t id); /* and mends the checks */
 void draw_frame(chance *c, frame *f); /* good, damaged in one way or two, or of random bytes */
 size_t draw_words_room(chance *c, const frame *f);

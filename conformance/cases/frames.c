@@ -14,6 +14,12 @@ static unsigned fields_told(const frame *f, unsigned ch)
     return n > MOST_FIELDS / 2 ? MOST_FIELDS / 2 : n;
 }
 
+/* The bytes that hold a channel up to its padding. */
+size_t bytes_told(const frame *f, unsigned ch)
+{
+    return (end_of_channel(f->bandwidth, fields_told(f, ch)) + 7) / 8;
+}
+
 static void mend_block(uint8_t *s, unsigned at, unsigned covered)
 {
     put_field(s, MOST_LENT, at + covered, 4, check_of(s, MOST_LENT, at, covered));
@@ -106,7 +112,7 @@ void build_frame(chance *c, unsigned bandwidth, const unsigned *row, frame *f)
         for (unsigned j = 0; j < n; j++)
             put_field(f->cc[ch], MOST_LENT, user_field_at(bandwidth, j), 11, draw_station(c, used));
         f->fields += n;
-        f->length[ch] = (end_of_channel(bandwidth, n) + 7) / 8;
+        f->length[ch] = bytes_told(f, ch);
         if (one_in(c, 3))
             f->length[ch] += (size_t)below(c, 513 - f->length[ch]);
         else if (one_in(c, 3))

@@ -25,6 +25,7 @@ void print_value(chance *c, unsigned long k);
 void print_row(chance *c, unsigned long k);
 void print_walk(chance *c, unsigned long k);
 void print_read(chance *c, unsigned long k);
+void print_cut(chance *c, unsigned long k);
 void print_write(chance *c, unsigned long k);
 void print_list(chance *c, unsigned long k);
 void print_text(chance *c, unsigned long k);

@@ -1,6 +1,18 @@
 /* Rows, built forward from the owners of their positions. */
 #include "cases.h"
 
+/* Of each bandwidth two rows of few User fields, in odd numbers and even; from 40 MHz on, one of a pair has larger
+ * resources. Then rows of none and of many. A row's places that are left out are 0. */
+const cut_row cut_rows[CUT_ROWS] = {
+    {0, {25}}, {0, {48}}, {1, {48, 25}}, {1, {73, 72}}, {2, {25, 64, 64, 50}}, {2, {26, 97, 96, 29}},
+    {3, {26, 97, 29, 29, 120, 29, 28, 50}}, {3, {64, 25, 26, 27, 26, 27, 64, 27}},
+    {4, {25, 26, 26, 26, 26, 26, 26, 26, 26, 26, 26, 26, 26, 26, 26, 50}},
+    {4, {80, 30, 30, 30, 30, 80, 30, 30, 30, 30, 30, 81, 30, 30, 30, 30}},
+    {0, {26}}, {0, {64}}, {0, {71}}, {0, {0}}, {1, {26, 27}}, {1, {75, 75}}, {1, {0, 1}},
+    {2, {26, 27, 28, 26}}, {2, {83, 83, 30, 30}}, {2, {1}}, {3, {30, 30, 30, 30, 29, 29, 26, 28}}, {3, {0, 1}},
+    {4, {30, 30, 30, 30, 30, 30, 30, 30, 29, 29, 29, 29, 26, 27, 28, 26}}, {4, {1}}, {4, {0}},
+};
+
 /* A value for a position given to itself. 48 and 50 are left out where they may not stand. */
 static unsigned draw_own_value(chance *c, unsigned p, unsigned n)
 {

@@ -1,4 +1,4 @@
-/* Cases of rows, frames, words and texts: the letters v r w R W L T. */
+/* Cases of rows, frames, words and texts: the letters v r w R s W L T. */
 #include "print.h"
 
 #include "../reference/reference.h"
@@ -52,6 +52,27 @@ void print_read(chance *c, unsigned long k)
     (void)k;
     draw_frame(c, &f);
     print_frame('R', &f, draw_words_room(c, &f));
+}
+
+/* A frame of each row to cut, in turn: channel 1 at every length from 0 up to the whole one, then channel 2, the
+ * other channel whole. After the last row the first again, its frame drawn anew. */
+void print_cut(chance *c, unsigned long k)
+{
+    chance own = *c; /* so that every k counts through the same frames */
+    frame f;
+    for (unsigned n = 0;; n = (n + 1) % CUT_ROWS) {
+        build_frame(&own, cut_rows[n].bandwidth, cut_rows[n].row, &f);
+        for (unsigned ch = 0; ch < channels_of(f.bandwidth); ch++)
+            f.length[ch] = bytes_told(&f, ch);
+        for (unsigned ch = 0; ch < channels_of(f.bandwidth); ch++) {
+            if (k <= f.length[ch]) {
+                f.length[ch] = k;
+                print_frame('R', &f, 10 + f.fields);
+                return;
+            }
+            k -= f.length[ch] + 1;
+        }
+    }
 }
 
 void print_list(chance *c, unsigned long k)
