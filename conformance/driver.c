@@ -1,10 +1,10 @@
 /* driver SEED COUNT: holds the C entries of libbrachymel.a to the reference.
  *
- * Draws COUNT calls from the seed, and then calls over every length from 0, and compares with the reference
- * the answer and every byte that was lent, and those around it. Each buffer lies against a page that cannot
- * be touched, before it or after it, or at an odd address between bytes that must stay as they are; an empty
- * one is NULL now and then. What the buffers held before is a pattern that changes from call to call.
- * Every answer number has to be met. The last line is 'N passed, M failed'.
+ * Makes calls over every length from 0 and every bit, and then COUNT calls drawn from the seed, and compares
+ * with the reference the answer and every byte that was lent, and those around it. Each buffer lies against a
+ * page that cannot be touched, before it or after it, or at an odd address between bytes that must stay as they
+ * are; an empty one is NULL now and then. What the buffers held before is a pattern that changes from call to
+ * call. Every answer number has to be met. The last line is 'N passed, M failed'.
  */
 #define _DEFAULT_SOURCE
 #include "brachymel.h"
@@ -175,6 +175,47 @@ static void any_call(chance *c)
     }
 }
 
+static size_t any_room(chance *c, size_t enough)
+{
+    return one_in(c, 2) ? enough : (size_t)below(c, enough);
+}
+
+/* Two bytes past the last block of these channels (bit 0: channel 1, bit 1: channel 2). */
+static size_t past_the_last(const frame *f, unsigned channels)
+{
+    size_t last = 0;
+    for (unsigned ch = 0; ch < channels_of(f->bandwidth); ch++)
+        if ((channels >> ch & 1) != 0 && bytes_told(f, ch) > last)
+            last = bytes_told(f, ch);
+    return last + 2;
+}
+
+/* These channels at every length from 0 on, the other as it is: read up to so many bytes, and listed to just past the last
+ * block. A channel that is cut short gets its answer whatever the room. */
+static void cut(chance *c, frame f, unsigned channels, size_t longest)
+{
+    size_t listed = past_the_last(&f, channels);
+    for (size_t n = 0; n <= longest; n++) {
+        for (unsigned ch = 0; ch < 2; ch++)
+            if ((channels >> ch & 1) != 0)
+                f.length[ch] = n;
+        call_read(c, &f, any_room(c, BRACHYMEL_WORDS_SIZE));
+        if (n <= listed)
+            call_list(c, &f, any_room(c, BRACHYMEL_LISTING_SIZE));
+    }
+}
+
+/* Channel 1, channel 2 and both cut short (02, T-03), with no User field, few and many, in odd numbers and even. */
+static void every_cut(chance *c)
+{
+    static frame f;
+    for (unsigned k = 0; k < CUT_ROWS; k++) {
+        build_frame(c, cut_rows[k].bandwidth, cut_rows[k].row, &f);
+        for (unsigned channels = 1; channels < 1u << channels_of(f.bandwidth); channels++)
+            cut(c, f, channels, past_the_last(&f, channels));
+    }
+}
+
 /* A good frame of each bandwidth, every length of either channel and every room. */
 static void every_length(chance *c, unsigned bandwidth)
 {
@@ -182,7 +223,7 @@ static void every_length(chance *c, unsigned bandwidth)
     static words_case w;
     uint8_t words[BRACHYMEL_WORDS_SIZE];
     unsigned row[16];
-    size_t whole[2], bytes;
+    size_t bytes;
     answer a;
     do {
         draw_good_row(c, positions_of(bandwidth), row);
@@ -192,15 +233,8 @@ static void every_length(chance *c, unsigned bandwidth)
     bytes = 4 * (size_t)a.place;
     for (size_t n = 0; n <= bytes + 8; n++)
         call_read(c, &f, n);
-    whole[0] = f.length[0];
-    whole[1] = f.length[1];
-    for (unsigned ch = 0; ch < 2; ch++) {
-        for (size_t n = 0; n <= 520; n++) {
-            f.length[ch] = n;
-            call_read(c, &f, bytes);
-        }
-        f.length[ch] = whole[ch];
-    }
+    cut(c, f, 1, 520);
+    cut(c, f, 2, 520);
     a = reference_list(bandwidth, f.cc[0], f.length[0], f.cc[1], f.length[1], expected(&other), 12000);
     for (size_t n = 0; n <= a.place + 2; n += n + 200 < a.place ? 1 + (size_t)below(c, 60) : 1)
         call_list(c, &f, n);
@@ -364,11 +398,12 @@ int main(int argc, char **argv)
     c = chance_from(seed, 'C');
     largest(&c);
     unassigned(&c);
+    every_cut(&c);
     for (unsigned bandwidth = 0; bandwidth <= 4; bandwidth++) {
         every_length(&c, bandwidth);
         every_bit(&c, bandwidth);
     }
-    while (calls < count)
+    for (unsigned long n = 0; n < count; n++)
         any_call(&c);
     missing = not_met();
     printf("%lu passed, %lu failed\n", calls - wrong, wrong + missing);
