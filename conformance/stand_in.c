@@ -15,6 +15,35 @@ static brachymel_answer as_answer(answer a)
     return b;
 }
 
+static unsigned users_told(unsigned bandwidth, const uint8_t *s, size_t length)
+{
+    unsigned n = 0;
+    for (unsigned k = 0; k < subfields_of(bandwidth); k++)
+        n += fields_of(field_of(s, length, subfield_at(bandwidth, k), 9));
+    return n;
+}
+
+/* Of a channel that is cut short, a place that is not 02's (T-03). */
+static uint64_t other_place(answer a, unsigned bandwidth, const uint8_t *s, size_t length)
+{
+    named_field field[MOST_NAMED];
+    unsigned k = 0;
+    named_fields(bandwidth, a.number == 9 ? users_told(bandwidth, s, length) : 0, field);
+    while (field[k].at != a.place)
+        k++;
+    if (FAULT == 10)
+        return 8 * (uint64_t)length; /* 01's: the bits lent */
+    if (FAULT == 11 && field[k].width == 22 && field[k - 1].width == 22)
+        return field[k - 1].at; /* the block's first bit, not the User field's */
+    if (FAULT == 12 && field[k].width == 6)
+        return field[k - 1].at; /* check and tail as one field */
+    if (FAULT == 13)
+        return field[k].at + field[k].width; /* one field late */
+    if (FAULT == 14 && field[k].at < 17)
+        return 0; /* the overflow as one field */
+    return a.place;
+}
+
 brachymel_answer brachymel_read(uint32_t bandwidth, const uint8_t *cc1, size_t cc1_len, const uint8_t *cc2, size_t cc2_len,
                                 uint8_t *words, size_t words_len)
 {
@@ -29,6 +58,8 @@ brachymel_answer brachymel_read(uint32_t bandwidth, const uint8_t *cc1, size_t c
         a.place = *(const volatile uint8_t *)(cc1 + cc1_len) ? 0 : 8; /* reads past the end */
     if (FAULT == 5 && a.number == 2)
         a.number = 3;
+    if (FAULT >= 10 && FAULT <= 14 && (a.number == 3 || a.number == 9))
+        a.place = a.channel == 1 ? other_place(a, bandwidth, cc1, cc1_len) : other_place(a, bandwidth, cc2, cc2_len);
     return as_answer(a);
 }
 
@@ -52,5 +83,7 @@ brachymel_answer brachymel_list(uint32_t bandwidth, const uint8_t *cc1, size_t c
     for (uint64_t k = 0; FAULT == 9 && a.number == 0 && k + 8 <= a.place; k++)
         if (memcmp(text + k, "sta=none", 8) == 0)
             memcpy(text + k + 4, "2046", 4); /* a station that is nobody's */
+    if (FAULT == 15 && a.number == 9)
+        a.place = 8 * (uint64_t)(a.channel == 1 ? cc1_len : cc2_len); /* the reader's place alone is 02's */
     return as_answer(a);
 }
