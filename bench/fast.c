@@ -300,6 +300,32 @@ static inline unsigned end_of(unsigned bandwidth, unsigned n)
     return common_of[bandwidth] + n / 2 * 54 + n % 2 * 32;
 }
 
+/* Where bit n is missing: the first bit of the named field that has it. Called on refusal only. */
+static __attribute__((noinline)) unsigned cut_common(unsigned bandwidth, unsigned n)
+{
+    static const uint8_t overflow[17] = {0, 0, 0, 0, 4, 4, 6, 6, 6, 9, 10, 10, 12, 13, 13, 13, 13};
+    unsigned first = first_bits[bandwidth], further = first + 10, second = further + further_bits[bandwidth];
+    if (n < 17)
+        return overflow[n];
+    if (n < first)
+        return 17 + (n - 17) / 9 * 9;
+    if (n < further)
+        return n < first + 4 ? first : first + 4;
+    if (n < second)
+        return further + (n - further) / 9 * 9;
+    return n < second + 4 ? second : second + 4;
+}
+
+/* The same of a channel's User blocks; the last of an odd number of fields has one. */
+static __attribute__((noinline)) unsigned cut_users(unsigned bandwidth, unsigned fields, unsigned n)
+{
+    unsigned block = (n - common_of[bandwidth]) / 54, at = common_of[bandwidth] + block * 54;
+    unsigned sent = at + (block < fields / 2 ? 44 : 22);
+    if (n < sent)
+        return at + (n - at) / 22 * 22;
+    return n < sent + 4 ? sent : sent + 4;
+}
+
 /* A STA-ID from 1 to 2006 that was there before: the number of the later field, or total. */
 static unsigned repeated(const uint32_t *field, unsigned total, unsigned shift)
 {
@@ -338,7 +364,7 @@ static brachymel_answer parse(uint32_t bandwidth, const uint8_t *cc1, size_t cc1
         return say(2, 2, 0);
     for (unsigned c = 0; c < channels; c++)
         if (8 * len[c] < common)
-            return say(3, c + 1, 8 * len[c]);
+            return say(3, c + 1, cut_common(bandwidth, (unsigned)(8 * len[c])));
     f->second_check = 0;
     for (unsigned c = 0; c < channels; c++) {
         w[c] = window(cc[c], len[c], 0);
@@ -379,7 +405,7 @@ static brachymel_answer parse(uint32_t bandwidth, const uint8_t *cc1, size_t cc1
         return a;
     for (unsigned c = 0; c < channels; c++)
         if (8 * len[c] < end_of(bandwidth, l->n[c]))
-            return say(9, c + 1, 8 * len[c]);
+            return say(9, c + 1, cut_users(bandwidth, l->n[c], (unsigned)(8 * len[c])));
     f->total = 0;
     for (unsigned c = 0; c < channels; c++) {
         unsigned at = common, j = 0;
