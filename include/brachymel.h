@@ -29,7 +29,10 @@ extern "C" {
 
 /* What comes back. Number 0 is an acceptance, any other the refusal of that number: the first that applies, in
  * the order of the numbers. Channel is 1 or 2, or 0 where none is named. Bits count from 0 in their channel,
- * and 20 MHz positions are grouped in segments of 80 MHz, which count from 0. */
+ * and 20 MHz positions are grouped in segments of 80 MHz, which count from 0. Of a channel that is cut short,
+ * the field that did not fit is the one that the first missing bit belongs to. Fields are the seven of the
+ * overflow (Spatial Reuse 4 bits, GI+LTF 2, LTF symbols 3, LDPC extra 1, Pre-FEC 2, PE Disambiguity 1, Disregard
+ * 4), each RU Allocation subfield (9), each check (4), each tail (6) and each User field (22). */
 typedef struct {
     uint32_t number;
     uint32_t channel;
@@ -40,13 +43,13 @@ enum {
     BRACHYMEL_ACCEPTED = 0,          /* 0, what was written: words (read), bytes per channel (write), bytes (list) */
     BRACHYMEL_BANDWIDTH = 1,         /* bandwidth code above 4: 0, 0 */
     BRACHYMEL_CHANNEL_LENGTH = 2,    /* a channel over 512 bytes, or channel 2 not empty at 20 MHz: that channel, 0 */
-    BRACHYMEL_COMMON_SHORT = 3,      /* common field cut short: channel, bits lent */
+    BRACHYMEL_COMMON_SHORT = 3,      /* common field cut short: channel, first bit of the field that did not fit */
     BRACHYMEL_COMMON_CHECK = 4,      /* common check or tail wrong: channel, first check bit */
     BRACHYMEL_OVERFLOW = 5,          /* channel 1's LTF symbols 5 to 7: 1, 6; else the channels' overflows differ: 2, lowest differing bit */
     BRACHYMEL_VALUE = 6,             /* RU Allocation value not carried: channel, its first bit */
     BRACHYMEL_NO_PLAN = 7,           /* the row has no layout: 0, lowest such segment */
     BRACHYMEL_TOO_MANY_FIELDS = 8,   /* a resource has over eight User fields: 0, lowest such segment */
-    BRACHYMEL_USER_SHORT = 9,        /* User blocks cut short: channel, bits lent */
+    BRACHYMEL_USER_SHORT = 9,        /* User blocks cut short: channel, first bit of the field that did not fit */
     BRACHYMEL_USER_CHECK = 10,       /* User check or tail wrong: channel, first check bit */
     BRACHYMEL_STATION_TWICE = 11,    /* a STA-ID from 1 to 2006 seen before: channel, first bit of the later field */
     BRACHYMEL_WORDS_ROOM = 12,       /* read: fewer words lent than needed: 0, words needed */
