@@ -17,6 +17,8 @@ use Rattle.channel.proofs.user_bit.Reads as user-bit
 use Rattle.channel.proofs.block_bit.Reads as block-bit
 use Rattle.channel.proofs.covered_bits.Reads as covered-bits
 use Rattle.channel.proofs.end_bit.Reads as end-bit
+use Rattle.channel.proofs.named_fields.Reads as named-fields
+use Rattle.channel.proofs.named_width.Reads as named-width
 
 pub is-present-agrees : Agrees is-present.Post
 is-present-agrees κs a r r' s s' p q = p ∙ sym q
@@ -65,3 +67,9 @@ covered-bits-agrees κs a r r' s s' p q = p .0 ∙ sym (q .0)
 
 pub end-bit-agrees : Agrees end-bit.Post
 end-bit-agrees κs a r r' s s' p q = p .0 ∙ sym (q .0)
+
+pub named-fields-agrees : Agrees named-fields.Post
+named-fields-agrees κs a r r' s s' p q = p .0 ∙ sym (q .0)
+
+pub named-width-agrees : Agrees named-width.Post
+named-width-agrees κs a r r' s s' p q = p .0 ∙ sym (q .0)

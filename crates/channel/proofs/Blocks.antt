@@ -29,11 +29,11 @@ pub block-after : (bw b : ℕ) → common bw ≤ blockAt bw b
 unfolding blockAt
 block-after bw b = omega arith
 
-covered-two : (n b : ℕ) → 2 * b + 1 < n → covered n b ≡ 44
+pub covered-two : (n b : ℕ) → 2 * b + 1 < n → covered n b ≡ 44
 unfolding covered
 covered-two n b h = rw (lt-ltb (2 * b + 1) n h)
 
-covered-one : (n b : ℕ) → n ≤ 2 * b + 1 → covered n b ≡ 22
+pub covered-one : (n b : ℕ) → n ≤ 2 * b + 1 → covered n b ≡ 22
 unfolding covered
 covered-one n b h = rw (le-ltb (2 * b + 1) n h)
 

@@ -5,3 +5,5 @@ pub mod Counts
 pub mod Blocks
 pub mod Tables
 pub mod Values
+pub mod Fields
+pub mod Widths
