@@ -4,9 +4,10 @@ use mathlib.Core.Bool.{Bool, true, false, cond}
 use mathlib.Core.List.{List, [], _∷_}
 use Prim.Native.Nat.{ℕ, _+_, _-_, _*_, _/_, _%_, _^_}
 use lib.Dec.{eqb}
+use Rattle.channel.specs.Fields.{overflowWidths}
 use Rattle.words.specs.Pack.{pack, unpack}
 use Rattle.answer.specs.Lists.{at}
-use Rattle.words.specs.Words.{overflowWidths, data0Widths, aloneWidths, aloneWordWidths, sharedWidths, sharedWordWidths}
+use Rattle.words.specs.Words.{data0Widths, aloneWidths, aloneWordWidths, sharedWidths, sharedWordWidths}
 
 -- the GI+LTF that gives a GI and an LTF size; pairs that none gives have one too, and do not read back
 abbrev pub giLtf : ℕ → ℕ → ℕ
