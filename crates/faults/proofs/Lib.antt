@@ -1,3 +1,4 @@
 pub mod Agree
 pub mod Passing
 pub mod Padding
+pub mod RanOut

@@ -11,9 +11,10 @@ use borrow.Author.Tests.{lt-ltb, le-ltb, ltb-true, ltb-false, not-false}
 use Rattle.answer.specs.Answer as A
 use Rattle.answer.specs.Answer.{refuseIf}
 use Rattle.answer.specs.Least.{least}
-use Rattle.answer.specs.declared.Outcome.the-variants.{Pass}
+use Rattle.answer.specs.declared.Answer.{Answer}
+use Rattle.answer.specs.declared.Outcome.the-variants.{Pass, Refuse}
 use Rattle.answer.proofs.Numbers.{Only, only-if, only-or}
-use Rattle.answer.proofs.Order.{pass-left, pass-right, or-pass, pass-if, if-pass}
+use Rattle.answer.proofs.Order.{pass-left, pass-right, or-pass, pass-if, if-pass, refuse-if}
 use Rattle.answer.proofs.Least.{least-none, least-all, least-le}
 use Rattle.bits.specs.Bits.{differs}
 use Rattle.bits.proofs.Differs.{differ-nowhere, nowhere-same, differs-from-0}
@@ -22,8 +23,10 @@ use Rattle.block.proofs.Checks.{right-says, says-right}
 use Rattle.resource.specs.Values.{carried}
 use Rattle.channel.specs.Layout.{present, overflow, ltfSymbols, firstBits, secondAt, secondBits, hasSecond, common}
 use Rattle.channel.specs.Layout.{subfieldsIn, valueAt, value, count, blockAt, blocks, covered, endOf}
+use Rattle.channel.specs.Fields.{namedFields}
 use Rattle.channel.proofs.Blocks.{end-none}
-use Rattle.faults.specs.Checks.{lent, tooLong, cutCommon, wrongFirst, wrongSecond, wrongCommon, overflowDiffers, uncarried}
+use Rattle.faults.specs.RanOut.{ranOutAt}
+use Rattle.faults.specs.Checks.{tooLong, cutCommon, wrongFirst, wrongSecond, wrongCommon, overflowDiffers, uncarried}
 use Rattle.faults.specs.Checks.{firstUncarried, notCarried, cutUsers, wrongBlock, firstWrong, wrongUsersOf, wrongUsers}
 
 -- ---- tests
@@ -43,6 +46,10 @@ neither false u e = (refl, e)
 
 both : (t u : Bool) → t ≡ true → u ≡ true → t && u ≡ true
 both t u p q = rw (p, q)
+
+of-both : (t u : Bool) → t && u ≡ true → (t ≡ true) × (u ≡ true)
+of-both true u e = (refl, e)
+of-both false u e = absurd (let z : _≡_ {A = ℕ} 0 1 = cc in omega arith)
 
 not-of : (t : Bool) → t ≡ true → not t ≡ false
 not-of t e = rw e
@@ -96,9 +103,23 @@ unfolding cutCommon
 pass-cutCommon bw c s h =
     if-pass _ _ (guard (present bw c) (ltb (8 * length s) (common bw)) (λ p. le-ltb (8 * length s) (common bw) (h p)))
 
+-- what a refusal says, and what suffices for it
+pub cutCommon-refuse : (bw c : ℕ) (s : List ℕ) → present bw c ≡ true → 8 * length s < common bw
+    → cutCommon bw c s ≡ Refuse (A.no 3 c (ranOutAt s (namedFields bw 0)))
+unfolding cutCommon
+cutCommon-refuse bw c s p l = rw (p, lt-ltb (8 * length s) (common bw) l) refl
+
+pub refuse-cutCommon : (bw c : ℕ) (s : List ℕ) (x : Answer) → cutCommon bw c s ≡ Refuse x
+    → (present bw c ≡ true) × (8 * length s < common bw) × (x ≡ A.no 3 c (ranOutAt s (namedFields bw 0)))
+unfolding cutCommon
+refuse-cutCommon bw c s x e =
+    let r = refuse-if (present bw c && ltb (8 * length s) (common bw)) (A.no 3 c (ranOutAt s (namedFields bw 0))) x e in
+    let b = of-both (present bw c) (ltb (8 * length s) (common bw)) (r .0) in
+    (b .0, ltb-true (8 * length s) (common bw) (b .1), sym (r .1))
+
 pub cutCommon-only : (bw c : ℕ) (s : List ℕ) → Only 3 (cutCommon bw c s)
 unfolding cutCommon
-cutCommon-only bw c s = only-if (present bw c && ltb (8 * length s) (common bw)) 3 c (lent s)
+cutCommon-only bw c s = only-if (present bw c && ltb (8 * length s) (common bw)) 3 c (ranOutAt s (namedFields bw 0))
 
 -- ---- 4
 
@@ -197,9 +218,23 @@ unfolding cutUsers
 pass-cutUsers bw c s h =
     if-pass _ _ (guard (ltb 0 (count bw c s)) _ (λ p. le-ltb (8 * length s) (endOf bw (count bw c s)) (h (ltb-true 0 (count bw c s) p))))
 
+pub cutUsers-refuse : (bw c : ℕ) (s : List ℕ) → 0 < count bw c s → 8 * length s < endOf bw (count bw c s)
+    → cutUsers bw c s ≡ Refuse (A.no 9 c (ranOutAt s (namedFields bw (count bw c s))))
+unfolding cutUsers
+cutUsers-refuse bw c s h l = rw (lt-ltb 0 (count bw c s) h, lt-ltb (8 * length s) (endOf bw (count bw c s)) l) refl
+
+pub refuse-cutUsers : (bw c : ℕ) (s : List ℕ) (x : Answer) → cutUsers bw c s ≡ Refuse x
+    → (0 < count bw c s) × (8 * length s < endOf bw (count bw c s)) × (x ≡ A.no 9 c (ranOutAt s (namedFields bw (count bw c s))))
+unfolding cutUsers
+refuse-cutUsers bw c s x e =
+    let n = count bw c s in
+    let r = refuse-if (ltb 0 n && ltb (8 * length s) (endOf bw n)) (A.no 9 c (ranOutAt s (namedFields bw n))) x e in
+    let b = of-both (ltb 0 n) (ltb (8 * length s) (endOf bw n)) (r .0) in
+    (ltb-true 0 n (b .0), ltb-true (8 * length s) (endOf bw n) (b .1), sym (r .1))
+
 pub cutUsers-only : (bw c : ℕ) (s : List ℕ) → Only 9 (cutUsers bw c s)
 unfolding cutUsers
-cutUsers-only bw c s = only-if (ltb 0 (count bw c s) && ltb (8 * length s) (endOf bw (count bw c s))) 9 c (lent s)
+cutUsers-only bw c s = only-if (ltb 0 (count bw c s) && ltb (8 * length s) (endOf bw (count bw c s))) 9 c (ranOutAt s (namedFields bw (count bw c s)))
 
 -- with 3: a channel that is there reaches its end, fields or none
 pub reaches : (bw c : ℕ) (s : List ℕ) → present bw c ≡ true → cutCommon bw c s ≡ Pass → cutUsers bw c s ≡ Pass → endOf bw (count bw c s) ≤ 8 * length s

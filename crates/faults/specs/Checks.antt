@@ -13,18 +13,16 @@ use Rattle.block.specs.Check.{right}
 use Rattle.resource.specs.Values.{carried}
 use Rattle.channel.specs.Layout.{present, ltfSymbols, firstBits, secondAt, secondBits, hasSecond, common}
 use Rattle.channel.specs.Layout.{subfieldsIn, valueAt, value, count, blockAt, blocks, covered, endOf}
-
--- "bits lent": the place of 3 and of 9
-unfoldable pub lent : List ℕ → ℕ
-lent s = 8 * length s
+use Rattle.channel.specs.Fields.{namedFields}
+use Rattle.faults.specs.RanOut.{ranOutAt}
 
 -- 2: "a channel over 512 bytes, or channel 2 not empty at 20 MHz | that channel, 0"
 unfoldable pub tooLong : ℕ → ℕ → List ℕ → Outcome
 tooLong bw c s = refuseIf (ltb 512 (length s) || (not (present bw c) && ltb 0 (length s))) (no 2 c 0)
 
--- 3: "common field cut short | channel, bits lent"
+-- 3: "common field cut short | channel, ..", and the place is where its bits ran out (02, T-03); no User field is asked for
 unfoldable pub cutCommon : ℕ → ℕ → List ℕ → Outcome
-cutCommon bw c s = refuseIf (present bw c && ltb (8 * length s) (common bw)) (no 3 c (lent s))
+cutCommon bw c s = refuseIf (present bw c && ltb (8 * length s) (common bw)) (no 3 c (ranOutAt s (namedFields bw 0)))
 
 -- 4: "common check or tail wrong | channel, first check bit"
 unfoldable pub wrongFirst : ℕ → ℕ → List ℕ → Bool
@@ -56,10 +54,10 @@ unfoldable pub notCarried : ℕ → ℕ → List ℕ → Outcome
 notCarried bw c s =
     refuseIf (ltb (firstUncarried bw c s) (subfieldsIn bw c)) (no 6 c (valueAt bw (firstUncarried bw c s)))
 
--- 9: "User blocks cut short | channel, bits lent"
+-- 9: "User blocks cut short | channel, ..", and the place is where the bits ran out (02, T-03)
 unfoldable pub cutUsers : ℕ → ℕ → List ℕ → Outcome
 cutUsers bw c s =
-    refuseIf (ltb 0 (count bw c s) && ltb (8 * length s) (endOf bw (count bw c s))) (no 9 c (lent s))
+    refuseIf (ltb 0 (count bw c s) && ltb (8 * length s) (endOf bw (count bw c s))) (no 9 c (ranOutAt s (namedFields bw (count bw c s))))
 
 -- 10: "User check or tail wrong | channel, first check bit"; n is the channel's number of fields
 unfoldable pub wrongBlock : ℕ → List ℕ → ℕ → ℕ → Bool

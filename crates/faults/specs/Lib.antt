@@ -1,1 +1,2 @@
+pub mod RanOut
 pub mod Checks

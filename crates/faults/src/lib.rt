@@ -6,7 +6,9 @@ ghost use lib.ListN.{length};
 ghost use Rattle.answer.specs.Least.{least};
 ghost use Rattle.bits.specs.Bits.{differs};
 ghost use Rattle.channel.specs.Layout.{count};
-ghost use Rattle.faults.specs.Checks.{lent, tooLong, cutCommon, wrongFirst, wrongSecond, wrongCommon, overflowDiffers, uncarried};
+ghost use Rattle.channel.specs.Fields.{namedFields};
+ghost use Rattle.faults.specs.RanOut.{ranOutAt};
+ghost use Rattle.faults.specs.Checks.{tooLong, cutCommon, wrongFirst, wrongSecond, wrongCommon, overflowDiffers, uncarried};
 ghost use Rattle.faults.specs.Checks.{firstUncarried, notCarried, cutUsers, wrongBlock, firstWrong, wrongUsers};
 
 // Answer 2 for one channel.
@@ -17,12 +19,24 @@ pub fn too_long(bw: u32, channel: u32, s: &[u8]) -> Outcome
     answer::refuse_if((512 < s.len()) | (!there & (0 < s.len())), 2, channel, 0)
 }
 
-// The place of 3 and of 9.
-fn lent_bits(s: &[u8]) -> usize
-    requires { ⌜ length (now s) ≤ 512 ⌝ }
-    ensures { λ r. ⌜ r ≡ lent (now (s .entry)) ⌝ }
+// The place of 3 and of 9, of a channel that has n User fields: the first bit of the first named field that lacks bits; 0
+// where none does. It is worked out only where something is missing.
+fn ran_out_at(bw: u32, s: &[u8], n: usize) -> usize
+    requires { ⌜ n ≤ 72 ⌝ }
+    ensures { λ r. ⌜ r ≡ ranOutAt (now (s .entry)) (namedFields bw n) ⌝ }
 {
-    8 * s.len()
+    let m = channel::named_fields(bw, n);
+    let mut at: usize = 0;
+    let mut k: usize = 0;
+    while k < m {
+        let w = channel::named_width(bw, n, k);
+        if 0 < bits::lacks_at(s, at, w) {
+            return at;
+        }
+        at += w;
+        k += 1;
+    }
+    0
 }
 
 // Answer 3.
@@ -30,9 +44,13 @@ pub fn cut_common(bw: u32, channel: u32, s: &[u8]) -> Outcome
     requires { ⌜ length (now s) ≤ 512 ⌝ }
     ensures { λ r. ⌜ r ≡ cutCommon bw channel (now (s .entry)) ⌝ }
 {
-    let there = channel::is_present(bw, channel);
-    let needed = channel::common_bits(bw);
-    answer::refuse_if(there & (8 * s.len() < needed), 3, channel, lent_bits(s))
+    if !channel::is_present(bw, channel) {
+        return Outcome::Pass;
+    }
+    if channel::common_bits(bw) <= 8 * s.len() {
+        return Outcome::Pass;
+    }
+    answer::refuse_if(true, 3, channel, ran_out_at(bw, s, 0))
 }
 
 fn is_wrong_first(bw: u32, channel: u32, s: &[u8]) -> bool
@@ -125,8 +143,13 @@ pub fn cut_users(bw: u32, channel: u32, s: &[u8], n: usize) -> Outcome
     requires { ⌜ (length (now s) ≤ 512) × (n ≤ 72) × (n ≡ count bw channel (now s)) ⌝ }
     ensures { λ r. ⌜ r ≡ cutUsers bw channel (now (s .entry)) ⌝ }
 {
-    let needed = channel::end_bit(bw, n);
-    answer::refuse_if((0 < n) & (8 * s.len() < needed), 9, channel, lent_bits(s))
+    if n == 0 {
+        return Outcome::Pass;
+    }
+    if channel::end_bit(bw, n) <= 8 * s.len() {
+        return Outcome::Pass;
+    }
+    answer::refuse_if(true, 9, channel, ran_out_at(bw, s, n))
 }
 
 fn is_wrong_block(bw: u32, s: &[u8], n: usize, b: usize) -> bool

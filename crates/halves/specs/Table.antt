@@ -22,7 +22,7 @@ check1 bw = refuseIf (ltb 4 bw) (no 1 0 0)
 unfoldable pub check2 : ℕ → List ℕ → List ℕ → Outcome
 check2 bw a b = tooLong bw 1 a or tooLong bw 2 b
 
--- "3 | common field cut short | channel, bits lent"
+-- "3 | common field cut short | channel, ..": 02, T-03, has "the first bit of the field that didn't fit" for the bits lent
 unfoldable pub check3 : ℕ → List ℕ → List ℕ → Outcome
 check3 bw a b = cutCommon bw 1 a or cutCommon bw 2 b
 
@@ -46,7 +46,7 @@ check7 bw a b = outcome7 (row bw a b)
 unfoldable pub check8 : ℕ → List ℕ → List ℕ → Outcome
 check8 bw a b = outcome8 (row bw a b)
 
--- "9 | User blocks cut short | channel, bits lent"
+-- "9 | User blocks cut short | channel, ..": the place as for 3
 unfoldable pub check9 : ℕ → List ℕ → List ℕ → Outcome
 check9 bw a b = cutUsers bw 1 a or cutUsers bw 2 b
 
