@@ -6,3 +6,4 @@ pub mod Channels
 pub mod Answers
 pub mod Formats
 pub mod Unassigned
+pub mod CutShort

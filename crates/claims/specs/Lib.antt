@@ -6,3 +6,4 @@ pub mod Bench
 pub mod Rows
 pub mod Formats
 pub mod Unassigned
+pub mod CutShort

@@ -1,0 +1,110 @@
+-- 02, T-03: "3 and 9 now give as place the first bit of the field that didn't fit, meaning the smallest named in document 01's layout, a User field
+-- being one. Reader, listing and C entry change with it. Which inputs are refused does not change."
+--
+-- Calls are `Calls.antt`'s: all that the contracts allow. What the named fields are is `channel/specs/Fields.antt`, and which of them did not fit
+-- `faults/specs/RanOut.antt`: `DidNotFit`.
+use mathlib.Core.Path.{_≡_}
+use mathlib.Core.Logic.{_⊎_}
+use mathlib.Core.Bool.{_&&_}
+use mathlib.Core.List.{List, [], _∷_, _++_}
+use Prim.Native.Nat.{ℕ, _*_, _/_, _≤_, _<_}
+use lib.Dec.{ltb}
+use lib.ListN.{length, take}
+use Rattle.answer.specs.Answer.{no, refuseIf, _or_, answerAt, after}
+use Rattle.answer.specs.Order.{firstOf}
+use Rattle.answer.specs.declared.Answer.{Answer}
+use Rattle.answer.specs.declared.Outcome.{Outcome}
+use Rattle.answer.specs.declared.Outcome.the-variants.{Refuse}
+use Rattle.channel.specs.Layout.{present, common, count, endOf}
+use Rattle.channel.specs.Fields.{namedFields, entry}
+use Rattle.faults.specs.RanOut.{DidNotFit}
+use Rattle.halves.specs.Table.{check1, check2, check4, check5, check6, check7, check8, check10, check11, outcome11}
+use Rattle.frame_words.specs.Words.{wordCount}
+use Rattle.reader.specs.Table.{check12, readOutcome}
+use Rattle.input.specs.Worked.{frame, said}
+use Rattle.lines.specs.Lines.{refusalText}
+use Rattle.listed.specs.Listing.{listing, check23, listOutcome}
+use Rattle.claims.specs.Calls.{Call, TextCall, Reads, Lists, C-reads, C-lists, Responds}
+
+-- ---- "the first bit of the field that didn't fit"
+
+-- a channel, of bytes s, ends before its n User fields do, and `place` is the first bit of its one named field that did not fit
+pub record EndsIn (bw n : ℕ) (s : List ℕ) (place : ℕ) : Type 0 where
+  pub too-short : 8 * length s < endOf bw n
+  pub field : ℕ
+  pub is-named : field < length (namedFields bw n)
+  pub did-not-fit : DidNotFit s (namedFields bw n) field
+  pub no-other : (k : ℕ) → DidNotFit s (namedFields bw n) k → k ≡ field
+  pub its-first-bit : place ≡ entry (namedFields bw n) field .first
+
+-- channel 1, whose bytes are a, or channel 2, whose bytes are b
+pub data OfChannel (a b : List ℕ) : ℕ → List ℕ → Type 0 where
+  first : OfChannel a b 1 a
+  second : OfChannel a b 2 b
+
+-- 3 is of a channel's common field, for which no User field is asked; 9 of the User fields that its values give
+pub record SaysWhere (bw : ℕ) (a b : List ℕ) (x : Answer) : Type 0 where
+  pub at-3 : x .number ≡ 3 → (s : List ℕ) × OfChannel a b (x .channel) s × EndsIn bw 0 s (x .place)
+  pub at-9 : x .number ≡ 9 → (s : List ℕ) × OfChannel a b (x .channel) s × EndsIn bw (count bw (x .channel) s) s (x .place)
+
+-- ---- "Which inputs are refused does not change"
+
+-- 01's table up to 11 before this request: "3 | common field cut short | channel, bits lent", "9 | User blocks cut short | channel, bits lent"
+abbrev pub cutCommonBefore : ℕ → ℕ → List ℕ → Outcome
+cutCommonBefore bw c s = refuseIf (present bw c && ltb (8 * length s) (common bw)) (no 3 c (8 * length s))
+
+abbrev pub cutUsersBefore : ℕ → ℕ → List ℕ → Outcome
+cutUsersBefore bw c s = refuseIf (ltb 0 (count bw c s) && ltb (8 * length s) (endOf bw (count bw c s))) (no 9 c (8 * length s))
+
+abbrev pub checks11Before : ℕ → List ℕ → List ℕ → List Outcome
+checks11Before bw a b =
+    check1 bw
+    ∷ check2 bw a b
+    ∷ (cutCommonBefore bw 1 a or cutCommonBefore bw 2 b)
+    ∷ check4 bw a b
+    ∷ check5 bw a b
+    ∷ check6 bw a b
+    ∷ check7 bw a b
+    ∷ check8 bw a b
+    ∷ (cutUsersBefore bw 1 a or cutUsersBefore bw 2 b)
+    ∷ check10 bw a b
+    ∷ check11 bw a b
+    ∷ []
+
+-- what the reader and the listing came to, with room for so many words or bytes
+abbrev pub readBefore : ℕ → List ℕ → List ℕ → ℕ → Outcome
+readBefore bw a b room = firstOf (checks11Before bw a b ++ (check12 bw a b room ∷ []))
+
+abbrev pub listBefore : ℕ → List ℕ → List ℕ → ℕ → Outcome
+listBefore bw a b room = firstOf (checks11Before bw a b) or check23 bw a b room
+
+-- before and now: the same outcome; or both refuse, with 3 or with 9 and for one channel, and only the places may differ
+pub data ButPlaces : Outcome → Outcome → Type 0 where
+  same : (o : Outcome) → ButPlaces o o
+  moved : (n c p q : ℕ) → (n ≡ 3) ⊎ (n ≡ 9) → ButPlaces (Refuse (no n c p)) (Refuse (no n c q))
+
+-- the same of answers
+pub record SameAnswer (x y : Answer) : Type 0 where
+  pub same-number : x .number ≡ y .number
+  pub same-channel : x .channel ≡ y .channel
+  pub same-place : (x .number ≡ 3 → ⊥) → (x .number ≡ 9 → ⊥) → x .place ≡ y .place
+
+-- ---- the request
+
+pub record CutShort : Type 1 where
+  -- "Reader, listing and C entry": of every call's answer
+  pub read-says : (c : Call) → Reads c → SaysWhere (c .bandwidth) (c .channel-1) (c .channel-2) (c .answer)
+  pub list-says : (c : Call) → Lists c → SaysWhere (c .bandwidth) (c .channel-1) (c .channel-2) (c .answer)
+  pub c-read-says : (c : Call) → C-reads c → SaysWhere (c .bandwidth) (c .channel-1) (c .channel-2) (c .answer)
+  pub c-list-says : (c : Call) → C-lists c → SaysWhere (c .bandwidth) (c .channel-1) (c .channel-2) (c .answer)
+  -- and of the refusal that the program writes for the three lines of a frame
+  pub program-says : (c : TextCall) → Responds c → (bw : ℕ) (a b : List ℕ) (x : Answer) → said (c .text) ≡ frame bw a b → outcome11 bw a b ≡ Refuse x
+      → SaysWhere bw a b x
+      × (c .bytes ≤ length (c .lent) → take (c .bytes) (c .after) ≡ refusalText (x .number) (x .channel) (x .place))
+  -- "Which inputs are refused does not change": the table, which is the program's too; the reader and the listing with any room
+  pub table-same : (bw : ℕ) (a b : List ℕ) → ButPlaces (firstOf (checks11Before bw a b)) (outcome11 bw a b)
+  pub read-same : (bw : ℕ) (a b : List ℕ) (room : ℕ) → ButPlaces (readBefore bw a b room) (readOutcome bw a b room)
+  pub list-same : (bw : ℕ) (a b : List ℕ) (room : ℕ) → ButPlaces (listBefore bw a b room) (listOutcome bw a b room)
+  -- so a call's answer is what it was, and so is what a buffer holds afterwards
+  pub answers-same : (o p : Outcome) (n : ℕ) → ButPlaces o p → SameAnswer (answerAt o n) (answerAt p n)
+  pub buffers-same : (o p : Outcome) (new old : List ℕ) → ButPlaces o p → after o new old ≡ after p new old
