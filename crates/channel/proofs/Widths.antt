@@ -1,22 +1,22 @@
 -- The widths of the named fields, one by one, as the code goes through them.
-use mathlib.Core.Path.{_≡_, refl, sym, _∙_, ap}
+use mathlib.Core.Path.{_≡_, refl, _∙_, ap}
 use mathlib.Core.Bool.{Bool, true, false, cond}
 use mathlib.Core.List.{List, [], _∷_, _++_}
 use Prim.Native.Nat.{ℕ, zero, suc, _+_, _-_, _*_, _/_, _%_, _≤_, _<_}
 use native.Mathlib.Decide.{decLt}
 use native.Mathlib.Omega.{arith}
-use lib.ListN.{length, getD, replicate, length-append, length-replicate, getD-replicate, List·getD-append, List·getD-eq-default}
+use lib.ListN.{length, replicate, length-append, length-replicate, getD-replicate, List·getD-append, List·getD-eq-default}
 use lib.Seq.{getD-append-add}
 use Rattle.answer.specs.Lists.{at}
 use Rattle.channel.specs.Layout.{firsts, seconds, hasSecond}
-use Rattle.channel.specs.Fields.{overflowWidths, checkedWidths, firstWidths, secondWidths, userWidths, widths, fieldsFrom, namedFields, entry}
+use Rattle.channel.specs.Fields.{overflowWidths, checkedWidths, firstWidths, secondWidths, userWidths, widths, fieldsFrom, namedFields, nthField}
 
 -- ---- one list after another
 
-pub at-left : (xs ys : List ℕ) (k : ℕ) → k < length xs → at (xs ++ ys) k ≡ at xs k
+at-left : (xs ys : List ℕ) (k : ℕ) → k < length xs → at (xs ++ ys) k ≡ at xs k
 at-left xs ys k l = List·getD-append xs ys 0 k l
 
-pub at-right : (xs ys : List ℕ) (k : ℕ) → length xs ≤ k → at (xs ++ ys) k ≡ at ys (k - length xs)
+at-right : (xs ys : List ℕ) (k : ℕ) → length xs ≤ k → at (xs ++ ys) k ≡ at ys (k - length xs)
 at-right xs ys k l =
     let e : k ≡ length xs + (k - length xs) = omega arith in
     ap (at (xs ++ ys)) e ∙ getD-append-add xs ys (k - length xs) 0
@@ -24,12 +24,9 @@ at-right xs ys k l =
 -- ---- fields with their check and tail
 
 module _ (w n : ℕ) where
-  sealed-length : length (replicate n w ++ (4 ∷ 6 ∷ [])) ≡ n + 2
-  sealed-length = length-append (replicate n w) (4 ∷ 6 ∷ []) ∙ ap (λ (x : ℕ). x + 2) (length-replicate n w)
-
   pub checked-length : length (checkedWidths w n) ≡ n + 2
   unfolding checkedWidths
-  checked-length = sealed-length
+  checked-length = length-append (replicate n w) (4 ∷ 6 ∷ []) ∙ ap (λ (x : ℕ). x + 2) (length-replicate n w)
 
   pub checked-fields : (k : ℕ) → k < n → at (checkedWidths w n) k ≡ w
   unfolding checkedWidths
@@ -61,13 +58,13 @@ pub second-none : (bw : ℕ) → hasSecond bw ≡ false → secondWidths bw ≡ 
 unfolding secondWidths
 second-none bw e = rw e
 
-pub users-length : (n : ℕ) → length (userWidths n) ≡ 4 * (n / 2) + 3 * (n % 2)
+users-length : (n : ℕ) → length (userWidths n) ≡ 4 * (n / 2) + 3 * (n % 2)
 unfolding userWidths
 users-length zero = omega arith
 users-length (suc zero) = checked-length 22 1
 users-length (suc (suc n)) = length-append (checkedWidths 22 2) (userWidths n) ∙ omega (arith, checked-length 22 2, users-length n)
 
-pub first-length : (bw : ℕ) → length (firstWidths bw) ≡ firsts bw + 2
+first-length : (bw : ℕ) → length (firstWidths bw) ≡ firsts bw + 2
 unfolding firstWidths
 first-length bw = checked-length 9 (firsts bw)
 
@@ -146,68 +143,90 @@ module _ (bw n k : ℕ) where
       ∙ at-right (secondWidths bw) (userWidths n) (k - (firsts bw + 9)) (omega arith)
       ∙ ap (at (userWidths n)) e
 
--- ---- none is wider than a User field
+-- ---- none is wider than a User field, and none is empty
 
-append-le : (m : ℕ) (xs ys : List ℕ) → ((k : ℕ) → at xs k ≤ m) → ((k : ℕ) → at ys k ≤ m) → (k : ℕ) → at (xs ++ ys) k ≤ m
-append-le m xs ys f g k = go (decLt k (length xs))
+-- between 1 and m bits, each that there is
+abbrev Wide : ℕ → List ℕ → Type 0
+Wide m ws = (k : ℕ) → k < length ws → (1 ≤ at ws k) × (at ws k ≤ m)
+
+append-wide : (m : ℕ) (xs ys : List ℕ) → Wide m xs → Wide m ys → Wide m (xs ++ ys)
+append-wide m xs ys f g k l = go (decLt k (length xs))
   where
-    go : Dec (k < length xs) → at (xs ++ ys) k ≤ m
-    go (yes l) = omega (arith, at-left xs ys k l, f k)
-    go (no l) = omega (arith, at-right xs ys k (omega arith), g (k - length xs))
+    go : Dec (k < length xs) → (1 ≤ at (xs ++ ys) k) × (at (xs ++ ys) k ≤ m)
+    go (yes h) = let r = f k h in let e = at-left xs ys k h in (omega (arith, r .0), omega (arith, r .1))
+    go (no h) =
+        let r = g (k - length xs) (omega (arith, length-append xs ys)) in
+        let e = at-right xs ys k (omega arith) in
+        (omega (arith, r .0), omega (arith, r .1))
 
-checked-le : (w n : ℕ) → 6 ≤ w → (k : ℕ) → at (checkedWidths w n) k ≤ w
-checked-le w n l k = go (decLt k n) (decLt k (n + 1)) (decLt k (n + 2))
+checked-wide : (w n : ℕ) → 1 ≤ w → w ≤ 22 → Wide 22 (checkedWidths w n)
+checked-wide w n l u k h = go (decLt k n) (decLt k (n + 1))
   where
-    go : Dec (k < n) → Dec (k < n + 1) → Dec (k < n + 2) → at (checkedWidths w n) k ≤ w
-    go (yes a) b c = omega (arith, checked-fields w n k a)
-    go (no a) (yes b) c = omega (arith, checked-at-check w n k (omega arith))
-    go (no a) (no b) (yes c) = omega (arith, checked-at-tail w n k (omega arith))
-    go (no a) (no b) (no c) = omega (arith, checked-past w n k (omega arith))
+    go : Dec (k < n) → Dec (k < n + 1) → (1 ≤ at (checkedWidths w n) k) × (at (checkedWidths w n) k ≤ 22)
+    go (yes a) b = let e = checked-fields w n k a in (omega arith, omega arith)
+    go (no a) (yes b) = let e = checked-at-check w n k (omega arith) in (omega arith, omega arith)
+    go (no a) (no b) = let e = checked-at-tail w n k (omega (arith, checked-length w n)) in (omega arith, omega arith)
 
-overflow-le : (k : ℕ) → at overflowWidths k ≤ 22
-overflow-le zero = omega arith
-overflow-le (suc zero) = omega arith
-overflow-le (suc (suc zero)) = omega arith
-overflow-le (suc (suc (suc zero))) = omega arith
-overflow-le (suc (suc (suc (suc zero)))) = omega arith
-overflow-le (suc (suc (suc (suc (suc zero))))) = omega arith
-overflow-le (suc (suc (suc (suc (suc (suc zero)))))) = omega arith
-overflow-le (suc (suc (suc (suc (suc (suc (suc k))))))) = omega arith
+overflow-wide : Wide 22 overflowWidths
+overflow-wide zero l = (omega arith, omega arith)
+overflow-wide (suc zero) l = (omega arith, omega arith)
+overflow-wide (suc (suc zero)) l = (omega arith, omega arith)
+overflow-wide (suc (suc (suc zero))) l = (omega arith, omega arith)
+overflow-wide (suc (suc (suc (suc zero)))) l = (omega arith, omega arith)
+overflow-wide (suc (suc (suc (suc (suc zero))))) l = (omega arith, omega arith)
+overflow-wide (suc (suc (suc (suc (suc (suc zero)))))) l = (omega arith, omega arith)
+overflow-wide (suc (suc (suc (suc (suc (suc (suc k))))))) l = absurd (omega arith)
 
-first-le : (bw k : ℕ) → at (firstWidths bw) k ≤ 22
+first-wide : (bw : ℕ) → Wide 22 (firstWidths bw)
 unfolding firstWidths
-first-le bw k = omega (arith, checked-le 9 (firsts bw) (omega arith) k)
+first-wide bw = checked-wide 9 (firsts bw) (omega arith) (omega arith)
 
-second-le : (bw k : ℕ) → at (secondWidths bw) k ≤ 22
+second-wide : (bw : ℕ) → Wide 22 (secondWidths bw)
 unfolding secondWidths
-second-le bw k = go (hasSecond bw)
+second-wide bw = go (hasSecond bw)
   where
-    go : (t : Bool) → at (cond t (checkedWidths 9 (seconds bw)) []) k ≤ 22
-    go true = omega (arith, checked-le 9 (seconds bw) (omega arith) k)
-    go false = omega arith
+    go : (t : Bool) → Wide 22 (cond t (checkedWidths 9 (seconds bw)) [])
+    go true = checked-wide 9 (seconds bw) (omega arith) (omega arith)
+    go false = λ k l. absurd (omega arith)
 
-users-le : (n k : ℕ) → at (userWidths n) k ≤ 22
+users-wide : (n : ℕ) → Wide 22 (userWidths n)
 unfolding userWidths
-users-le zero k = omega arith
-users-le (suc zero) k = checked-le 22 1 (omega arith) k
-users-le (suc (suc n)) k = append-le 22 (checkedWidths 22 2) (userWidths n) (checked-le 22 2 (omega arith)) (users-le n) k
+users-wide zero = λ k l. absurd (omega arith)
+users-wide (suc zero) = checked-wide 22 1 (omega arith) (omega arith)
+users-wide (suc (suc n)) = append-wide 22 (checkedWidths 22 2) (userWidths n) (checked-wide 22 2 (omega arith) (omega arith)) (users-wide n)
+
+widths-wide : (bw n : ℕ) → Wide 22 (widths bw n)
+unfolding widths
+widths-wide bw n =
+    append-wide 22 overflowWidths (firstWidths bw ++ (secondWidths bw ++ userWidths n)) overflow-wide
+    (append-wide 22 (firstWidths bw) (secondWidths bw ++ userWidths n) (first-wide bw)
+    (append-wide 22 (secondWidths bw) (userWidths n) (second-wide bw) (users-wide n)))
 
 widths-le : (bw n k : ℕ) → at (widths bw n) k ≤ 22
-unfolding widths
-widths-le bw n =
-    append-le 22 overflowWidths (firstWidths bw ++ (secondWidths bw ++ userWidths n)) overflow-le
-    (append-le 22 (firstWidths bw) (secondWidths bw ++ userWidths n) (first-le bw)
-    (append-le 22 (secondWidths bw) (userWidths n) (second-le bw) (users-le n)))
+widths-le bw n k = go (decLt k (length (widths bw n)))
+  where
+    go : Dec (k < length (widths bw n)) → at (widths bw n) k ≤ 22
+    go (yes l) = widths-wide bw n k l .1
+    go (no l) = omega (arith, List·getD-eq-default (widths bw n) 0 {n = k} (omega arith))
 
 pub as-wide : (r bw n k : ℕ) → r ≡ at (widths bw n) k → (r ≡ at (widths bw n) k) × (r ≤ 22)
 as-wide r bw n k e = (e, omega (arith, widths-le bw n k))
 
--- what a list of fields says of one is its width
-entry-width : (from : ℕ) (ws : List ℕ) (k : ℕ) → entry (fieldsFrom from ws) k .width ≡ at ws k
-entry-width from [] k = refl
-entry-width from (w ∷ ws) zero = refl
-entry-width from (w ∷ ws) (suc k) = entry-width (from + w) ws k
+-- the same of the named fields
+field-width : (from : ℕ) (ws : List ℕ) (k : ℕ) → nthField (fieldsFrom from ws) k .width ≡ at ws k
+field-width from [] k = refl
+field-width from (w ∷ ws) zero = refl
+field-width from (w ∷ ws) (suc k) = field-width (from + w) ws k
 
-pub named-le : (bw n k : ℕ) → entry (namedFields bw n) k .width ≤ 22
+fields-length : (from : ℕ) (ws : List ℕ) → length (fieldsFrom from ws) ≡ length ws
+fields-length from [] = refl
+fields-length from (w ∷ ws) = ap suc (fields-length (from + w) ws)
+
+pub named-le : (bw n k : ℕ) → nthField (namedFields bw n) k .width ≤ 22
 unfolding namedFields
-named-le bw n k = omega (arith, entry-width 0 (widths bw n) k, widths-le bw n k)
+named-le bw n k = omega (arith, field-width 0 (widths bw n) k, widths-le bw n k)
+
+pub named-ge : (bw n k : ℕ) → k < length (namedFields bw n) → 1 ≤ nthField (namedFields bw n) k .width
+unfolding namedFields
+named-ge bw n k l =
+    omega (arith, field-width 0 (widths bw n) k, widths-wide bw n k (omega (arith, fields-length 0 (widths bw n))) .0)

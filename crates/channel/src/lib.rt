@@ -1,4 +1,5 @@
-// Where everything lies in a channel, by bandwidth code: its fields, its row of values, its User fields and blocks, its named fields.
+// Where everything lies in a channel, by bandwidth code: its fields and all of them in sending order, its row of values, its User
+// fields and blocks.
 ghost use mathlib.Core.Path.{_≡_};
 ghost use Prim.Native.Nat.{_+_, _*_, _≤_, _<_};
 ghost use lib.ListN.{length};

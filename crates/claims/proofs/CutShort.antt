@@ -1,5 +1,5 @@
 -- 02's T-03 holds of every answer, and only places have moved.
-use mathlib.Core.Path.{_≡_, refl, sym, ap, _∙_}
+use mathlib.Core.Path.{_≡_, refl, sym, _∙_}
 use mathlib.Core.Logic.{_⊎_, inl, inr, ⊎-elim}
 use mathlib.Core.Bool.{Bool, true, false, _&&_}
 use mathlib.Core.List.{List, [], _∷_, _++_}
@@ -9,7 +9,7 @@ use denote.Ref.{now}
 use lib.Dec.{ltb}
 use lib.ListN.{length, getD, take, drop}
 use lib.Seq.{take-append-seam}
-use Rattle.answer.specs.Answer.{no, refuseIf, _or_, answerAt, after}
+use Rattle.answer.specs.Answer.{no, refuseIf, _or_, answerAt, after, passes}
 use Rattle.answer.specs.Order.{firstOf, Applies, Judged}
 use Rattle.answer.specs.declared.Answer.{Answer}
 use Rattle.answer.specs.declared.Outcome.{Outcome}
@@ -18,24 +18,25 @@ use Rattle.answer.proofs.Order.{or-cases, or-refuse}
 use Rattle.answer.proofs.First.{applies-below}
 use Rattle.answer.proofs.Numbers.{distinct, absent, distinct-at}
 use Rattle.channel.specs.Layout.{present, common, count, endOf}
-use Rattle.channel.specs.Fields.{namedFields, entry}
+use Rattle.channel.specs.Fields.{namedFields}
 use Rattle.channel.proofs.Blocks.{end-none}
 use Rattle.faults.specs.Checks.{cutCommon, cutUsers}
-use Rattle.faults.specs.RanOut.{ranOutAt, DidNotFit}
+use Rattle.faults.specs.RanOut.{ranOutAt}
 use Rattle.faults.proofs.Passing.{refuse-cutCommon, refuse-cutUsers}
 use Rattle.faults.proofs.RanOut.{did-not-fit, one-did-not-fit}
 use Rattle.halves.specs.Table.{check1, check2, check3, check4, check5, check6, check7, check8, check9, check10, check11, checks11, outcome11}
-use Rattle.frame_words.specs.Words.{wordCount}
 use Rattle.reader.specs.Table.{check12, readChecks, readNumbers, readOutcome}
+use Rattle.reader.specs.Result.{readAnswer, wordsAfter}
 use Rattle.text.specs.Text.{Wrote}
 use Rattle.text.proofs.Laws.{front, count as written}
 use Rattle.input.specs.Worked.{frame, said}
 use Rattle.lines.specs.Lines.{refusalText}
-use Rattle.listed.specs.Listing.{listing, check23, listNumbers, listChecks, listOutcome, listAnswer, frameText, programText}
+use Rattle.listed.specs.Listing.{listing, check23, listNumbers, listChecks, listOutcome, listAnswer, listAfter, frameText, programText}
 use Rattle.listing.proofs.Judged as listed
-use Rattle.claims.specs.Calls.{Call, TextCall, Reads, Lists, C-reads, C-lists, Responds, responds}
-use Rattle.claims.specs.CutShort.{EndsIn, OfChannel, first, second, SaysWhere, cutCommonBefore, cutUsersBefore, checks11Before, readBefore, listBefore}
-use Rattle.claims.specs.CutShort.{ButPlaces, same, moved, SameAnswer, CutShort}
+use Rattle.brachymel.specs.Bytes.{readBytes}
+use Rattle.claims.specs.Calls.{Call, TextCall, Reads, reads, Lists, lists, C-reads, c-reads, C-lists, c-lists, Responds, responds}
+use Rattle.claims.specs.CutShort.{EndsIn, OfChannel, of-1, of-2, SaysWhere, cutCommonBefore, cutUsersBefore, checks11Before, readBefore, listBefore}
+use Rattle.claims.specs.CutShort.{ButPlaces, unchanged, place-moved, SameAnswer, AsBefore, ReadAsBefore, C-readAsBefore, ListAsBefore, CutShort}
 use Rattle.claims.proofs.First.{first-demand}
 
 -- ---- where the bits ran out
@@ -45,7 +46,7 @@ ends-in bw n s l =
     let (k, m, d, e) = did-not-fit bw n s l in
     record {
       too-short = l;
-      field = k;
+      which = k;
       is-named = m;
       did-not-fit = d;
       no-other = λ j q. one-did-not-fit bw n s j k q d;
@@ -70,8 +71,8 @@ module _ (bw : ℕ) (a b : List ℕ) where
   unfolding check3
   three-ends x e =
       ⊎-elim
-      (λ (p : cutCommon bw 1 a ≡ Refuse x). common-ends a x first p)
-      (λ (p : (cutCommon bw 1 a ≡ Pass) × (cutCommon bw 2 b ≡ Refuse x)). common-ends b x second (p .1))
+      (λ (p : cutCommon bw 1 a ≡ Refuse x). common-ends a x of-1 p)
+      (λ (p : (cutCommon bw 1 a ≡ Pass) × (cutCommon bw 2 b ≡ Refuse x)). common-ends b x of-2 (p .1))
       (or-cases (cutCommon bw 1 a) (cutCommon bw 2 b) x e)
 
   nine-ends : (x : Answer) → check9 bw a b ≡ Refuse x
@@ -79,8 +80,8 @@ module _ (bw : ℕ) (a b : List ℕ) where
   unfolding check9
   nine-ends x e =
       ⊎-elim
-      (λ (p : cutUsers bw 1 a ≡ Refuse x). users-ends a x first p)
-      (λ (p : (cutUsers bw 1 a ≡ Pass) × (cutUsers bw 2 b ≡ Refuse x)). users-ends b x second (p .1))
+      (λ (p : cutUsers bw 1 a ≡ Refuse x). users-ends a x of-1 p)
+      (λ (p : (cutUsers bw 1 a ≡ Pass) × (cutUsers bw 2 b ≡ Refuse x)). users-ends b x of-2 (p .1))
       (or-cases (cutUsers bw 1 a) (cutUsers bw 2 b) x e)
 
   -- of an answer by the rows 1 to 11 and one more, each with its own number
@@ -128,14 +129,14 @@ program-refuses c (responds κs y r s p) bw a b x e h l =
 -- ---- before and now
 
 but-if : (t : Bool) (n c p q : ℕ) → (n ≡ 3) ⊎ (n ≡ 9) → ButPlaces (refuseIf t (no n c p)) (refuseIf t (no n c q))
-but-if true n c p q h = moved n c p q h
-but-if false n c p q h = same Pass
+but-if true n c p q h = place-moved n c p q h
+but-if false n c p q h = unchanged Pass
 
 but-or : {o p q r : Outcome} → ButPlaces o p → ButPlaces q r → ButPlaces (o or q) (p or r)
 unfolding _or_
-but-or (same Pass) h = h
-but-or (same (Refuse x)) h = same (Refuse x)
-but-or (moved n c p q k) h = moved n c p q k
+but-or (unchanged Pass) h = h
+but-or (unchanged (Refuse x)) h = unchanged (Refuse x)
+but-or (place-moved n c p q k) h = place-moved n c p q k
 
 common-same : (bw c : ℕ) (s : List ℕ) → ButPlaces (cutCommonBefore bw c s) (cutCommon bw c s)
 unfolding cutCommon
@@ -160,38 +161,67 @@ module _ (bw : ℕ) (a b : List ℕ) where
   rows-same : (os : List Outcome) → ButPlaces (firstOf (checks11Before bw a b ++ os)) (firstOf (checks11 bw a b ++ os))
   unfolding firstOf
   rows-same os =
-      but-or (same (check1 bw))
-      (but-or (same (check2 bw a b))
+      but-or (unchanged (check1 bw))
+      (but-or (unchanged (check2 bw a b))
       (but-or three-same
-      (but-or (same (check4 bw a b))
-      (but-or (same (check5 bw a b))
-      (but-or (same (check6 bw a b))
-      (but-or (same (check7 bw a b))
-      (but-or (same (check8 bw a b))
+      (but-or (unchanged (check4 bw a b))
+      (but-or (unchanged (check5 bw a b))
+      (but-or (unchanged (check6 bw a b))
+      (but-or (unchanged (check7 bw a b))
+      (but-or (unchanged (check8 bw a b))
       (but-or nine-same
-      (but-or (same (check10 bw a b))
-      (but-or (same (check11 bw a b)) (same (firstOf os))))))))))))
+      (but-or (unchanged (check10 bw a b))
+      (but-or (unchanged (check11 bw a b)) (unchanged (firstOf os))))))))))))
 
-  table-same : ButPlaces (firstOf (checks11Before bw a b)) (outcome11 bw a b)
+  same-table : ButPlaces (firstOf (checks11Before bw a b)) (outcome11 bw a b)
   unfolding outcome11
-  table-same = rows-same []
+  same-table = rows-same []
 
-  read-same : (room : ℕ) → ButPlaces (readBefore bw a b room) (readOutcome bw a b room)
+  same-read : (room : ℕ) → ButPlaces (readBefore bw a b room) (readOutcome bw a b room)
   unfolding readOutcome
-  read-same room = rows-same (check12 bw a b room ∷ [])
+  same-read room = rows-same (check12 bw a b room ∷ [])
 
-  list-same : (room : ℕ) → ButPlaces (listBefore bw a b room) (listOutcome bw a b room)
+  same-list : (room : ℕ) → ButPlaces (listBefore bw a b room) (listOutcome bw a b room)
   unfolding listOutcome
-  list-same room = but-or table-same (same (check23 bw a b room))
+  same-list room = but-or same-table (unchanged (check23 bw a b room))
 
-answers-same : (o p : Outcome) (n : ℕ) → ButPlaces o p → SameAnswer (answerAt o n) (answerAt p n)
-answers-same o p n (same q) = record { same-number = refl; same-channel = refl; same-place = λ _ _. refl }
-answers-same o p n (moved m c x y h) =
+same-passes : {o p : Outcome} → ButPlaces o p → passes o ≡ passes p
+same-passes (unchanged q) = refl
+same-passes (place-moved m c x y h) = refl
+
+answers-same : {o p : Outcome} (n : ℕ) → ButPlaces o p → SameAnswer (answerAt o n) (answerAt p n)
+answers-same n (unchanged q) = record { same-number = refl; same-channel = refl; same-place = λ _ _. refl }
+answers-same n (place-moved m c x y h) =
     record { same-number = refl; same-channel = refl; same-place = λ f g. absurd (⊎-elim f g h) }
 
-buffers-same : (o p : Outcome) (new old : List ℕ) → ButPlaces o p → after o new old ≡ after p new old
-buffers-same o p new old (same q) = refl
-buffers-same o p new old (moved m c x y h) = refl
+buffers-same : {o p : Outcome} (new old : List ℕ) → ButPlaces o p → after p new old ≡ after o new old
+buffers-same new old (unchanged q) = refl
+buffers-same new old (place-moved m c x y h) = refl
+
+-- a call whose answer and buffer come of p, beside o
+as-before : {o p : Outcome} (n : ℕ) (new : List ℕ) (c : Call) → ButPlaces o p → c .answer ≡ answerAt p n → c .after ≡ after p new (c .lent)
+    → AsBefore o n new c
+as-before n new c h x y = record { same-answer = rw x (answers-same n h); same-buffer = y ∙ buffers-same new (c .lent) h }
+
+read-as-before : (c : Call) → Reads c → ReadAsBefore (c .bandwidth) (c .channel-1) (c .channel-2) c
+unfolding readAnswer wordsAfter
+read-as-before c (reads κs x r s p) =
+    as-before _ _ _ (same-read (x .0) (now (x .1 .0)) (now (x .1 .1 .0)) (length (now (x .1 .1 .1 .0)))) (p .0) (p .1)
+
+c-read-as-before : (c : Call) → C-reads c → C-readAsBefore (c .bandwidth) (c .channel-1) (c .channel-2) c
+unfolding readAnswer readBytes
+c-read-as-before c (c-reads κs x r s p) =
+    as-before _ _ _ (same-read (x .0) (now (x .1 .0)) (now (x .1 .1 .0)) (length (now (x .1 .1 .1 .0)) / 4)) (p .0) (p .1)
+
+list-as-before : (c : Call) → Lists c → ListAsBefore (c .bandwidth) (c .channel-1) (c .channel-2) c
+unfolding listAnswer listAfter
+list-as-before c (lists κs x r s p) =
+    as-before _ _ _ (same-list (x .0) (now (x .1 .0)) (now (x .1 .1 .0)) (length (now (x .1 .1 .1 .0)))) (p .0) (p .1)
+
+c-list-as-before : (c : Call) → C-lists c → ListAsBefore (c .bandwidth) (c .channel-1) (c .channel-2) c
+unfolding listAnswer listAfter
+c-list-as-before c (c-lists κs x r s p) =
+    as-before _ _ _ (same-list (x .0) (now (x .1 .0)) (now (x .1 .1 .0)) (length (now (x .1 .1 .1 .0)))) (p .0) (p .1)
 
 pub cut-short : CutShort
 cut-short = record {
@@ -200,9 +230,12 @@ cut-short = record {
   c-read-says = λ c h. read-rows (c .bandwidth) (c .channel-1) (c .channel-2) _ _ (c .answer) (first-demand .c-read-ends c h);
   c-list-says = λ c h. list-rows (c .bandwidth) (c .channel-1) (c .channel-2) _ _ (c .answer) (first-demand .c-list-ends c h);
   program-says = λ c h bw a b x e f. (refused-says bw a b x f, program-refuses c h bw a b x e f);
-  table-same = table-same;
-  read-same = read-same;
-  list-same = list-same;
-  answers-same = answers-same;
-  buffers-same = buffers-same;
+  same-refused = λ bw a b. same-passes (same-table bw a b);
+  same-table = same-table;
+  same-read = same-read;
+  same-list = same-list;
+  read-as-before = read-as-before;
+  list-as-before = list-as-before;
+  c-read-as-before = c-read-as-before;
+  c-list-as-before = c-list-as-before;
 }

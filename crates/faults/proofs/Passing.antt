@@ -1,4 +1,4 @@
--- What each check says where it passes, and what suffices for it to pass.
+-- What each check says where it passes, and what suffices for it to pass; of 3 and 9 the same of a refusal.
 use mathlib.Core.Path.{_≡_, refl, sym, _∙_}
 use mathlib.Core.Bool.{Bool, true, false, not, _&&_, _||_}
 use mathlib.Core.List.{List}
@@ -103,11 +103,11 @@ unfolding cutCommon
 pass-cutCommon bw c s h =
     if-pass _ _ (guard (present bw c) (ltb (8 * length s) (common bw)) (λ p. le-ltb (8 * length s) (common bw) (h p)))
 
--- what a refusal says, and what suffices for it
-pub cutCommon-refuse : (bw c : ℕ) (s : List ℕ) → present bw c ≡ true → 8 * length s < common bw
-    → cutCommon bw c s ≡ Refuse (A.no 3 c (ranOutAt s (namedFields bw 0)))
+-- its test decides, and what a refusal says
+pub cutCommon-tested : (bw c : ℕ) (s : List ℕ) (t : Bool) → present bw c && ltb (8 * length s) (common bw) ≡ t
+    → cutCommon bw c s ≡ refuseIf t (A.no 3 c (ranOutAt s (namedFields bw 0)))
 unfolding cutCommon
-cutCommon-refuse bw c s p l = rw (p, lt-ltb (8 * length s) (common bw) l) refl
+cutCommon-tested bw c s t e = rw e refl
 
 pub refuse-cutCommon : (bw c : ℕ) (s : List ℕ) (x : Answer) → cutCommon bw c s ≡ Refuse x
     → (present bw c ≡ true) × (8 * length s < common bw) × (x ≡ A.no 3 c (ranOutAt s (namedFields bw 0)))
@@ -218,10 +218,10 @@ unfolding cutUsers
 pass-cutUsers bw c s h =
     if-pass _ _ (guard (ltb 0 (count bw c s)) _ (λ p. le-ltb (8 * length s) (endOf bw (count bw c s)) (h (ltb-true 0 (count bw c s) p))))
 
-pub cutUsers-refuse : (bw c : ℕ) (s : List ℕ) → 0 < count bw c s → 8 * length s < endOf bw (count bw c s)
-    → cutUsers bw c s ≡ Refuse (A.no 9 c (ranOutAt s (namedFields bw (count bw c s))))
+pub cutUsers-tested : (bw c : ℕ) (s : List ℕ) (n : ℕ) (t : Bool) → n ≡ count bw c s → ltb 0 n && ltb (8 * length s) (endOf bw n) ≡ t
+    → cutUsers bw c s ≡ refuseIf t (A.no 9 c (ranOutAt s (namedFields bw n)))
 unfolding cutUsers
-cutUsers-refuse bw c s h l = rw (lt-ltb 0 (count bw c s) h, lt-ltb (8 * length s) (endOf bw (count bw c s)) l) refl
+cutUsers-tested bw c s n t f e = rw (← f, e) refl
 
 pub refuse-cutUsers : (bw c : ℕ) (s : List ℕ) (x : Answer) → cutUsers bw c s ≡ Refuse x
     → (0 < count bw c s) × (8 * length s < endOf bw (count bw c s)) × (x ≡ A.no 9 c (ranOutAt s (namedFields bw (count bw c s))))

@@ -1,6 +1,5 @@
 -- Where the bits of a channel ran out: the turns of the search, and that what it finds is the field that did not fit.
-use mathlib.Core.Path.{_≡_, refl, sym, _∙_, ap}
-use mathlib.Core.Bool.{Bool, true, false, cond}
+use mathlib.Core.Path.{_≡_, refl}
 use mathlib.Core.List.{List, [], _∷_}
 use Prim.Native.Nat.{ℕ, zero, suc, _+_, _-_, _*_, _≤_, _<_}
 use native.Mathlib.Decide.{decLt}
@@ -8,12 +7,11 @@ use native.Mathlib.Numerals.{add-one}
 use native.Mathlib.Omega.{arith}
 use lib.ListN.{length, drop, drop-of-length-le}
 use lib.Seq.{drop-cons}
-use lib.Dec.{ltb}
 use borrow.Author.Tests.{lt-ltb, le-ltb}
 use Rattle.answer.specs.Lists.{at}
 use Rattle.bits.specs.Bits.{lacks}
-use Rattle.channel.specs.Layout.{common, endOf}
-use Rattle.channel.specs.Fields.{Named, named, fieldsFrom, widths, namedFields, entry, Has}
+use Rattle.channel.specs.Layout.{endOf}
+use Rattle.channel.specs.Fields.{Named, namedAt, fieldsFrom, widths, namedFields, nthField}
 use Rattle.channel.proofs.Fields.{bitsIn, bits-widths, tiles}
 use Rattle.faults.specs.RanOut.{lacksOf, ranOutAt, DidNotFit}
 
@@ -21,7 +19,7 @@ use Rattle.faults.specs.RanOut.{lacksOf, ranOutAt, DidNotFit}
 
 -- from field k on, which starts at bit `from` and has w bits
 module _ (s : List ℕ) (from : ℕ) (ws : List ℕ) (k w : ℕ) where
-  next : k < length ws → w ≡ at ws k → fieldsFrom from (drop k ws) ≡ named from w ∷ fieldsFrom (from + w) (drop (k + 1) ws)
+  next : k < length ws → w ≡ at ws k → fieldsFrom from (drop k ws) ≡ namedAt from w ∷ fieldsFrom (from + w) (drop (k + 1) ws)
   next l e = rw (drop-cons ws k 0 l, add-one k, e) refl
 
   pub search-stop : k < length ws → w ≡ at ws k → 0 < lacks s from w → ranOutAt s (fieldsFrom from (drop k ws)) ≡ from
@@ -40,7 +38,7 @@ search-end s from ws k l = rw (drop-of-length-le ws l) refl
 -- ---- what it finds
 
 abbrev Found : List ℕ → List Named → Type 0
-Found s fs = (k : ℕ) × (k < length fs) × DidNotFit s fs k × (ranOutAt s fs ≡ entry fs k .first)
+Found s fs = (k : ℕ) × (k < length fs) × DidNotFit s fs k × (ranOutAt s fs ≡ nthField fs k .first)
 
 here : (s : List ℕ) (from w : ℕ) (ws : List ℕ) → from ≤ 8 * length s → 8 * length s < from + w → Found s (fieldsFrom from (w ∷ ws))
 unfolding ranOutAt lacks
@@ -70,7 +68,7 @@ later s from w ws l (k, m, d, e) = (
   rw (le-ltb 0 (w - (8 * length s - from)) (omega arith)) e,
 )
   where
-    before : (j : ℕ) → j < suc k → lacksOf s (entry (fieldsFrom from (w ∷ ws)) j) ≡ 0
+    before : (j : ℕ) → j < suc k → lacksOf s (nthField (fieldsFrom from (w ∷ ws)) j) ≡ 0
     before zero n = omega arith
     before (suc j) n = d .whole-before j (omega arith)
 

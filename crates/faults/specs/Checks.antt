@@ -20,7 +20,7 @@ use Rattle.faults.specs.RanOut.{ranOutAt}
 unfoldable pub tooLong : ℕ → ℕ → List ℕ → Outcome
 tooLong bw c s = refuseIf (ltb 512 (length s) || (not (present bw c) && ltb 0 (length s))) (no 2 c 0)
 
--- 3: "common field cut short | channel, ..", and the place is where its bits ran out (02, T-03); no User field is asked for
+-- 3: "common field cut short | channel, ..", and the place is where its bits ran out (02, T-03): among the fields of a channel with no User field
 unfoldable pub cutCommon : ℕ → ℕ → List ℕ → Outcome
 cutCommon bw c s = refuseIf (present bw c && ltb (8 * length s) (common bw)) (no 3 c (ranOutAt s (namedFields bw 0)))
 

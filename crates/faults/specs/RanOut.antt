@@ -9,7 +9,7 @@ use Prim.Native.Nat.{ℕ, _*_, _≤_, _<_}
 use lib.Dec.{ltb}
 use lib.ListN.{length}
 use Rattle.bits.specs.Bits.{lacks}
-use Rattle.channel.specs.Fields.{Named, entry, Has}
+use Rattle.channel.specs.Fields.{Named, nthField, Has}
 
 -- how many bits of a field lie past the end of the bytes lent
 abbrev pub lacksOf : List ℕ → Named → ℕ
@@ -23,7 +23,7 @@ ranOutAt s (f ∷ fs) = cond (ltb 0 (lacksOf s f)) (f .first) (ranOutAt s fs)
 -- field k of the list "didn't fit": the first bit that is not lent is one of its bits, it lacks at least that one and at most all, and no field
 -- before it lacks any
 pub record DidNotFit (s : List ℕ) (fs : List Named) (k : ℕ) : Type 0 where
-  pub has-first-missing : Has (entry fs k) (8 * length s)
-  pub lacks-one : 1 ≤ lacksOf s (entry fs k)
-  pub lacks-no-more : lacksOf s (entry fs k) ≤ entry fs k .width
-  pub whole-before : (j : ℕ) → j < k → lacksOf s (entry fs j) ≡ 0
+  pub has-first-missing : Has (nthField fs k) (8 * length s)
+  pub lacks-one : 1 ≤ lacksOf s (nthField fs k)
+  pub lacks-no-more : lacksOf s (nthField fs k) ≤ nthField fs k .width
+  pub whole-before : (j : ℕ) → j < k → lacksOf s (nthField fs j) ≡ 0

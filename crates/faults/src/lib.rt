@@ -1,4 +1,5 @@
 // The answers 2 to 6, 9 and 10, each of one channel but 5.
+use answer::Answer;
 use answer::Outcome;
 ghost use mathlib.Core.Path.{_≡_};
 ghost use Prim.Native.Nat.{_≤_};
@@ -19,8 +20,8 @@ pub fn too_long(bw: u32, channel: u32, s: &[u8]) -> Outcome
     answer::refuse_if((512 < s.len()) | (!there & (0 < s.len())), 2, channel, 0)
 }
 
-// The place of 3 and of 9, of a channel that has n User fields: the first bit of the first named field that lacks bits; 0
-// where none does. It is worked out only where something is missing.
+// The place of 3 and of 9 (02, T-03), of a channel that has n User fields: the first bit of the first named field that lacks
+// bits; 0 where none does. A walk, which is taken only where something is missing.
 fn ran_out_at(bw: u32, s: &[u8], n: usize) -> usize
     requires { ⌜ n ≤ 72 ⌝ }
     ensures { λ r. ⌜ r ≡ ranOutAt (now (s .entry)) (namedFields bw n) ⌝ }
@@ -44,13 +45,17 @@ pub fn cut_common(bw: u32, channel: u32, s: &[u8]) -> Outcome
     requires { ⌜ length (now s) ≤ 512 ⌝ }
     ensures { λ r. ⌜ r ≡ cutCommon bw channel (now (s .entry)) ⌝ }
 {
-    if !channel::is_present(bw, channel) {
+    let there = channel::is_present(bw, channel);
+    let cut = there & (8 * s.len() < channel::common_bits(bw));
+    if !cut {
         return Outcome::Pass;
     }
-    if channel::common_bits(bw) <= 8 * s.len() {
-        return Outcome::Pass;
-    }
-    answer::refuse_if(true, 3, channel, ran_out_at(bw, s, 0))
+    let place = ran_out_at(bw, s, 0);
+    Outcome::Refuse(Answer {
+        number: 3,
+        channel,
+        place,
+    })
 }
 
 fn is_wrong_first(bw: u32, channel: u32, s: &[u8]) -> bool
@@ -143,13 +148,16 @@ pub fn cut_users(bw: u32, channel: u32, s: &[u8], n: usize) -> Outcome
     requires { ⌜ (length (now s) ≤ 512) × (n ≤ 72) × (n ≡ count bw channel (now s)) ⌝ }
     ensures { λ r. ⌜ r ≡ cutUsers bw channel (now (s .entry)) ⌝ }
 {
-    if n == 0 {
+    let cut = (0 < n) & (8 * s.len() < channel::end_bit(bw, n));
+    if !cut {
         return Outcome::Pass;
     }
-    if channel::end_bit(bw, n) <= 8 * s.len() {
-        return Outcome::Pass;
-    }
-    answer::refuse_if(true, 9, channel, ran_out_at(bw, s, n))
+    let place = ran_out_at(bw, s, n);
+    Outcome::Refuse(Answer {
+        number: 9,
+        channel,
+        place,
+    })
 }
 
 fn is_wrong_block(bw: u32, s: &[u8], n: usize, b: usize) -> bool

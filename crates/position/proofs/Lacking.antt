@@ -1,6 +1,6 @@
--- A read gives a value exactly when all its bits are there; field by field it lacks bits first at the place of 3 and 9; a walked channel is short of
--- no bit exactly when it is cut short in neither of the ways that these answers tell.
-use Prim.Native.Nat.{ℕ, _+_, _*_, _≤_, _<_}
+-- A read gives a value exactly when all its bits are there, and at the place of 3 and 9 it lacks some; a walked channel is short of no bit exactly
+-- when it is cut short in neither of the ways that these answers tell.
+use Prim.Native.Nat.{ℕ, _+_, _*_, _^_, _≤_, _<_}
 use mathlib.Core.Path.{_≡_, sym}
 use mathlib.Core.Bool.{true}
 use mathlib.Core.List.{List}
@@ -8,15 +8,20 @@ use native.Mathlib.Decide.{decLt}
 use native.Mathlib.Omega.{arith}
 use lib.ListN.{length}
 use borrow.Author.Tests.{lt-ltb, le-ltb, eq-eqb, ne-eqb}
-use Rattle.answer.specs.declared.Outcome.the-variants.{Pass}
+use Rattle.answer.specs.declared.Answer.{Answer}
+use Rattle.answer.specs.declared.Outcome.the-variants.{Pass, Refuse}
 use Rattle.bits.specs.Bits.{field, lacks}
 use Rattle.bits.proofs.Fields.{lacks-none, lacks-inside}
 use Rattle.channel.specs.Layout.{present, common, count, endOf}
-use Rattle.channel.specs.Fields.{Named, namedFields, entry}
+use Rattle.channel.specs.Fields.{Named, namedFields, nthField}
+use Rattle.channel.proofs.Laws.{end-le}
+use Rattle.channel.proofs.Blocks.{end-none}
 use Rattle.channel.proofs.Widths.{named-le}
+use Rattle.channel.proofs.Fields.{tiles}
 use Rattle.faults.specs.Checks.{cutCommon, cutUsers}
-use Rattle.faults.specs.RanOut.{lacksOf, DidNotFit}
-use Rattle.faults.proofs.Passing.{cutCommon-pass, pass-cutCommon, pass-cutUsers, reaches}
+use Rattle.faults.specs.RanOut.{lacksOf, ranOutAt, DidNotFit}
+use Rattle.faults.proofs.Passing.{cutCommon-pass, pass-cutCommon, refuse-cutCommon, pass-cutUsers, refuse-cutUsers, reaches}
+use Rattle.faults.proofs.RanOut.{did-not-fit}
 use Rattle.position.specs.declared.Field.the-variants.{Value, Lacks}
 use Rattle.position.specs.Walk.{readAt, firstLacking, whole}
 use Rattle.position.proofs.Whole.{count-any}
@@ -29,23 +34,43 @@ pub read-short : (s : List ℕ) (at n : ℕ) → 0 < n → 8 * length s < at + n
 unfolding readAt
 read-short s at n l h = rw (ne-eqb (lacks s at n) 0 (λ e. omega (arith, lacks-inside s at n l e)))
 
--- 02, T-03: "Each field reader shall answer how many bits it lacked". Asked for a channel's named fields in sending order, it gives their values up
--- to the one that did not fit, and of that one how many bits it lacked: the place of 3 and 9 is the first bit for which it says so. Each is one that
--- it may be asked for.
-module _ (bw n : ℕ) (s : List ℕ) (k : ℕ) (d : DidNotFit s (namedFields bw n) k) where
+-- 02, T-03: "Each field reader shall answer how many bits it lacked". Asked for the named fields of a channel in sending order, it gives their
+-- values up to the one that did not fit, and of that one how many bits it lacked.
+module _ (bw n : ℕ) (s : List ℕ) where
   abbrev the : ℕ → Named
-  the j = entry (namedFields bw n) j
+  the j = nthField (namedFields bw n) j
 
-  pub reads-before : (j : ℕ) → j < k → readAt s (the j .first) (the j .width) ≡ Value (field s (the j .first) (the j .width)) (the j .first + the j .width)
+  pub reads-before : (k : ℕ) → DidNotFit s (namedFields bw n) k → (j : ℕ) → j < k
+      → readAt s (the j .first) (the j .width) ≡ Value (field s (the j .first) (the j .width)) (the j .first + the j .width)
   unfolding readAt
-  reads-before j l = rw (eq-eqb (lacksOf s (the j)) 0 (d .whole-before j l))
+  reads-before k d j l = rw (eq-eqb (lacksOf s (the j)) 0 (d .whole-before j l))
 
-  pub lacks-there : readAt s (the k .first) (the k .width) ≡ Lacks (lacksOf s (the k))
+  pub lacks-there : (k : ℕ) → DidNotFit s (namedFields bw n) k → readAt s (the k .first) (the k .width) ≡ Lacks (lacksOf s (the k))
   unfolding readAt
-  lacks-there = rw (ne-eqb (lacksOf s (the k)) 0 (λ e. omega (arith, d .lacks-one)))
+  lacks-there k d = rw (ne-eqb (lacksOf s (the k)) 0 (λ e. omega (arith, d .lacks-one)))
 
-  pub may-be-read : (j : ℕ) → the j .width ≤ 25
-  may-be-read j = omega (arith, named-le bw n j)
+  -- each of them may be asked for
+  pub may-be-read : n ≤ 72 → (j : ℕ) → (the j .width ≤ 25) × (the j .first + the j .width < 2 ^ 64)
+  may-be-read l j = (omega (arith, named-le bw n j), omega (arith, tiles bw n .inside j, end-le bw n l))
+
+  -- at the place where the bits ran out some of w bits lack
+  ran-out-lacks : 8 * length s < endOf bw n → (w m : ℕ) × (1 ≤ m) × (m ≤ w) × (readAt s (ranOutAt s (namedFields bw n)) w ≡ Lacks m)
+  ran-out-lacks l =
+      let (k, _, d, e) = did-not-fit bw n s l in
+      (the k .width, lacksOf s (the k), d .lacks-one, d .lacks-no-more, rw e (lacks-there k d))
+
+-- so at the place of 3, and of 9, the reader says how many bits of a field lack
+pub common-lacks : (bw c : ℕ) (s : List ℕ) (x : Answer) → cutCommon bw c s ≡ Refuse x
+    → (w m : ℕ) × (1 ≤ m) × (m ≤ w) × (readAt s (x .place) w ≡ Lacks m)
+common-lacks bw c s x e =
+    let r = refuse-cutCommon bw c s x e in
+    rw (r .2) (ran-out-lacks bw 0 s (omega (arith, r .1, end-none bw)))
+
+pub users-lacks : (bw c : ℕ) (s : List ℕ) (x : Answer) → cutUsers bw c s ≡ Refuse x
+    → (w m : ℕ) × (1 ≤ m) × (m ≤ w) × (readAt s (x .place) w ≡ Lacks m)
+users-lacks bw c s x e =
+    let r = refuse-cutUsers bw c s x e in
+    rw (r .2) (ran-out-lacks bw (count bw c s) s (r .1))
 
 -- no bits short: neither of the two
 none : (c u : ℕ) → firstLacking c u ≡ 0 → (c ≡ 0) × (u ≡ 0)

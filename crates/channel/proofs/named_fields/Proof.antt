@@ -1,5 +1,4 @@
 -- `channel::named_fields` meets its contract.
-use mathlib.Core.Path.{sym, _∙_}
 use native.Mathlib.Omega.{arith}
 use Rattle.channel.proofs.Widths.{widths-length}
 use borrow.Author.Needs.{needs}

@@ -1,8 +1,6 @@
 -- `channel::second_fields` meets its contract.
 use native.Mathlib.Omega.{arith}
 use mathlib.Core.Path.{_≡_, sym, _∙_}
-use lib.ListN.{length}
-use mathlib.Core.List.{List}
 use mathlib.Core.Bool.{true, false}
 use Rattle.channel.specs.Layout.{hasSecond, seconds}
 use Rattle.channel.proofs.Widths.{second-there, second-none, checked-length}

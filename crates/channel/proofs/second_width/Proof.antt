@@ -1,7 +1,7 @@
 -- `channel::second_width` meets its contract.
 use mathlib.Core.Path.{_≡_, sym, _∙_}
 use mathlib.Core.Bool.{true, false}
-use Rattle.channel.specs.Layout.{hasSecond, seconds}
+use Rattle.channel.specs.Layout.{hasSecond}
 use Rattle.channel.proofs.Widths.{second-there, second-none}
 use borrow.Author.Needs.{needs}
 use Rattle.channel.proofs.second_width.Statement.{statement}

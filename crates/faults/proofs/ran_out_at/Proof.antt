@@ -1,10 +1,8 @@
 -- `faults::ran_out_at` meets its contract.
-use Prim.Native.Nat.{ℕ, _+_, _-_, _*_, _≤_, _<_}
-use mathlib.Core.Path.{_≡_, refl, sym, _∙_, ap}
+use Prim.Native.Nat.{_-_, _*_, _≤_}
+use mathlib.Core.Path.{_≡_, refl, sym, _∙_}
 use native.Mathlib.Omega.{arith}
-use lib.ListN.{length, drop}
-use Rattle.answer.specs.Lists.{at}
-use Rattle.bits.specs.Bits.{lacks}
+use lib.ListN.{drop}
 use Rattle.channel.specs.Fields.{fieldsFrom, widths, namedFields}
 use Rattle.faults.specs.RanOut.{ranOutAt}
 use Rattle.faults.proofs.RanOut.{search-stop, search-on, search-end}
