@@ -1,9 +1,8 @@
 /* The reference: the scope paper ("01") in plain C, slow and literal.
  *
  * It is written from 01, from the change requests ("02") that have landed and from the radiotap EHT page
- * ("002") alone, and shares nothing with the crates. Each function is headed by the sentence of 01 or
- * 02 that it carries out. Where 01 leaves room,
- * the comment says "decision": docs/DECISIONS.md has it.
+ * ("002") alone, and shares nothing with the crates. Each function is headed by the sentence of 01 or 02
+ * that it carries out. Where 01 leaves room, the comment says "decision": docs/DECISIONS.md has it.
  */
 #ifndef REFERENCE_H
 #define REFERENCE_H

@@ -67,22 +67,24 @@ module _ (bw : ℕ) (a b : List ℕ) where
       let r = refuse-cutUsers bw c s x e in
       (s, rw (r .2) o, rw (r .2) (ends-in bw (count bw c s) s (r .1)))
 
+  -- of a row that asks the one, then the other
+  either : {Ends : List ℕ → Type 0} (check : ℕ → List ℕ → Outcome) (x : Answer)
+      → ((c : ℕ) (s : List ℕ) → OfChannel a b c s → check c s ≡ Refuse x → (t : List ℕ) × OfChannel a b (x .channel) t × Ends t)
+      → check 1 a or check 2 b ≡ Refuse x → (s : List ℕ) × OfChannel a b (x .channel) s × Ends s
+  either check x h e =
+      ⊎-elim
+      (λ (p : check 1 a ≡ Refuse x). h 1 a of-1 p)
+      (λ (p : (check 1 a ≡ Pass) × (check 2 b ≡ Refuse x)). h 2 b of-2 (p .1))
+      (or-cases (check 1 a) (check 2 b) x e)
+
   three-ends : (x : Answer) → check3 bw a b ≡ Refuse x → (s : List ℕ) × OfChannel a b (x .channel) s × EndsIn bw 0 s (x .place)
   unfolding check3
-  three-ends x e =
-      ⊎-elim
-      (λ (p : cutCommon bw 1 a ≡ Refuse x). common-ends a x of-1 p)
-      (λ (p : (cutCommon bw 1 a ≡ Pass) × (cutCommon bw 2 b ≡ Refuse x)). common-ends b x of-2 (p .1))
-      (or-cases (cutCommon bw 1 a) (cutCommon bw 2 b) x e)
+  three-ends x e = either (cutCommon bw) x (λ c s o p. common-ends s x o p) e
 
   nine-ends : (x : Answer) → check9 bw a b ≡ Refuse x
       → (s : List ℕ) × OfChannel a b (x .channel) s × EndsIn bw (count bw (x .channel) s) s (x .place)
   unfolding check9
-  nine-ends x e =
-      ⊎-elim
-      (λ (p : cutUsers bw 1 a ≡ Refuse x). users-ends a x of-1 p)
-      (λ (p : (cutUsers bw 1 a ≡ Pass) × (cutUsers bw 2 b ≡ Refuse x)). users-ends b x of-2 (p .1))
-      (or-cases (cutUsers bw 1 a) (cutUsers bw 2 b) x e)
+  nine-ends x e = either (cutUsers bw) x (λ c s o p. users-ends s x o p) e
 
   -- of an answer by the rows 1 to 11 and one more, each with its own number
   module _ (ns : List ℕ) (o : Outcome) (n : ℕ) (x : Answer) (size : length ns ≡ 12) (d : distinct ns ≡ true)
