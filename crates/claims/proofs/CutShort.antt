@@ -20,6 +20,7 @@ use Rattle.answer.proofs.Numbers.{distinct, absent, distinct-at}
 use Rattle.channel.specs.Layout.{present, common, count, endOf}
 use Rattle.channel.specs.Fields.{namedFields}
 use Rattle.channel.proofs.Blocks.{end-none}
+use Rattle.channel.proofs.Fields.{tiles, places-on-list}
 use Rattle.faults.specs.Checks.{cutCommon, cutUsers}
 use Rattle.faults.specs.RanOut.{ranOutAt}
 use Rattle.faults.proofs.Passing.{refuse-cutCommon, refuse-cutUsers}
@@ -227,6 +228,8 @@ c-list-as-before c (c-lists κs x r s p) =
 
 pub cut-short : CutShort
 cut-short = record {
+  are-all = tiles;
+  have-places = places-on-list;
   read-says = λ c h. read-rows (c .bandwidth) (c .channel-1) (c .channel-2) _ _ (c .answer) (first-demand .read-ends c h);
   list-says = λ c h. list-rows (c .bandwidth) (c .channel-1) (c .channel-2) _ _ (c .answer) (first-demand .list-ends c h);
   c-read-says = λ c h. read-rows (c .bandwidth) (c .channel-1) (c .channel-2) _ _ (c .answer) (first-demand .c-read-ends c h);

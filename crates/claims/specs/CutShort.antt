@@ -18,7 +18,7 @@ use Rattle.answer.specs.declared.Answer.{Answer}
 use Rattle.answer.specs.declared.Outcome.{Outcome}
 use Rattle.answer.specs.declared.Outcome.the-variants.{Refuse}
 use Rattle.channel.specs.Layout.{present, common, count, endOf}
-use Rattle.channel.specs.Fields.{namedFields, nthField}
+use Rattle.channel.specs.Fields.{namedFields, nthField, Tiles, PlacesOnList}
 use Rattle.faults.specs.RanOut.{DidNotFit}
 use Rattle.halves.specs.Table.{check1, check2, check4, check5, check6, check7, check8, check10, check11, outcome11}
 use Rattle.frame_words.specs.Words.{wordCount, wordsOf}
@@ -113,6 +113,9 @@ ListAsBefore bw a b c =
 -- ---- the request
 
 pub record CutShort : Type 1 where
+  -- "the smallest named in document 01's layout": the fields among which one did not fit are all of a channel's, and every place of the layout is one
+  pub are-all : (bw n : ℕ) → Tiles (namedFields bw n) (endOf bw n)
+  pub have-places : (bw n : ℕ) → PlacesOnList bw n
   -- "Reader, listing and C entry": of every call's answer
   pub read-says : (c : Call) → Reads c → SaysWhere (c .bandwidth) (c .channel-1) (c .channel-2) (c .answer)
   pub list-says : (c : Call) → Lists c → SaysWhere (c .bandwidth) (c .channel-1) (c .channel-2) (c .answer)
