@@ -1,13 +1,15 @@
 -- The widths of the named fields, one by one, as the code goes through them.
 use mathlib.Core.Path.{_≡_, refl, _∙_, ap}
-use mathlib.Core.Bool.{Bool, true, false, cond}
+use mathlib.Core.Bool.{Bool, true, false, cond, _&&_}
 use mathlib.Core.List.{List, [], _∷_, _++_}
 use Prim.Native.Nat.{ℕ, zero, suc, _+_, _-_, _*_, _/_, _%_, _≤_, _<_}
 use native.Mathlib.Decide.{decLt}
 use native.Mathlib.Omega.{arith}
+use lib.Dec.{leb, leb→le}
 use lib.ListN.{length, replicate, length-append, length-replicate, getD-replicate, List·getD-append, List·getD-eq-default}
 use lib.Seq.{getD-append-add}
 use Rattle.answer.specs.Lists.{at}
+use Rattle.resource.proofs.Test.{both-left, both-right, every-below}
 use Rattle.channel.specs.Layout.{firsts, seconds, hasSecond}
 use Rattle.channel.specs.Fields.{overflowWidths, checkedWidths, firstWidths, secondWidths, userWidths, widths, fieldsFrom, namedFields, nthField}
 
@@ -167,15 +169,14 @@ checked-wide w n l u k h = go (decLt k n) (decLt k (n + 1))
     go (no a) (yes b) = let e = checked-at-check w n k (omega arith) in (omega arith, omega arith)
     go (no a) (no b) = let e = checked-at-tail w n k (omega (arith, checked-length w n)) in (omega arith, omega arith)
 
+overflow-test : ℕ → Bool
+overflow-test k = leb 1 (at overflowWidths k) && leb (at overflowWidths k) 22
+
 overflow-wide : Wide 22 overflowWidths
-overflow-wide zero l = (omega arith, omega arith)
-overflow-wide (suc zero) l = (omega arith, omega arith)
-overflow-wide (suc (suc zero)) l = (omega arith, omega arith)
-overflow-wide (suc (suc (suc zero))) l = (omega arith, omega arith)
-overflow-wide (suc (suc (suc (suc zero)))) l = (omega arith, omega arith)
-overflow-wide (suc (suc (suc (suc (suc zero))))) l = (omega arith, omega arith)
-overflow-wide (suc (suc (suc (suc (suc (suc zero)))))) l = (omega arith, omega arith)
-overflow-wide (suc (suc (suc (suc (suc (suc (suc k))))))) l = absurd (omega arith)
+unfolding overflow-test
+overflow-wide k l =
+    let t = every-below overflow-test 7 tt k l in
+    (leb→le _ _ (both-left (leb 1 (at overflowWidths k)) _ t), leb→le _ _ (both-right (leb 1 (at overflowWidths k)) _ t))
 
 first-wide : (bw : ℕ) → Wide 22 (firstWidths bw)
 unfolding firstWidths
