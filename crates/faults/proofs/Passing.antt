@@ -26,8 +26,8 @@ use Rattle.channel.specs.Layout.{subfieldsIn, valueAt, value, count, blockAt, b
 use Rattle.channel.specs.Fields.{namedFields}
 use Rattle.channel.proofs.Blocks.{end-none}
 use Rattle.faults.specs.RanOut.{ranOutAt}
-use Rattle.faults.specs.Checks.{tooLong, cutCommon, wrongFirst, wrongSecond, wrongCommon, overflowDiffers, uncarried}
-use Rattle.faults.specs.Checks.{firstUncarried, notCarried, cutUsers, wrongBlock, firstWrong, wrongUsersOf, wrongUsers}
+use Rattle.faults.specs.Checks.{tooLong, shortCommon, cutCommon, wrongFirst, wrongSecond, wrongCommon, overflowDiffers, uncarried}
+use Rattle.faults.specs.Checks.{firstUncarried, notCarried, shortUsers, cutUsers, wrongBlock, firstWrong, wrongUsersOf, wrongUsers}
 
 -- ---- tests
 
@@ -40,7 +40,7 @@ pub guard : (t u : Bool) → (t ≡ true → u ≡ false) → t && u ≡ false
 guard true u h = h refl
 guard false u h = refl
 
-neither : (t u : Bool) → t || u ≡ false → (t ≡ false) × (u ≡ false)
+pub neither : (t u : Bool) → t || u ≡ false → (t ≡ false) × (u ≡ false)
 neither true u e = absurd (let z : _≡_ {A = ℕ} 0 1 = cc in omega arith)
 neither false u e = (refl, e)
 
@@ -104,7 +104,7 @@ pass-cutCommon bw c s h =
     if-pass _ _ (guard (present bw c) (ltb (8 * length s) (common bw)) (λ p. le-ltb (8 * length s) (common bw) (h p)))
 
 -- its test decides, and what a refusal says
-pub cutCommon-tested : (bw c : ℕ) (s : List ℕ) (t : Bool) → present bw c && ltb (8 * length s) (common bw) ≡ t
+pub cutCommon-tested : (bw c : ℕ) (s : List ℕ) (t : Bool) → shortCommon bw c s ≡ t
     → cutCommon bw c s ≡ refuseIf t (A.no 3 c (ranOutAt s (namedFields bw 0)))
 unfolding cutCommon
 cutCommon-tested bw c s t e = rw e refl
@@ -113,13 +113,13 @@ pub refuse-cutCommon : (bw c : ℕ) (s : List ℕ) (x : Answer) → cutCommon bw
     → (present bw c ≡ true) × (8 * length s < common bw) × (x ≡ A.no 3 c (ranOutAt s (namedFields bw 0)))
 unfolding cutCommon
 refuse-cutCommon bw c s x e =
-    let r = refuse-if (present bw c && ltb (8 * length s) (common bw)) (A.no 3 c (ranOutAt s (namedFields bw 0))) x e in
+    let r = refuse-if (shortCommon bw c s) (A.no 3 c (ranOutAt s (namedFields bw 0))) x e in
     let b = of-both (present bw c) (ltb (8 * length s) (common bw)) (r .0) in
     (b .0, ltb-true (8 * length s) (common bw) (b .1), sym (r .1))
 
 pub cutCommon-only : (bw c : ℕ) (s : List ℕ) → Only 3 (cutCommon bw c s)
 unfolding cutCommon
-cutCommon-only bw c s = only-if (present bw c && ltb (8 * length s) (common bw)) 3 c (ranOutAt s (namedFields bw 0))
+cutCommon-only bw c s = only-if (shortCommon bw c s) 3 c (ranOutAt s (namedFields bw 0))
 
 -- ---- 4
 
@@ -218,7 +218,7 @@ unfolding cutUsers
 pass-cutUsers bw c s h =
     if-pass _ _ (guard (ltb 0 (count bw c s)) _ (λ p. le-ltb (8 * length s) (endOf bw (count bw c s)) (h (ltb-true 0 (count bw c s) p))))
 
-pub cutUsers-tested : (bw c : ℕ) (s : List ℕ) (n : ℕ) (t : Bool) → n ≡ count bw c s → ltb 0 n && ltb (8 * length s) (endOf bw n) ≡ t
+pub cutUsers-tested : (bw c : ℕ) (s : List ℕ) (n : ℕ) (t : Bool) → n ≡ count bw c s → shortUsers bw n s ≡ t
     → cutUsers bw c s ≡ refuseIf t (A.no 9 c (ranOutAt s (namedFields bw n)))
 unfolding cutUsers
 cutUsers-tested bw c s n t f e = rw (← f, e) refl
@@ -228,13 +228,13 @@ pub refuse-cutUsers : (bw c : ℕ) (s : List ℕ) (x : Answer) → cutUsers bw c
 unfolding cutUsers
 refuse-cutUsers bw c s x e =
     let n = count bw c s in
-    let r = refuse-if (ltb 0 n && ltb (8 * length s) (endOf bw n)) (A.no 9 c (ranOutAt s (namedFields bw n))) x e in
+    let r = refuse-if (shortUsers bw n s) (A.no 9 c (ranOutAt s (namedFields bw n))) x e in
     let b = of-both (ltb 0 n) (ltb (8 * length s) (endOf bw n)) (r .0) in
     (ltb-true 0 n (b .0), ltb-true (8 * length s) (endOf bw n) (b .1), sym (r .1))
 
 pub cutUsers-only : (bw c : ℕ) (s : List ℕ) → Only 9 (cutUsers bw c s)
 unfolding cutUsers
-cutUsers-only bw c s = only-if (ltb 0 (count bw c s) && ltb (8 * length s) (endOf bw (count bw c s))) 9 c (ranOutAt s (namedFields bw (count bw c s)))
+cutUsers-only bw c s = only-if (shortUsers bw (count bw c s) s) 9 c (ranOutAt s (namedFields bw (count bw c s)))
 
 -- with 3: a channel that is there reaches its end, fields or none
 pub reaches : (bw c : ℕ) (s : List ℕ) → present bw c ≡ true → cutCommon bw c s ≡ Pass → cutUsers bw c s ≡ Pass → endOf bw (count bw c s) ≤ 8 * length s

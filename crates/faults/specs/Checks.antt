@@ -21,8 +21,11 @@ unfoldable pub tooLong : ℕ → ℕ → List ℕ → Outcome
 tooLong bw c s = refuseIf (ltb 512 (length s) || (not (present bw c) && ltb 0 (length s))) (no 2 c 0)
 
 -- 3: "common field cut short | channel, ..", and the place is where its bits ran out (02, T-03): among the fields of a channel with no User field
+abbrev pub shortCommon : ℕ → ℕ → List ℕ → Bool
+shortCommon bw c s = present bw c && ltb (8 * length s) (common bw)
+
 unfoldable pub cutCommon : ℕ → ℕ → List ℕ → Outcome
-cutCommon bw c s = refuseIf (present bw c && ltb (8 * length s) (common bw)) (no 3 c (ranOutAt s (namedFields bw 0)))
+cutCommon bw c s = refuseIf (shortCommon bw c s) (no 3 c (ranOutAt s (namedFields bw 0)))
 
 -- 4: "common check or tail wrong | channel, first check bit"
 unfoldable pub wrongFirst : ℕ → ℕ → List ℕ → Bool
@@ -54,10 +57,12 @@ unfoldable pub notCarried : ℕ → ℕ → List ℕ → Outcome
 notCarried bw c s =
     refuseIf (ltb (firstUncarried bw c s) (subfieldsIn bw c)) (no 6 c (valueAt bw (firstUncarried bw c s)))
 
--- 9: "User blocks cut short | channel, ..", and the place is where the bits ran out (02, T-03)
+-- 9: "User blocks cut short | channel, ..", and the place is where the bits ran out (02, T-03); n is the channel's number of fields
+abbrev pub shortUsers : ℕ → ℕ → List ℕ → Bool
+shortUsers bw n s = ltb 0 n && ltb (8 * length s) (endOf bw n)
+
 unfoldable pub cutUsers : ℕ → ℕ → List ℕ → Outcome
-cutUsers bw c s =
-    refuseIf (ltb 0 (count bw c s) && ltb (8 * length s) (endOf bw (count bw c s))) (no 9 c (ranOutAt s (namedFields bw (count bw c s))))
+cutUsers bw c s = refuseIf (shortUsers bw (count bw c s) s) (no 9 c (ranOutAt s (namedFields bw (count bw c s))))
 
 -- 10: "User check or tail wrong | channel, first check bit"; n is the channel's number of fields
 unfoldable pub wrongBlock : ℕ → List ℕ → ℕ → ℕ → Bool

@@ -9,8 +9,8 @@ ghost use Rattle.bits.specs.Bits.{differs};
 ghost use Rattle.channel.specs.Layout.{count};
 ghost use Rattle.channel.specs.Fields.{namedFields};
 ghost use Rattle.faults.specs.RanOut.{ranOutAt};
-ghost use Rattle.faults.specs.Checks.{tooLong, cutCommon, wrongFirst, wrongSecond, wrongCommon, overflowDiffers, uncarried};
-ghost use Rattle.faults.specs.Checks.{firstUncarried, notCarried, cutUsers, wrongBlock, firstWrong, wrongUsers};
+ghost use Rattle.faults.specs.Checks.{tooLong, shortCommon, cutCommon, wrongFirst, wrongSecond, wrongCommon, overflowDiffers};
+ghost use Rattle.faults.specs.Checks.{uncarried, firstUncarried, notCarried, shortUsers, cutUsers, wrongBlock, firstWrong, wrongUsers};
 
 // Answer 2 for one channel.
 pub fn too_long(bw: u32, channel: u32, s: &[u8]) -> Outcome
@@ -40,14 +40,20 @@ fn ran_out_at(bw: u32, s: &[u8], n: usize) -> usize
     0
 }
 
+pub fn is_short_common(bw: u32, channel: u32, s: &[u8]) -> bool
+    requires { ⌜ length (now s) ≤ 512 ⌝ }
+    ensures { λ r. ⌜ r ≡ shortCommon bw channel (now (s .entry)) ⌝ }
+{
+    let there = channel::is_present(bw, channel);
+    there & (8 * s.len() < channel::common_bits(bw))
+}
+
 // Answer 3.
 pub fn cut_common(bw: u32, channel: u32, s: &[u8]) -> Outcome
     requires { ⌜ length (now s) ≤ 512 ⌝ }
     ensures { λ r. ⌜ r ≡ cutCommon bw channel (now (s .entry)) ⌝ }
 {
-    let there = channel::is_present(bw, channel);
-    let cut = there & (8 * s.len() < channel::common_bits(bw));
-    if !cut {
+    if !is_short_common(bw, channel, s) {
         return Outcome::Pass;
     }
     let place = ran_out_at(bw, s, 0);
@@ -143,13 +149,19 @@ pub fn not_carried(bw: u32, channel: u32, s: &[u8]) -> Outcome
     answer::refuse_if(k < n, 6, channel, channel::value_bit(bw, k))
 }
 
+pub fn is_short_users(bw: u32, s: &[u8], n: usize) -> bool
+    requires { ⌜ (length (now s) ≤ 512) × (n ≤ 72) ⌝ }
+    ensures { λ r. ⌜ r ≡ shortUsers bw n (now (s .entry)) ⌝ }
+{
+    (0 < n) & (8 * s.len() < channel::end_bit(bw, n))
+}
+
 // Answer 9, of a channel that has n fields.
 pub fn cut_users(bw: u32, channel: u32, s: &[u8], n: usize) -> Outcome
     requires { ⌜ (length (now s) ≤ 512) × (n ≤ 72) × (n ≡ count bw channel (now s)) ⌝ }
     ensures { λ r. ⌜ r ≡ cutUsers bw channel (now (s .entry)) ⌝ }
 {
-    let cut = (0 < n) & (8 * s.len() < channel::end_bit(bw, n));
-    if !cut {
+    if !is_short_users(bw, s, n) {
         return Outcome::Pass;
     }
     let place = ran_out_at(bw, s, n);

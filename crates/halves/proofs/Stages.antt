@@ -10,13 +10,14 @@ use Rattle.answer.specs.Answer.{_or_}
 use Rattle.answer.specs.declared.Outcome.{Outcome}
 use Rattle.answer.specs.declared.Outcome.the-variants.{Pass}
 use Rattle.answer.proofs.First.{first-chain}
-use Rattle.answer.proofs.Order.{pass-left, pass-right, pass-if, or-assoc}
+use Rattle.answer.proofs.Order.{pass-left, pass-right, or-pass, pass-if, or-assoc}
 use Rattle.plan.specs.Engine.{planOutcome}
 use Rattle.plan.specs.Worked.{outcome7, outcome8}
 use Rattle.plan.proofs.Worked.{outcome-is}
-use Rattle.channel.specs.Layout.{row}
-use Rattle.faults.specs.Checks.{tooLong}
-use Rattle.halves.specs.Table.{checks11, check1, check2, check3, check4, check5, check6, check7, check8, outcome11, outcome6}
+use Rattle.channel.specs.Layout.{row, count}
+use Rattle.faults.specs.Checks.{tooLong, shortCommon, shortUsers}
+use Rattle.faults.proofs.Passing.{neither, cutCommon-tested, cutUsers-tested}
+use Rattle.halves.specs.Table.{checks11, check1, check2, check3, check4, check5, check6, check7, check8, check9, outcome11, outcome6}
 use Rattle.halves.specs.Engine.{outcome5, outcome9to11, AtMost512}
 
 pub outcome11-stages : (bw : ℕ) (a b : List ℕ) → outcome11 bw a b ≡ outcome6 bw a b or planOutcome (row bw a b) or outcome9to11 bw a b
@@ -27,13 +28,9 @@ outcome11-stages bw a b =
     in-order : outcome11 bw a b ≡ outcome6 bw a b or (outcome7 (row bw a b) or outcome8 (row bw a b)) or outcome9to11 bw a b
     in-order = first-chain (check1 bw) (drop 1 (checks11 bw a b)) ∙ simp or-assoc
 
-or-false : (s t : Bool) → s || t ≡ false → s ≡ false
-or-false true t e = e
-or-false false t e = refl
-
 not-long : (bw c : ℕ) (s : List ℕ) → tooLong bw c s ≡ Pass → length s ≤ 512
 unfolding tooLong
-not-long bw c s e = ltb-false 512 (length s) (or-false (ltb 512 (length s)) _ (pass-if _ _ e))
+not-long bw c s e = ltb-false 512 (length s) (neither (ltb 512 (length s)) _ (pass-if _ _ e) .0)
 
 pub at-most-512 : (bw : ℕ) (a b : List ℕ) → check1 bw or check2 bw a b ≡ Pass → AtMost512 a b
 unfolding check2
@@ -43,6 +40,20 @@ at-most-512 bw a b e =
       first = not-long bw 1 a (pass-left _ (tooLong bw 2 b) f);
       second = not-long bw 2 b (pass-right (tooLong bw 1 a) _ f);
     }
+
+-- where neither channel is cut short, 3 passes, and 9
+pub none-short-3 : (bw : ℕ) (a b : List ℕ) → shortCommon bw 1 a || shortCommon bw 2 b ≡ false → check3 bw a b ≡ Pass
+unfolding check3
+none-short-3 bw a b e =
+    let n = neither (shortCommon bw 1 a) (shortCommon bw 2 b) e in
+    or-pass _ _ (cutCommon-tested bw 1 a false (n .0)) (cutCommon-tested bw 2 b false (n .1))
+
+pub none-short-9 : (bw : ℕ) (a b : List ℕ) (n m : ℕ) → n ≡ count bw 1 a → m ≡ count bw 2 b → shortUsers bw n a || shortUsers bw m b ≡ false
+    → check9 bw a b ≡ Pass
+unfolding check9
+none-short-9 bw a b n m e f h =
+    let t = neither (shortUsers bw n a) (shortUsers bw m b) h in
+    or-pass _ _ (cutUsers-tested bw 1 a n false e (t .0)) (cutUsers-tested bw 2 b m false f (t .1))
 
 pub record Common (bw : ℕ) (a b : List ℕ) : Type 0 where
   pub known : bw ≤ 4

@@ -5,7 +5,7 @@ ghost use mathlib.Core.Bool.{true};
 ghost use Prim.Native.Nat.{_≤_};
 ghost use Rattle.answer.specs.Answer.{_or_};
 ghost use Rattle.channel.specs.Layout.{row, count};
-ghost use Rattle.halves.specs.Table.{check1, check2, check3, check4, check5, check6, check10, check11};
+ghost use Rattle.halves.specs.Table.{check1, check2, check3, check4, check5, check6, check9, check10, check11};
 ghost use Rattle.halves.specs.Engine.{AtMost512, Sealed, outcome5, outcome9to11};
 ghost use Rattle.halves.specs.Engine.{allCarried, noPlan, plannedOf};
 
@@ -20,6 +20,18 @@ fn first_checks(bw: u32, a: &[u8], b: &[u8]) -> Outcome
     )
 }
 
+// 3. Both channels are measured before either's place is looked for, so that a whole frame pays for no walk and lends no slice to one.
+fn cut_common(bw: u32, a: &[u8], b: &[u8]) -> Outcome
+    requires { ⌜ AtMost512 (now a) (now b) ⌝ }
+    ensures { λ r. ⌜ r ≡ check3 bw (now (a .entry)) (now (b .entry)) ⌝ }
+{
+    let short = faults::is_short_common(bw, 1, a) | faults::is_short_common(bw, 2, b);
+    if !short {
+        return Outcome::Pass;
+    }
+    answer::or_else(faults::cut_common(bw, 1, a), faults::cut_common(bw, 2, b))
+}
+
 fn then_cut_common(prev: Outcome, bw: u32, a: &[u8], b: &[u8]) -> Outcome
     requires { ⌜ (prev ≡ Outcome.Pass → AtMost512 (now a) (now b)) ⌝ }
     ensures { λ r. ⌜ r ≡ (prev or check3 bw (now (a .entry)) (now (b .entry))) ⌝ }
@@ -27,7 +39,7 @@ fn then_cut_common(prev: Outcome, bw: u32, a: &[u8], b: &[u8]) -> Outcome
     if let Outcome::Refuse(_) = prev {
         return prev;
     }
-    answer::or_else(faults::cut_common(bw, 1, a), faults::cut_common(bw, 2, b))
+    cut_common(bw, a, b)
 }
 
 fn then_wrong_common(prev: Outcome, bw: u32, a: &[u8], b: &[u8], sealed: bool) -> Outcome
@@ -145,6 +157,21 @@ pub fn plan_frame(bw: u32, a: &[u8], b: &[u8], sealed: bool) -> Planned
 
 // ---- the second half, whatever the room: 9 to 11, of n fields in channel 1 and m in channel 2
 
+// 9, measured as 3 is.
+fn cut_users(bw: u32, a: &[u8], b: &[u8], n: usize, m: usize) -> Outcome
+    requires { ⌜ AtMost512 (now a) (now b) × (n ≤ 72) × (m ≤ 72) × (n ≡ count bw 1 (now a)) × (m ≡ count bw 2 (now b)) ⌝ }
+    ensures { λ r. ⌜ r ≡ check9 bw (now (a .entry)) (now (b .entry)) ⌝ }
+{
+    let short = faults::is_short_users(bw, a, n) | faults::is_short_users(bw, b, m);
+    if !short {
+        return Outcome::Pass;
+    }
+    answer::or_else(
+        faults::cut_users(bw, 1, a, n),
+        faults::cut_users(bw, 2, b, m),
+    )
+}
+
 fn then_wrong_users(
     prev: Outcome,
     bw: u32,
@@ -195,10 +222,7 @@ pub fn then_users(
     if let Outcome::Refuse(_) = prev {
         return prev;
     }
-    let r = answer::or_else(
-        faults::cut_users(bw, 1, a, n),
-        faults::cut_users(bw, 2, b, m),
-    );
+    let r = cut_users(bw, a, b, n, m);
     let r = then_wrong_users(r, bw, a, b, n, m, sealed);
     then_twice(r, bw, a, b, n, m)
 }
