@@ -3,3 +3,4 @@ pub mod Tally
 pub mod Answer
 pub mod Order
 pub mod Lists
+pub mod Decides

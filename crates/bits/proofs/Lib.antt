@@ -5,3 +5,4 @@ pub mod Fields
 pub mod Differs
 pub mod Bytes
 pub mod Stores
+pub mod Pack

@@ -6,7 +6,7 @@ use Prim.Native.Nat.{ℕ, _<_, zero, suc}
 use native.Mathlib.Omega.{arith}
 use lib.Dec.{ltb, eqb, T}
 use borrow.Author.Tests.{ltb-true, ltb-false, eqb-true, eqb-false}
-use Rattle.plan.specs.Decides.{Decides}
+use Rattle.answer.specs.Decides.{Decides}
 use Rattle.resource.proofs.Test.{below}
 
 -- ---- tests as facts

@@ -1,4 +1,3 @@
-pub mod Decides
 pub mod Kinds
 pub mod Signals
 pub mod Fields

@@ -10,7 +10,7 @@ use Rattle.answer.specs.Answer.{no, refuseIf, _or_}
 use Rattle.answer.specs.Least.{least}
 use Rattle.answer.specs.Lists.{at}
 use Rattle.answer.specs.declared.Outcome.{Outcome}
-use Rattle.plan.specs.Decides.{Decides}
+use Rattle.answer.specs.Decides.{Decides}
 use Rattle.plan.specs.Signals.{Signals}
 use Rattle.plan.specs.Answers.{segments, SegmentPlan, SegmentPlanOfEight, Laid}
 use Rattle.plan.specs.Engine.{onlyPlan, segmentRight, segmentWithin}

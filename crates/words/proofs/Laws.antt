@@ -8,12 +8,12 @@ use native.Mathlib.Nat.{mod-lt, mod-eq-of-lt, add-zero, div-one}
 use lib.Dec.{ltb, eqb}
 use borrow.Author.Tests.{lt-ltb, ne-eqb}
 use Rattle.channel.specs.Fields.{overflowWidths}
-use Rattle.words.specs.Pack.{pack, unpack, Fit}
+use Rattle.bits.specs.Pack.{pack, unpack, Fit}
 use Rattle.answer.specs.Lists.{at}
 use Rattle.words.specs.Words.{header, data0Widths, ltfSizeOf, giOf, data0Of, overflowWord, valueSlot, firstWord, tripleWord}
 use Rattle.words.specs.Words.{aloneWidths, aloneWordWidths, aloneOf, sharedWidths, sharedWordWidths, sharedOf, userWord}
 use Rattle.words.specs.Engine.{giLtf, overflowIn, overflowOf, valueOf, knownOf, aloneIn, sharedIn, fieldIn, userField}
-use Rattle.words.proofs.Pack.{unpack-pack, pack-unpack, unpack-fit, pack-lt}
+use Rattle.bits.proofs.Pack.{unpack-pack, pack-unpack, unpack-fit, pack-lt}
 
 -- ---- User words
 alone-fit : (f : ℕ) → Fit aloneWordWidths (aloneOf (unpack aloneWidths f))

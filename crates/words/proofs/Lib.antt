@@ -1,2 +1,1 @@
-pub mod Pack
 pub mod Laws

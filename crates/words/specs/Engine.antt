@@ -5,7 +5,7 @@ use mathlib.Core.List.{List, [], _∷_}
 use Prim.Native.Nat.{ℕ, _+_, _-_, _*_, _/_, _%_, _^_}
 use lib.Dec.{eqb}
 use Rattle.channel.specs.Fields.{overflowWidths}
-use Rattle.words.specs.Pack.{pack, unpack}
+use Rattle.bits.specs.Pack.{pack, unpack}
 use Rattle.answer.specs.Lists.{at}
 use Rattle.words.specs.Words.{data0Widths, aloneWidths, aloneWordWidths, sharedWidths, sharedWordWidths}
 

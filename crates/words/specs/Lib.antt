@@ -1,3 +1,2 @@
-pub mod Pack
 pub mod Words
 pub mod Engine

@@ -8,7 +8,7 @@ use lib.Dec.{ltb}
 use lib.ListN.{getD}
 use Rattle.answer.specs.Lists.{at}
 use Rattle.channel.specs.Fields.{overflowWidths}
-use Rattle.words.specs.Pack.{pack, unpack}
+use Rattle.bits.specs.Pack.{pack, unpack}
 
 -- "Known is 0x61F6, or 0x1E1F6 at 160 and 320."
 unfoldable pub known : ℕ → ℕ

@@ -6,7 +6,7 @@ use Prim.Native.Nat.{ℕ}
 use native.Mathlib.Omega.{arith}
 use lib.ListN.{length}
 use Rattle.bits.specs.Bits.{Small}
-use Rattle.plan.specs.Decides.{Decides}
+use Rattle.answer.specs.Decides.{Decides}
 use Rattle.channel.specs.Layout.{present, count}
 use Rattle.frame_words.specs.Words.{wordsOf}
 use Rattle.candidate.specs.Engine.{countIn, channelIn, candidate}

@@ -7,7 +7,7 @@ use Prim.Native.Nat.{ℕ, _≤_}
 use lib.ListN.{length}
 use Rattle.answer.specs.declared.Outcome.the-variants.{Pass}
 use Rattle.bits.specs.Bits.{bit, Small, Same}
-use Rattle.plan.specs.Decides.{Decides}
+use Rattle.answer.specs.Decides.{Decides}
 use Rattle.channel.specs.Layout.{present, count, endOf}
 use Rattle.halves.specs.Table.{outcome11}
 use Rattle.frame_words.specs.Words.{wordsOf}

@@ -5,7 +5,7 @@ use Prim.Native.Nat.{ℕ, suc, _+_, _*_, _/_, _%_, _^_, _≤_, _<_}
 use native.Mathlib.Omega.{arith}
 use native.Mathlib.Nat.{add-comm, mul-comm, add-mul-div-left, mul-add-mod-self-left, mod-eq-of-lt, mod-lt, div-eq-of-lt, div-lt-iff-lt-mul, mod-add-div}
 use lib.Pow.{pow-pos, pow-add}
-use Rattle.words.specs.Pack.{pack, unpack, Fit, width}
+use Rattle.bits.specs.Pack.{pack, unpack, Fit, width}
 
 low : (m v p : ℕ) → v < m → (v + m * p) % m ≡ v
 low m v p l = ap (λ (x : ℕ). x % m) (add-comm v (m * p)) ∙ mul-add-mod-self-left m p v ∙ mod-eq-of-lt l
