@@ -1,8 +1,8 @@
 -- The laws of how many numbers below a bound pass a test.
-use mathlib.Core.Path.{_≡_, refl}
+use mathlib.Core.Path.{_≡_, refl, ap}
 use mathlib.Core.Logic.{⊎-elim, _≢_}
 use mathlib.Core.Bool.{Bool, true, false, not, cond}
-use Prim.Native.Nat.{ℕ, zero, suc, _+_, _≤_, _<_}
+use Prim.Native.Nat.{ℕ, zero, suc, _+_, _-_, _≤_, _<_}
 use native.Mathlib.Omega.{arith}
 use native.Mathlib.Nat.{add-zero, add-suc, eq-or-lt-of-le, le-of-suc-le-suc}
 use native.Mathlib.Numerals.{add-one}
@@ -15,6 +15,24 @@ tally-cong t u (suc n) e = rw (tally-cong t u n (λ k l. e k (omega arith)), e n
 pub tally-split : (t : ℕ → Bool) (a b : ℕ) → tally t (a + b) ≡ tally t a + tally (λ k. t (a + k)) b
 tally-split t a zero = rw (add-zero a) (omega arith)
 tally-split t a (suc b) = rw (add-suc a b) (omega (arith, tally-split t a b))
+
+-- a count does not fall where its bound rises
+pub tally-mono : (t : ℕ → Bool) (a b : ℕ) → a ≤ b → tally t a ≤ tally t b
+tally-mono t a b l =
+    let s = tally-split t a (b - a) in
+    let e : a + (b - a) ≡ b = omega arith in
+    let f : tally t (a + (b - a)) ≡ tally t b = ap (tally t) e in
+    omega arith
+
+-- what passes a narrower test is no more
+pub tally-under : (t u : ℕ → Bool) (n : ℕ) → ((k : ℕ) → k < n → t k ≡ true → u k ≡ true) → tally t n ≤ tally u n
+tally-under t u zero h = omega arith
+tally-under t u (suc n) h =
+    omega (arith, tally-under t u n (λ k l. h k (omega arith)), one (t n) (u n) (h n (omega arith)))
+  where
+    one : (a b : Bool) → (a ≡ true → b ≡ true) → cond a 1 0 ≤ cond b 1 0
+    one true b f = rw (f refl) (omega arith)
+    one false b f = omega arith
 
 pub tally-none : (t : ℕ → Bool) (n : ℕ) → ((k : ℕ) → k < n → t k ≡ false) → tally t n ≡ 0
 tally-none t zero e = refl

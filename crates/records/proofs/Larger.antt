@@ -103,7 +103,7 @@ larger-inside c n p u h d t =
     (one-span v p (w .0) (span c) (spans c h) (eqb→eq _ _ (both-left s _ y)), rw (← one-place v (span c) (spans c h)) (is-true _ (both-right s _ y)))
 
 -- ---- and they are those that 01 lists
-is-there : (n g p : ℕ) (x : Piece) → p < 4 → 4 * g + p < n → fromPositions x ≤ n → T (isPiece x) → T (exists n g p x)
+pub is-there : (n g p : ℕ) (x : Piece) → p < 4 → 4 * g + p < n → fromPositions x ≤ n → T (isPiece x) → T (exists n g p x)
 unfolding exists
 is-there n g p x h i j t =
     both (ltb p 4 && ltb (4 * g + p) n && leb (fromPositions x) n) (isPiece x)
