@@ -297,6 +297,20 @@ static void case_text(void)
     free(t.bytes);
 }
 
+/* A call of T-02: bytes in, and the room they go to as it is afterwards. */
+static void case_trigger(answer call(uint32_t, const uint8_t *, size_t, uint8_t *, size_t))
+{
+    want(4);
+    string s = string_of(2);
+    size_t room = (size_t)number(3);
+    uint8_t *out = room_for(room);
+    print_answer(call(bandwidth(1), s.bytes, s.length, out, room));
+    putchar(' ');
+    print_bytes(out, room);
+    free(out);
+    free(s.bytes);
+}
+
 static void run_case(char *line)
 {
     split(line);
@@ -316,6 +330,9 @@ static void run_case(char *line)
     case 'W': case_write(); break;
     case 'L': case_list(); break;
     case 'T': case_text(); break;
+    case 't': case_trigger(reference_trigger_read); break;
+    case 'u': case_trigger(reference_trigger_write); break;
+    case 'o': case_trigger(reference_trigger_overlaps); break;
     default: wrong_case(line_number, "a letter that names no case");
     }
     putchar('\n');

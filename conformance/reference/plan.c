@@ -139,7 +139,7 @@ unsigned plans_of_segment(const unsigned *row, unsigned positions, unsigned segm
 /* "At position p of its segment, i the place among the nine, four or two of its kind, from 1: 26 has
  * index 9p+i, plus 1 where p is 2 or 3 (19 doesn't exist); 52 4p+i; 106 2p+i; 106+26 2p+1 (48) or 2p+2
  * (50)". */
-static unsigned index_of_piece(piece x, unsigned p)
+unsigned index_of_piece(piece x, unsigned p)
 {
     switch (x.size) {
     case TONES_26: return 9 * p + x.place + (p == 2 || p == 3 ? 1 : 0);

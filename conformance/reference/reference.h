@@ -71,6 +71,7 @@ typedef struct {
 } layout;
 
 unsigned positions_of(unsigned bandwidth);
+unsigned index_of_piece(piece x, unsigned p); /* at position p of its segment */
 unsigned plans_of_segment(const unsigned *row, unsigned positions, unsigned segment);
 void lay_out(const unsigned *row, unsigned positions, layout *l);
 
@@ -137,6 +138,12 @@ answer reference_write_bytes(uint32_t bandwidth, const uint8_t *words, size_t le
 answer reference_list(uint32_t bandwidth, const uint8_t *cc1, size_t cc1_length, const uint8_t *cc2,
                       size_t cc2_length, uint8_t *text, size_t room);
 size_t reference_program(const uint8_t *text, size_t length, char out[MOST_LISTING]);
+
+/* trigger.c: the EHT variant User Info of a Trigger frame (02, T-02). */
+answer reference_trigger_read(uint32_t bandwidth, const uint8_t *entry, size_t length, uint8_t *bytes, size_t room);
+answer reference_trigger_write(uint32_t bandwidth, const uint8_t *bytes, size_t length, uint8_t *entry, size_t room);
+answer reference_trigger_overlaps(uint32_t bandwidth, const uint8_t *entries, size_t length, uint8_t *pairs,
+                                  size_t room);
 
 /* selftest.c: prints a line for each check that fails, and `N passed, M failed`; the status is 0 if M is 0. */
 int self_test(void);

@@ -597,6 +597,282 @@ static void answers(void)
     answer_is(reference_write_bytes(0, large, 41, back[0], 600, NULL, 0), 13, 0, 0, "a word text not divisible by four");
 }
 
+/* 02, T-02: an entry's five bytes, added up as one number of 40 bits: B0 is bit 12, B7-B1 bits 13 to 19, PS160 bit 39. */
+static void entry_of(uint64_t aid12, uint64_t b0, uint64_t value, uint64_t rest, uint64_t ps160, uint8_t entry[5])
+{
+    uint64_t n = aid12 + 0x1000 * b0 + 0x2000 * value + 0x100000 * rest + 0x8000000000 * ps160;
+    for (unsigned k = 0; k < 5; k++)
+        entry[k] = (uint8_t)(n >> 8 * k);
+}
+
+/* A record's eight numbers, little-endian. */
+static void record_of(const uint32_t number[8], uint8_t record[32])
+{
+    for (unsigned k = 0; k < 32; k++)
+        record[k] = (uint8_t)(number[k / 4] >> k % 4 * 8);
+}
+
+/* 001's Table 9-31i1 as far as 20, 40 and 80 MHz go, row by row, less what 02 (T-02) does not name: reserved values,
+ * 52+26, and of "86-89" the MRU6 and MRU7 that 01 does not allow. */
+static const struct {
+    unsigned first, last, bandwidth; /* the narrowest */
+    uint32_t size, index;            /* the index of the first */
+} row_of_001[] = {
+    {0, 8, 0, 26, 1}, {9, 17, 1, 26, 10}, {19, 36, 2, 26, 20},
+    {37, 40, 0, 52, 1}, {41, 44, 1, 52, 5}, {45, 52, 2, 52, 9},
+    {53, 54, 0, 106, 1}, {55, 56, 1, 106, 3}, {57, 60, 2, 106, 5},
+    {61, 61, 0, 242, 1}, {62, 62, 1, 242, 2}, {63, 64, 2, 242, 3},
+    {65, 65, 1, 484, 1}, {66, 66, 2, 484, 2},
+    {67, 67, 2, 996, 1},
+    {82, 83, 0, 132, 1}, {84, 85, 1, 132, 3}, {86, 86, 2, 132, 5}, {89, 89, 2, 132, 8},
+    {90, 93, 2, 726, 1},
+};
+
+/* Every value under every bandwidth, read and written back. */
+static void trigger_values(void)
+{
+    static const unsigned how_many[3] = {18, 37, 77};
+    for (uint32_t bandwidth = 0; bandwidth <= 2; bandwidth++) {
+        unsigned named = 0;
+        for (unsigned value = 0; value < 128; value++) {
+            uint32_t number[8] = {7, 0, 0, 1, 11, 0, 33, 90};
+            uint8_t entry[5], right[32], record[32], back[5];
+            char what[80];
+            answer a;
+            sprintf(what, "code %u, value %u of a User Info", (unsigned)bandwidth, value);
+            entry_of(7, 0, value, 1 + 2 * 11 + 64 * 33 + 4096 * 90, 0, entry);
+            a = reference_trigger_read(bandwidth, entry, 5, record, 32);
+            for (unsigned k = 0; k < sizeof row_of_001 / sizeof row_of_001[0]; k++)
+                if (value >= row_of_001[k].first && value <= row_of_001[k].last
+                    && bandwidth >= row_of_001[k].bandwidth) {
+                    number[1] = row_of_001[k].size;
+                    number[2] = row_of_001[k].index + value - row_of_001[k].first;
+                }
+            if (number[1] == 0) {
+                answer_is(a, 17, 0, 0, what);
+                continue;
+            }
+            named++;
+            record_of(number, right);
+            answer_is(a, 0, 0, 32, what);
+            expect(memcmp(record, right, 32) == 0, what);
+            answer_is(reference_trigger_write(bandwidth, right, 32, back, 5), 0, 0, 5, what);
+            expect(memcmp(back, entry, 5) == 0, what);
+        }
+        expect(named == how_many[bandwidth], "how many values a bandwidth names");
+    }
+}
+
+/* Two entries counted out by hand: AID12 5, value 61, coding 1, MCS 7, reserved 1, SS 9, target power 60 are
+ * 0x005 + (0x7A << 12) + (1 << 20) + (7 << 21) + (1 << 25) + (9 << 26) + (60 << 32) = 0x3C26F7A005; all bits set but B0,
+ * PS160 and those that the value 36 has not; and none. */
+static void trigger_bytes(void)
+{
+    static const struct {
+        uint8_t entry[5];
+        uint32_t number[8];
+    } by_hand[] = {{{0x05, 0xA0, 0xF7, 0x26, 0x3C}, {5, 242, 1, 1, 7, 1, 9, 60}},
+                   {{0xFF, 0x8F, 0xF4, 0xFF, 0x7F}, {4095, 26, 37, 1, 15, 1, 63, 127}},
+                   {{0, 0, 0, 0, 0}, {0, 26, 1, 0, 0, 0, 0, 0}}};
+    for (unsigned k = 0; k < 3; k++) {
+        uint8_t right[32], record[40], back[8];
+        record_of(by_hand[k].number, right);
+        memset(record, 0xA5, sizeof record);
+        memset(back, 0xA5, sizeof back);
+        answer_is(reference_trigger_read(2, by_hand[k].entry, 5, record, 40), 0, 0, 32, "five bytes by hand are read");
+        expect(memcmp(record, right, 32) == 0 && record[32] == 0xA5, "five bytes by hand: the record and no more");
+        answer_is(reference_trigger_write(2, right, 32, back, 8), 0, 0, 5, "a record by hand is written");
+        expect(memcmp(back, by_hand[k].entry, 5) == 0 && back[5] == 0xA5, "a record by hand: the bytes and no more");
+    }
+}
+
+/* "in that order after 1": 15, 24, 16, 17, and 23 last. "Channel and place are 0 here". */
+static void trigger_refusals(void)
+{
+    uint8_t entry[10] = {0}, record[32];
+    entry_of(2007, 1, 127, 0, 1, entry);
+    answer_is(reference_trigger_read(3, entry, 4, record, 0), 1, 0, 0, "a Trigger's code 3 is 1, before 15");
+    answer_is(reference_trigger_read(0xFFFFFFFF, entry, 5, record, 0), 1, 0, 0, "a Trigger's largest code is 1");
+    answer_is(reference_trigger_read(2, NULL, 0, record, 0), 15, 0, 0, "no bytes are 15");
+    answer_is(reference_trigger_read(2, entry, 4, record, 0), 15, 0, 0, "four bytes are 15, before 24");
+    answer_is(reference_trigger_read(2, entry, 6, record, 0), 15, 0, 0, "six bytes are 15");
+    answer_is(reference_trigger_read(2, entry, 10, record, 0), 15, 0, 0, "two entries are 15 where one is read");
+    answer_is(reference_trigger_read(2, entry, 5, record, 0), 24, 0, 0, "AID12 2007 is 24, before 16");
+    entry_of(2006, 0, 127, 0, 1, entry);
+    answer_is(reference_trigger_read(2, entry, 5, record, 0), 16, 0, 0, "PS160 is 16, before 17");
+    entry_of(2008, 1, 18, 0, 0, entry);
+    answer_is(reference_trigger_read(2, entry, 5, record, 0), 16, 0, 0, "B0 is 16, before 17");
+    entry_of(4095, 0, 18, 0, 0, entry);
+    answer_is(reference_trigger_read(2, entry, 5, record, 0), 17, 0, 0, "a reserved value is 17, before 23");
+    entry_of(2046, 0, 67, 0, 0, entry);
+    answer_is(reference_trigger_read(1, entry, 5, record, 0), 17, 0, 0, "a value too wide is 17, before 23");
+    memset(record, 0xA5, sizeof record);
+    answer_is(reference_trigger_read(2, entry, 5, record, 31), 23, 0, 32, "a record's room is 32 bytes");
+    expect(record[0] == 0xA5, "23 writes nothing");
+}
+
+/* The same of the writer: 1, 24, 17, 23. One number of a right record is changed at a time. */
+static void trigger_writer(void)
+{
+    static const uint32_t limit[8] = {4096, 0, 0, 2, 16, 2, 64, 128};
+    static const struct { uint32_t size, index; } none[] = {
+        {26, 0}, {26, 19}, {26, 38}, {52, 0}, {52, 17}, {106, 0}, {106, 9}, {242, 0}, {242, 5}, {484, 0}, {484, 3},
+        {996, 0}, {996, 2}, {132, 0}, {132, 6}, {132, 7}, {132, 9}, {726, 0}, {726, 5}, {78, 1}, {0, 0}, {0, 1},
+        {1992, 1}, {26, 0x80000001}, {26 + 256, 1}};
+    uint32_t number[8] = {2007, 26, 1, 0, 0, 0, 0, 0};
+    uint8_t record[40] = {0}, entry[8];
+    record_of(number, record);
+    answer_is(reference_trigger_write(3, record, 32, entry, 0), 1, 0, 0, "the writer's 1, before 24");
+    answer_is(reference_trigger_write(2, record, 32, entry, 0), 24, 0, 0, "the writer's 24, before 23");
+    answer_is(reference_trigger_write(2, record, 4, entry, 0), 24, 0, 0, "24 in a record of four bytes");
+    answer_is(reference_trigger_write(2, record, 3, entry, 0), 17, 0, 0, "17 for a record of three");
+    record[3] = 1;
+    answer_is(reference_trigger_write(2, record, 32, entry, 0), 17, 0, 0, "2007 in the low bits alone is not 2007");
+    number[0] = 2006;
+    record_of(number, record);
+    for (size_t length = 0; length <= 40; length++)
+        answer_is(reference_trigger_write(2, record, length, entry, 8), length == 32 ? 0 : 17, 0, length == 32 ? 5 : 0,
+                  "a record is 32 bytes");
+    memset(entry, 0xA5, sizeof entry);
+    for (size_t room = 0; room < 5; room++)
+        answer_is(reference_trigger_write(2, record, 32, entry, room), 23, 0, 5, "an entry's room is five bytes");
+    expect(entry[0] == 0xA5, "the writer's 23 writes nothing");
+    for (unsigned k = 0; k < 8; k++) {
+        uint32_t kept = number[k];
+        if (limit[k] == 0)
+            continue;
+        number[k] = limit[k] - 1;
+        record_of(number, record);
+        answer_is(reference_trigger_write(0, record, 32, entry, 5), 0, 0, 5, "the largest number that its field holds");
+        number[k] = limit[k];
+        record_of(number, record);
+        answer_is(reference_trigger_write(0, record, 32, entry, 5), 17, 0, 0, "a number that does not fit its field");
+        number[k] = kept;
+    }
+    for (unsigned k = 0; k < sizeof none / sizeof none[0]; k++) {
+        number[1] = none[k].size;
+        number[2] = none[k].index;
+        record_of(number, record);
+        answer_is(reference_trigger_write(2, record, 32, entry, 5), 17, 0, 0, "no such resource");
+    }
+    number[1] = 242;
+    number[2] = 3;
+    record_of(number, record);
+    answer_is(reference_trigger_write(2, record, 32, entry, 5), 0, 0, 5, "242 index 3 at 80 MHz");
+    answer_is(reference_trigger_write(1, record, 32, entry, 5), 17, 0, 0, "242 index 3 is too wide for 40 MHz");
+}
+
+/* The overlaps of entries with these values, up to the first 255; what the pairs are, up to the first 0. */
+static void overlaps_are(uint32_t bandwidth, const unsigned *values, const uint8_t *right, const char *what)
+{
+    uint8_t entries[5 * 32], pairs[992];
+    size_t n = 0, m = 0;
+    for (; values[n] != 255; n++)
+        entry_of(1 + n % 2, 0, values[n], 0, 0, entries + 5 * n);
+    while (right[2 * m] != 0)
+        m++;
+    memset(pairs, 0xA5, sizeof pairs);
+    answer_is(reference_trigger_overlaps(bandwidth, entries, 5 * n, pairs, sizeof pairs), 0, 0, m, what);
+    expect(memcmp(pairs, right, 2 * m) == 0 && pairs[2 * m] == 0xA5, what);
+}
+
+/* The same of two values in either order: whether they share a subcarrier. */
+static void pair_is(uint32_t bandwidth, unsigned x, unsigned y, int share, const char *what)
+{
+    static const uint8_t one[4] = {1, 2, 0, 0}, none[2] = {0, 0};
+    unsigned values[3] = {x, y, 255}, turned[3] = {y, x, 255};
+    overlaps_are(bandwidth, values, share ? one : none, what);
+    overlaps_are(bandwidth, turned, share ? one : none, what);
+}
+
+static void trigger_overlaps(void)
+{
+    static const unsigned nothing[] = {255}, alone[] = {67, 255}, group[] = {61, 61, 61, 255},
+        mixed[] = {61, 0, 61, 4, 0, 255}, far[] = {67, 67, 36, 0, 36, 255}, apart[] = {53, 4, 54, 62, 66, 255},
+        nested[] = {0, 37, 53, 82, 61, 65, 67, 91, 92, 93, 255};
+    static const uint8_t none[] = {0, 0}, of_mixed[] = {1, 2, 1, 4, 1, 5, 2, 3, 3, 4, 3, 5, 0, 0},
+        of_far[] = {1, 3, 1, 4, 1, 5, 2, 3, 2, 4, 2, 5, 0, 0};
+    uint8_t all[2 * 45 + 2] = {0};
+    size_t n = 0;
+    overlaps_are(0, nothing, none, "no entries, no pairs");
+    overlaps_are(2, alone, none, "one entry, no pairs");
+    overlaps_are(1, group, none, "a group is no overlap");
+    overlaps_are(0, mixed, of_mixed, "two groups, one in the other, and a third resource");
+    overlaps_are(2, far, of_far, "two groups of 26s in a group of 996s");
+    overlaps_are(2, apart, none, "a plan of a segment");
+    for (uint8_t i = 1; i <= 10; i++)
+        for (uint8_t j = (uint8_t)(i + 1); j <= 10; j++) {
+            all[n++] = i;
+            all[n++] = j;
+        }
+    overlaps_are(2, nested, all, "ten resources that all have the first 26");
+    for (uint32_t bandwidth = 0; bandwidth <= 2; bandwidth++) {
+        pair_is(bandwidth, 82, 4, 1, "a 106+26 has the middle 26");
+        pair_is(bandwidth, 83, 4, 1, "the upper 106+26 has it too");
+        pair_is(bandwidth, 82, 83, 1, "both 106+26 share it");
+        pair_is(bandwidth, 53, 4, 0, "a 106 has it not");
+        pair_is(bandwidth, 82, 54, 0, "48: 106+26 (lower), 106");
+        pair_is(bandwidth, 83, 53, 0, "50: 106, 106+26 (upper)");
+        pair_is(bandwidth, 82, 53, 1, "a 106+26 has its 106");
+        pair_is(bandwidth, 82, 3, 1, "a 106+26 has the fourth 26");
+        pair_is(bandwidth, 82, 5, 0, "a 106+26 has not the sixth 26");
+        pair_is(bandwidth, 37, 1, 1, "a 52 has its second 26");
+        pair_is(bandwidth, 37, 2, 0, "a 52 has not the third 26");
+        pair_is(bandwidth, 38, 53, 1, "a 106 has its second 52");
+        pair_is(bandwidth, 39, 53, 0, "a 106 has not the third 52");
+        pair_is(bandwidth, 61, 4, 1, "a 242 has the middle 26");
+    }
+    pair_is(1, 65, 62, 1, "a 484 has its second 242");
+    pair_is(1, 65, 61, 1, "a 484 has its first 242");
+    pair_is(1, 8, 9, 0, "26s of two positions");
+    pair_is(2, 65, 66, 0, "the two 484s");
+    pair_is(2, 65, 63, 0, "a 484 and a 242 of the other");
+    pair_is(2, 17, 19, 0, "the 26s beside the centre");
+    pair_is(2, 86, 22, 1, "a 106+26 of the third position: its fourth 26, index 23");
+    pair_is(2, 86, 23, 1, "a 106+26 of the third position: its middle 26, index 24");
+    pair_is(2, 86, 24, 0, "a 106+26 of the third position: the 26 after it");
+    pair_is(2, 89, 32, 1, "a 106+26 of the fourth position: its middle 26, index 33");
+    pair_is(2, 89, 31, 0, "a 106+26 of the fourth position: the 26 before it");
+    for (unsigned p = 0; p < 4; p++) {
+        for (unsigned q = 0; q < 4; q++) {
+            pair_is(2, 90 + p, 61 + q, p != q, "a 484+242 beside a 242: the one left out");
+            if (p != q)
+                pair_is(2, 90 + p, 90 + q, 1, "two 484+242");
+        }
+        pair_is(2, 90 + p, 65 + p / 2, 1, "a 484+242 and the 484 of which it has one 242");
+        pair_is(2, 90 + p, 67, 1, "a 484+242 and the 996");
+    }
+}
+
+/* "For a list: 15 not whole entries, 25 over 32 of them, then the first refused entry's number with its place from 1,
+ * then 26 room for fewer pairs than there are." */
+static void trigger_lists(void)
+{
+    uint8_t entries[5 * 33], pairs[992];
+    for (unsigned k = 0; k < 33; k++)
+        entry_of(k, 0, k % 2 == 0 ? 0 : 61, 0, 0, entries + 5 * k);
+    memset(pairs, 0xA5, sizeof pairs);
+    answer_is(reference_trigger_overlaps(3, entries, 164, pairs, 0), 1, 0, 0, "a list's 1, before 15");
+    answer_is(reference_trigger_overlaps(2, entries, 164, pairs, 0), 15, 0, 0, "not whole entries are 15, before 25");
+    answer_is(reference_trigger_overlaps(2, entries, 1, pairs, 0), 15, 0, 0, "one byte is no entry");
+    entry_of(2007, 0, 0, 0, 0, entries + 5 * 32);
+    answer_is(reference_trigger_overlaps(2, entries, 165, pairs, 0), 25, 0, 0, "33 entries are 25, a refused one or not");
+    answer_is(reference_trigger_overlaps(2, entries, 160, pairs, 511), 26, 0, 0, "room for 255 of 256 pairs");
+    answer_is(reference_trigger_overlaps(2, NULL, 0, NULL, 0), 0, 0, 0, "no entries need no room");
+    answer_is(reference_trigger_overlaps(2, entries, 10, pairs, 1), 26, 0, 0, "a pair is two bytes");
+    entry_of(1, 0, 18, 0, 0, entries + 5 * 31);
+    answer_is(reference_trigger_overlaps(2, entries, 160, pairs, 0), 17, 0, 32, "the last entry is refused, before 26");
+    entry_of(1, 1, 18, 0, 0, entries + 5 * 4);
+    answer_is(reference_trigger_overlaps(2, entries, 160, pairs, 0), 16, 0, 5, "the first refused entry is the fifth");
+    entry_of(2007, 1, 18, 0, 0, entries + 5 * 7);
+    answer_is(reference_trigger_overlaps(2, entries, 160, pairs, 0), 16, 0, 5, "not the eighth, though 24 comes first");
+    entry_of(2007, 1, 18, 0, 1, entries);
+    answer_is(reference_trigger_overlaps(0, entries, 160, pairs, 992), 24, 0, 1, "24 in the first entry");
+    entry_of(1, 0, 62, 0, 0, entries);
+    answer_is(reference_trigger_overlaps(0, entries, 160, pairs, 992), 17, 0, 1, "too wide in the first entry");
+    expect(pairs[0] == 0xA5, "a refused list writes nothing");
+}
+
 int self_test(void)
 {
     bits_and_fields();
@@ -613,6 +889,12 @@ int self_test(void)
     cut();
     texts();
     answers();
+    trigger_values();
+    trigger_bytes();
+    trigger_refusals();
+    trigger_writer();
+    trigger_overlaps();
+    trigger_lists();
     printf("reference: held to the papers\n%d passed, %d failed\n", passed, failed);
     return failed != 0;
 }
