@@ -1,5 +1,6 @@
 /* brachymel.h: the EHT-SIG field of a downlink OFDMA EHT MU PPDU (Wi-Fi 7, IEEE 802.11be), read into the
- * radiotap EHT words, written from them, and listed as text.
+ * radiotap EHT words, written from them, and listed as text; and the EHT variant User Info of Trigger frames, read,
+ * written, and searched for overlaps.
  *
  * Link with libbrachymel.a, which is built for x86-64 Linux. C99; usable from C++.
  *
@@ -28,11 +29,11 @@ extern "C" {
 #endif
 
 /* What comes back. Number 0 is an acceptance, any other the refusal of that number: the first that applies, in
- * the order of the numbers. Channel is 1 or 2, or 0 where none is named. Bits count from 0 in their channel,
- * and 20 MHz positions are grouped in segments of 80 MHz, which count from 0. Of a channel that is cut short,
- * the field that did not fit is the one that the first missing bit belongs to. Fields are the seven of the
- * overflow (Spatial Reuse 4 bits, GI+LTF 2, LTF symbols 3, LDPC extra 1, Pre-FEC 2, PE Disambiguity 1, Disregard
- * 4), each RU Allocation subfield (9), each check (4), each tail (6) and each User field (22). */
+ * the order of the numbers, or in the order that a function names. Channel is 1 or 2, or 0 where none is named. Bits
+ * count from 0 in their channel, and 20 MHz positions are grouped in segments of 80 MHz, which count from 0. Of a
+ * channel that is cut short, the field that did not fit is the one that the first missing bit belongs to. Fields are
+ * the seven of the overflow (Spatial Reuse 4 bits, GI+LTF 2, LTF symbols 3, LDPC extra 1, Pre-FEC 2, PE Disambiguity
+ * 1, Disregard 4), each RU Allocation subfield (9), each check (4), each tail (6) and each User field (22). */
 typedef struct {
     uint32_t number;
     uint32_t channel;
@@ -40,8 +41,8 @@ typedef struct {
 } brachymel_answer;
 
 enum {
-    BRACHYMEL_ACCEPTED = 0,          /* 0, what was written: words (read), bytes per channel (write), bytes (list) */
-    BRACHYMEL_BANDWIDTH = 1,         /* bandwidth code above 4: 0, 0 */
+    BRACHYMEL_ACCEPTED = 0,          /* 0, what was written: words (read), bytes per channel (write), pairs (trigger_overlaps), else bytes */
+    BRACHYMEL_BANDWIDTH = 1,         /* bandwidth code above 4, or of a Trigger's entries above 2: 0, 0 */
     BRACHYMEL_CHANNEL_LENGTH = 2,    /* a channel over 512 bytes, or channel 2 not empty at 20 MHz: that channel, 0 */
     BRACHYMEL_COMMON_SHORT = 3,      /* common field cut short: channel, first bit of the field that did not fit */
     BRACHYMEL_COMMON_CHECK = 4,      /* common check or tail wrong: channel, first check bit */
@@ -55,8 +56,14 @@ enum {
     BRACHYMEL_WORDS_ROOM = 12,       /* read: fewer words lent than needed: 0, words needed */
     BRACHYMEL_WORDS = 13,            /* write: no accepted channels read to exactly these words: 0, 0 */
     BRACHYMEL_CHANNEL_ROOM = 14,     /* write: a channel buffer is too short: channel, bytes needed */
+    BRACHYMEL_ENTRY_LENGTH = 15,     /* trigger_read: not five bytes; trigger_overlaps: not whole entries: 0, 0 */
+    BRACHYMEL_ENTRY_BITS = 16,       /* PS160 or B0 of the RU Allocation is set: 0, 0 (of a list 0, the entry from 1) */
+    BRACHYMEL_ENTRY_VALUE = 17,      /* value not named or too wide: 0, 0 (of a list 0, the entry); trigger_write: no five bytes read to this record: 0, 0 */
     BRACHYMEL_TEXT = 22,             /* the program's input text is not its three lines: 0, first wrong line (0: too long); no call here gives it */
-    BRACHYMEL_LISTING_ROOM = 23      /* list: the text buffer is too short: 0, bytes needed */
+    BRACHYMEL_LISTING_ROOM = 23,     /* list, trigger_read, trigger_write: the buffer is too short: 0, bytes needed */
+    BRACHYMEL_SPECIAL = 24,          /* AID12 is 2007, which has a layout of its own: 0, 0 (of a list 0, the entry from 1) */
+    BRACHYMEL_TOO_MANY_ENTRIES = 25, /* trigger_overlaps: over 32 entries: 0, 0 */
+    BRACHYMEL_PAIRS_ROOM = 26        /* trigger_overlaps: room for fewer pairs than there are: 0, 0 */
 };
 
 /* Sizes, in bytes, that always suffice. No smaller one does: 320 MHz with all values 0 needs each of the last three,
@@ -88,6 +95,52 @@ brachymel_answer brachymel_write(uint32_t bandwidth, const uint8_t *words, size_
  * none for its number, and its resource. Refusals 1 to 11, then 23. */
 brachymel_answer brachymel_list(uint32_t bandwidth, const uint8_t *cc1, size_t cc1_len, const uint8_t *cc2, size_t cc2_len,
                                 uint8_t *text, size_t text_len);
+
+/* Trigger frames: the EHT variant User Info of 20, 40 and 80 MHz. An entry is five bytes, 40 bits, lowest bit first:
+ * AID12 12 bits, RU Allocation 8 (its lowest bit is B0), coding 1, MCS 4, reserved 1, SS allocation 6, target receive
+ * power 7, PS160 1. B7-B1 of the RU Allocation name a resource: of 26, 52, 106, 242, 484 or 996 subcarriers, 106+26 or
+ * 484+242. B0 and PS160 are 0 at these bandwidths. Not read here: the Common Info, the Special User Info (AID12 2007),
+ * the HE variant, what depends on the Trigger's type, 52+26, and 160 and 320 MHz: the bandwidth code is 0, 1 or 2.
+ *
+ * A record is eight 32-bit numbers as little-endian bytes, in the order of the enumeration below. All but size and
+ * index are the field as sent, whatever it means: an AID12 of 0, 2045, 2046 or 4095 is read as any other. Size is how
+ * many subcarriers the resource has: 26, 52, 106, 242, 484, 996, 132 for a 106+26, 726 for a 484+242. Index counts those
+ * of its size from 1, as the standard numbers them in 80 MHz: no 26 has index 19, and no 106+26 has index 6 or 7. */
+enum {
+    BRACHYMEL_AID12 = 0,
+    BRACHYMEL_RU_SIZE = 1,
+    BRACHYMEL_RU_INDEX = 2,
+    BRACHYMEL_CODING = 3,
+    BRACHYMEL_MCS = 4,
+    BRACHYMEL_RESERVED = 5,
+    BRACHYMEL_SS = 6,
+    BRACHYMEL_POWER = 7
+};
+
+enum {
+    BRACHYMEL_ENTRY_SIZE = 5,        /* bytes of an entry */
+    BRACHYMEL_RECORD_SIZE = 32,      /* bytes of a record */
+    BRACHYMEL_ENTRIES_LIMIT = 32,    /* a list of more entries is refused */
+    BRACHYMEL_PAIRS_SIZE = 992       /* bytes of pairs that always suffice: 496 pairs, each two of 32 entries */
+};
+
+/* Reads an entry into a record of 32 bytes. Refusals 1, 15, 24, 16, 17, 23, in this order. */
+brachymel_answer brachymel_trigger_read(uint32_t bandwidth, const uint8_t *entry, size_t entry_len,
+                                        uint8_t *record, size_t record_len);
+
+/* Writes the five bytes that read to exactly this record. Refusals 1; 24 where the record has at least four bytes and
+ * its first number is 2007; 17 where its length is not 32, a number does not fit its field, or there is no such resource
+ * or it is too wide; 23; in this order. */
+brachymel_answer brachymel_trigger_write(uint32_t bandwidth, const uint8_t *record, size_t record_len,
+                                         uint8_t *entry, size_t entry_len);
+
+/* Finds which entries of a list, lent one after the other, share a subcarrier under this bandwidth. Each such pair is
+ * written once, as two bytes: the earlier entry and the later one, counted from 1; pairs in rising order. Entries of
+ * one and the same resource are a group, and no overlap. Refusals 1; 15; 25; the number of the first refused entry (24,
+ * 16 or 17) with the entry as place; 26, which does not say how many pairs there are; in this order. Entries after a
+ * refused one are not looked at. No entries are accepted, with no pairs. */
+brachymel_answer brachymel_trigger_overlaps(uint32_t bandwidth, const uint8_t *entries, size_t entries_len,
+                                            uint8_t *pairs, size_t pairs_len);
 
 #ifdef __cplusplus
 }
