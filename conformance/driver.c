@@ -7,9 +7,7 @@
  * call. Every answer number has to be met. The last line is 'N passed, M failed'.
  */
 #define _DEFAULT_SOURCE
-#include "brachymel.h"
-#include "cases/print.h"
-#include "reference/reference.h"
+#include "driver.h"
 
 #include <signal.h>
 #include <stdio.h>
@@ -18,24 +16,13 @@
 #include <sys/mman.h>
 #include <unistd.h>
 
-#define ARENA 32768
-#define GUARD 64
-
 static unsigned long long seed;
 static unsigned long calls, wrong;
-static const char *in_call = "no call";
+const char *in_call = "no call";
 
 /* ---- memory to lend */
 
-typedef struct {
-    uint8_t *memory; /* ARENA bytes, between two pages that cannot be touched */
-    uint8_t *lent;   /* what is lent of it */
-    size_t length;
-    uint8_t *low, *high;          /* what is watched: the lent bytes and up to GUARD on either side */
-    uint8_t should_be[ARENA];     /* what the watched bytes should hold after the call */
-} arena;
-
-static arena cc1, cc2, other;
+arena cc1, cc2, other;
 
 static void prepare(arena *a)
 {
@@ -49,8 +36,7 @@ static void prepare(arena *a)
     a->memory = whole + page;
 }
 
-/* Lends `length` bytes, which hold `held`, or a pattern where that is NULL. */
-static void lend(arena *a, chance *c, const uint8_t *held, size_t length)
+void lend(arena *a, chance *c, const uint8_t *held, size_t length)
 {
     uint8_t salt = (uint8_t)draw(c);
     switch (below(c, 3)) {
@@ -68,13 +54,12 @@ static void lend(arena *a, chance *c, const uint8_t *held, size_t length)
     memcpy(a->should_be, a->low, (size_t)(a->high - a->low));
 }
 
-/* Where the reference writes what this buffer should hold. */
-static uint8_t *expected(arena *a)
+uint8_t *expected(arena *a)
 {
     return a->should_be + (a->lent - a->low);
 }
 
-static uint8_t *pointer(arena *a, chance *c)
+uint8_t *pointer(arena *a, chance *c)
 {
     return a->length == 0 && one_in(c, 2) ? NULL : a->lent;
 }
@@ -84,13 +69,19 @@ static int is_as_it_should_be(const arena *a)
     return memcmp(a->low, a->should_be, (size_t)(a->high - a->low)) == 0;
 }
 
-/* ---- the three entries */
+/* ---- the entries */
 
-enum { READ, WRITE, LIST, ENTRIES };
-static const char *const entry_name[ENTRIES] = {"brachymel_read", "brachymel_write", "brachymel_list"};
+const char *const entry_name[ENTRIES] = {"brachymel_read", "brachymel_write", "brachymel_list",
+                                         "brachymel_trigger_read", "brachymel_trigger_write",
+                                         "brachymel_trigger_overlaps"};
 static unsigned long met[ENTRIES][32];
 
-static int compare(int entry, answer should, brachymel_answer is)
+int is_told(void)
+{
+    return wrong <= 5;
+}
+
+int compare(int entry, answer should, brachymel_answer is)
 {
     int right = should.number == is.number && should.channel == is.channel && should.place == is.place;
     int kept = is_as_it_should_be(&cc1) && is_as_it_should_be(&cc2) && is_as_it_should_be(&other);
@@ -98,12 +89,23 @@ static int compare(int entry, answer should, brachymel_answer is)
     met[entry][should.number]++;
     if (right && kept)
         return 1;
-    if (++wrong <= 5)
+    wrong++;
+    if (is_told())
         printf("driver: WRONG, call %lu: %s answers %lu %lu %llu, the reference %lu %lu %llu; what was lent is %s\n", calls,
                entry_name[entry], (unsigned long)is.number, (unsigned long)is.channel, (unsigned long long)is.place,
                (unsigned long)should.number, (unsigned long)should.channel, (unsigned long long)should.place,
                kept ? "as it should be" : "not as it should be");
     return 0;
+}
+
+void hold(int holds, const char *what)
+{
+    calls++;
+    if (holds)
+        return;
+    wrong++;
+    if (is_told())
+        printf("driver: WRONG, %s\n", what);
 }
 
 static void call_read(chance *c, const frame *f, size_t bytes)
@@ -117,7 +119,7 @@ static void call_read(chance *c, const frame *f, size_t bytes)
     in_call = entry_name[READ];
     is = brachymel_read(f->bandwidth, pointer(&cc1, c), f->length[0], pointer(&cc2, c), f->length[1], pointer(&other, c), bytes);
     in_call = "no call";
-    if (!compare(READ, should, is) && wrong <= 5) {
+    if (!compare(READ, should, is) && is_told()) {
         printf("words_len=%lu, as a case: ", (unsigned long)bytes);
         print_frame('R', f, bytes / 4);
     }
@@ -134,7 +136,7 @@ static void call_list(chance *c, const frame *f, size_t room)
     in_call = entry_name[LIST];
     is = brachymel_list(f->bandwidth, pointer(&cc1, c), f->length[0], pointer(&cc2, c), f->length[1], pointer(&other, c), room);
     in_call = "no call";
-    if (!compare(LIST, should, is) && wrong <= 5)
+    if (!compare(LIST, should, is) && is_told())
         print_frame('L', f, room);
 }
 
@@ -149,7 +151,7 @@ static void call_write(chance *c, const words_case *w)
     in_call = entry_name[WRITE];
     is = brachymel_write(w->bandwidth, pointer(&other, c), w->length, pointer(&cc1, c), w->room[0], pointer(&cc2, c), w->room[1]);
     in_call = "no call";
-    if (!compare(WRITE, should, is) && wrong <= 5)
+    if (!compare(WRITE, should, is) && is_told())
         print_words(w);
 }
 
@@ -355,14 +357,18 @@ static void fell(int signal)
 /* Each entry's answers, with how often each was met; one that was not met is a failure of this driver. */
 static unsigned not_met(void)
 {
-    static const char *const numbers[ENTRIES] = {
-        "\0\1\2\3\4\5\6\7\10\11\12\13\14", "\0\1\15\16", "\0\1\2\3\4\5\6\7\10\11\12\13\27"};
-    static const unsigned how_many[ENTRIES] = {13, 4, 13};
+    static const struct {
+        unsigned how_many;
+        uint8_t number[13];
+    } of[ENTRIES] = {
+        {13, {0, 1, 2, 3, 4, 5, 6, 7, 8, 9, 10, 11, 12}}, {4, {0, 1, 13, 14}},
+        {13, {0, 1, 2, 3, 4, 5, 6, 7, 8, 9, 10, 11, 23}}, {7, {0, 1, 15, 24, 16, 17, 23}}, {5, {0, 1, 24, 17, 23}},
+        {8, {0, 1, 15, 25, 24, 16, 17, 26}}};
     unsigned missing = 0;
     for (unsigned e = 0; e < ENTRIES; e++) {
         printf("driver: %s:", entry_name[e]);
-        for (unsigned k = 0; k < how_many[e]; k++) {
-            unsigned number = (unsigned char)numbers[e][k];
+        for (unsigned k = 0; k < of[e].how_many; k++) {
+            unsigned number = of[e].number[k];
             printf(" %u:%lu", number, met[e][number]);
             if (met[e][number] == 0)
                 missing++;
@@ -405,6 +411,8 @@ int main(int argc, char **argv)
     }
     for (unsigned long n = 0; n < count; n++)
         any_call(&c);
+    c = chance_from(seed, 'G');
+    every_trigger(&c, count / 15);
     missing = not_met();
     printf("%lu passed, %lu failed\n", calls - wrong, wrong + missing);
     return wrong + missing == 0 ? 0 : 1;

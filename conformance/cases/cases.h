@@ -58,6 +58,20 @@ typedef struct {
 
 void draw_words(chance *c, words_case *w);
 
+/* entries.c: entries of a Trigger frame, five bytes each (02, T-02); the bandwidth code is at most 2. */
+#define MOST_VALUES 77
+
+unsigned values_taken(uint32_t bandwidth, uint8_t values[MOST_VALUES]); /* those that name a resource here: how many */
+void put_entry(chance *c, uint8_t *entry, unsigned value); /* all else drawn; AID12 is not 2007, B0 and PS160 are 0 */
+void draw_entry(chance *c, uint32_t bandwidth, uint8_t *entry);
+void draw_entries(chance *c, uint32_t bandwidth, uint8_t *entries, size_t count);
+void draw_apart(chance *c, uint32_t bandwidth, uint8_t *entries, size_t count); /* 26s, once each if they suffice */
+void draw_nested(chance *c, uint32_t bandwidth, uint8_t *entries, size_t count); /* those that have the first 26 */
+void draw_list(chance *c, uint32_t bandwidth, uint8_t *entries, size_t count); /* of these, or of few resources */
+
+/* Makes an entry one that is refused with this number (24, 16 or 17), now and then with a later one besides. */
+void spoil_entry(chance *c, uint32_t bandwidth, uint8_t *entry, uint32_t number);
+
 /* texts.c: a text for the program, and a listing's room. */
 #define MOST_TEXT 10000
 
