@@ -3,7 +3,8 @@
  * A channel is read through windows of 64 bits, of which a block's 54 are one. The check is worked out a
  * byte at a time, the bytes' shares looked up side by side. Each value has a mask of the owners it fits at
  * each position, so that a segment's plan is found by a few ANDs. Repeated stations are found in a bitmap.
- * The writer judges the words as they stand, with no reading back.
+ * The writer judges the words as they stand, with no reading back. A Trigger's resource is looked up by its value, with
+ * the 26s that it covers as a mask: two that overlap share one.
  *
  * Compiled with AS_LIBRARY, the functions have the library's names.
  */
@@ -89,11 +90,53 @@ static inline unsigned check(uint64_t covered, unsigned bits)
     return ~r & 0xF;
 }
 
+/* ---- what a Trigger's RU Allocation names */
+
+typedef struct {
+    uint64_t covers;  /* its 26s, of the 36 of 80 MHz */
+    uint16_t size;
+    uint8_t index;
+    uint8_t needs;    /* the narrowest bandwidth's code; 255: not named */
+} resource;
+
+static resource named[128];
+
+static void name(unsigned v, unsigned size, unsigned index, uint64_t covers)
+{
+    resource r = {covers, (uint16_t)size, (uint8_t)index, covers >> 18 != 0 ? 2 : covers >> 9 != 0 ? 1 : 0};
+    named[v] = r;
+}
+
+static void prepare_named(void)
+{
+    static const uint16_t slot[4] = {0x003, 0x00C, 0x060, 0x180}, half[2] = {0x00F, 0x1E0};
+    uint64_t all = (UINT64_C(1) << 36) - 1;
+    for (unsigned v = 0; v < 128; v++)
+        named[v].needs = 255;
+    for (unsigned k = 0; k < 36; k++)
+        name(k + (k >= 18), 26, k + 1 + (k >= 18), UINT64_C(1) << k);
+    for (unsigned k = 0; k < 16; k++)
+        name(37 + k, 52, k + 1, (uint64_t)slot[k % 4] << k / 4 * 9);
+    for (unsigned k = 0; k < 8; k++) {
+        name(53 + k, 106, k + 1, (uint64_t)half[k % 2] << k / 2 * 9);
+        if (k != 5 && k != 6)
+            name(82 + k, 132, k + 1, (uint64_t)(half[k % 2] | 0x010) << k / 2 * 9);
+    }
+    for (unsigned k = 0; k < 4; k++) {
+        name(61 + k, 242, k + 1, UINT64_C(0x1FF) << 9 * k);
+        name(90 + k, 726, k + 1, all & ~(UINT64_C(0x1FF) << 9 * k));
+    }
+    name(65, 484, 1, 0x3FFFF);
+    name(66, 484, 2, UINT64_C(0x3FFFF) << 18);
+    name(67, 996, 1, all);
+}
+
 __attribute__((constructor)) static void prepare(void)
 {
     for (unsigned v = 0; v < 128; v++)
         prepare_value(v);
     prepare_check();
+    prepare_named();
 }
 
 /* Check and tail together: the tail is zero. */
@@ -879,4 +922,132 @@ brachymel_answer NAME(list)(uint32_t bandwidth, const uint8_t *cc1, size_t cc1_l
     if (start == own)
         memcpy(text, own, length);
     return say(0, 0, length);
+}
+
+/* ---- Trigger frames: entries of five bytes */
+
+static inline uint64_t load_entry(const uint8_t *s)
+{
+    uint32_t w;
+    memcpy(&w, s, 4);
+    return w | (uint64_t)s[4] << 32;
+}
+
+/* 0, or the number that the entry is refused with. */
+static inline unsigned refused_entry(uint32_t bandwidth, uint64_t w)
+{
+    if ((w & 0xFFF) == 2007)
+        return 24;
+    if (w & (UINT64_C(1) << 39 | 1 << 12))
+        return 16;
+    return named[w >> 13 & 127].needs > bandwidth ? 17 : 0;
+}
+
+brachymel_answer NAME(trigger_read)(uint32_t bandwidth, const uint8_t *entry, size_t entry_len, uint8_t *record,
+                                    size_t record_len)
+{
+    uint64_t w;
+    unsigned refused;
+    if (bandwidth > 2)
+        return say(1, 0, 0);
+    if (entry_len != 5)
+        return say(15, 0, 0);
+    w = load_entry(entry);
+    refused = refused_entry(bandwidth, w);
+    if (refused != 0)
+        return say(refused, 0, 0);
+    if (record_len < 32)
+        return say(23, 0, 32);
+    put_word(record, 0, (uint32_t)low(w, 12));
+    put_word(record, 1, named[w >> 13 & 127].size);
+    put_word(record, 2, named[w >> 13 & 127].index);
+    put_word(record, 3, (uint32_t)low(w >> 20, 1));
+    put_word(record, 4, (uint32_t)low(w >> 21, 4));
+    put_word(record, 5, (uint32_t)low(w >> 25, 1));
+    put_word(record, 6, (uint32_t)low(w >> 26, 6));
+    put_word(record, 7, (uint32_t)low(w >> 32, 7));
+    return say(0, 0, 32);
+}
+
+/* By a size's bits from the sixth up, in which the eight sizes differ: the value of its first index, and how many
+ * indices there are; named[] knows which are left out. */
+static const struct {
+    uint16_t size;
+    uint8_t first, indices;
+} by_size[32] = {
+    [26 >> 5] = {26, 0, 37}, [52 >> 5] = {52, 37, 16}, [106 >> 5] = {106, 53, 8}, [132 >> 5] = {132, 82, 8},
+    [242 >> 5] = {242, 61, 4}, [484 >> 5] = {484, 65, 2}, [726 >> 5] = {726, 90, 4}, [996 >> 5] = {996, 67, 1},
+};
+
+brachymel_answer NAME(trigger_write)(uint32_t bandwidth, const uint8_t *record, size_t record_len, uint8_t *entry,
+                                     size_t entry_len)
+{
+    uint32_t aid12, size, index, coding, mcs, reserved, ss, power, bits;
+    unsigned value;
+    if (bandwidth > 2)
+        return say(1, 0, 0);
+    if (record_len >= 4 && get_word(record, 0) == 2007)
+        return say(24, 0, 0);
+    if (record_len != 32)
+        return say(17, 0, 0);
+    aid12 = get_word(record, 0);
+    size = get_word(record, 1);
+    index = get_word(record, 2) - 1; /* from 0 */
+    coding = get_word(record, 3);
+    mcs = get_word(record, 4);
+    reserved = get_word(record, 5);
+    ss = get_word(record, 6);
+    power = get_word(record, 7);
+    if ((aid12 >> 12 | coding >> 1 | mcs >> 4 | reserved >> 1 | ss >> 6 | power >> 7) != 0
+        || size != by_size[size >> 5 & 31].size || index >= by_size[size >> 5 & 31].indices)
+        return say(17, 0, 0);
+    value = by_size[size >> 5 & 31].first + index;
+    if (named[value].needs > bandwidth)
+        return say(17, 0, 0);
+    if (entry_len < 5)
+        return say(23, 0, 5);
+    bits = aid12 | value << 13 | coding << 20 | mcs << 21 | reserved << 25 | ss << 26;
+    memcpy(entry, &bits, 4);
+    entry[4] = (uint8_t)power;
+    return say(0, 0, 5);
+}
+
+/* An entry is compared with the earlier ones only if it has a 26 that one of them has, which in a good list none has.
+ * The pairs are kept as a bit set of later entries for each, so that they can be counted before any is written. */
+brachymel_answer NAME(trigger_overlaps)(uint32_t bandwidth, const uint8_t *entries, size_t entries_len, uint8_t *pairs,
+                                        size_t pairs_len)
+{
+    uint64_t covers[32], covered = 0;
+    uint32_t later[32];
+    size_t count = entries_len / 5, n = 0;
+    if (bandwidth > 2)
+        return say(1, 0, 0);
+    if (entries_len % 5 != 0)
+        return say(15, 0, 0);
+    if (count > 32)
+        return say(25, 0, 0);
+    for (size_t k = 0; k < count; k++) {
+        uint64_t w = load_entry(entries + 5 * k), mine;
+        unsigned refused = refused_entry(bandwidth, w);
+        if (refused != 0)
+            return say(refused, 0, k + 1);
+        mine = covers[k] = named[w >> 13 & 127].covers;
+        later[k] = 0;
+        if (mine & covered)
+            for (size_t i = 0; i < k; i++) {
+                uint32_t pair = (mine & covers[i]) != 0 && mine != covers[i]; /* equal: one resource */
+                later[i] |= pair << k;
+                n += pair;
+            }
+        covered |= mine;
+    }
+    if (pairs_len / 2 < n)
+        return say(26, 0, 0);
+    if (n != 0)
+        for (size_t i = 0; i < count; i++)
+            for (uint32_t set = later[i]; set != 0; set &= set - 1) {
+                *pairs++ = (uint8_t)(i + 1);
+                *pairs++ = (uint8_t)(__builtin_ctz(set) + 1);
+            }
+    return say(0, 0, n);
 }
