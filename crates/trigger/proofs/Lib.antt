@@ -1,0 +1,9 @@
+pub mod Taken
+pub mod Back
+pub mod OneToOne
+pub mod Stages
+pub mod Five
+pub mod Worked
+pub mod Agree
+pub mod Judged
+pub mod Inverse
