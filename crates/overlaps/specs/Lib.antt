@@ -1,0 +1,4 @@
+pub mod Overlaps
+pub mod Engine
+pub mod Worked
+pub mod Result
