@@ -13,6 +13,9 @@ use Rattle.brachymel.specs.Bytes.{readBytes}
 use Rattle.brachymel.proofs.brachymel_read.Reads as read
 use Rattle.brachymel.proofs.brachymel_write.Reads as write
 use Rattle.brachymel.proofs.brachymel_list.Reads as list
+use Rattle.brachymel.proofs.brachymel_trigger_read.Reads as trigger-read
+use Rattle.brachymel.proofs.brachymel_trigger_write.Reads as trigger-write
+use Rattle.brachymel.proofs.brachymel_trigger_overlaps.Reads as trigger-overlaps
 
 pub read-agrees : (κs : _) (a : _) (r r' : _) (s s' : _) → read.Post κs a r s → read.Post κs a r' s'
     → (r ≡ r') × (now (s .1 .1 .1 .0) ≡ now (s' .1 .1 .1 .0))
@@ -25,6 +28,18 @@ list-agrees κs a r r' s s' p q = (p .0 ∙ sym (q .0), p .1 ∙ sym (q .1))
 pub write-agrees : (κs : _) (a : _) (r r' : _) (s s' : _) → write.Post κs a r s → write.Post κs a r' s'
     → (r ≡ r') × ((now (s .1 .1 .0) ≡ now (s' .1 .1 .0)) × (now (s .1 .1 .1 .0) ≡ now (s' .1 .1 .1 .0)))
 write-agrees κs a r r' s s' p q = (p .0 ∙ sym (q .0), (p .1 .0 ∙ sym (q .1 .0), p .1 .1 ∙ sym (q .1 .1)))
+
+pub trigger-read-agrees : (κs : _) (a : _) (r r' : _) (s s' : _) → trigger-read.Post κs a r s → trigger-read.Post κs a r' s'
+    → (r ≡ r') × (now (s .1 .1 .0) ≡ now (s' .1 .1 .0))
+trigger-read-agrees κs a r r' s s' p q = (p .0 ∙ sym (q .0), p .1 ∙ sym (q .1))
+
+pub trigger-write-agrees : (κs : _) (a : _) (r r' : _) (s s' : _) → trigger-write.Post κs a r s → trigger-write.Post κs a r' s'
+    → (r ≡ r') × (now (s .1 .1 .0) ≡ now (s' .1 .1 .0))
+trigger-write-agrees κs a r r' s s' p q = (p .0 ∙ sym (q .0), p .1 ∙ sym (q .1))
+
+pub trigger-overlaps-agrees : (κs : _) (a : _) (r r' : _) (s s' : _) → trigger-overlaps.Post κs a r s → trigger-overlaps.Post κs a r' s'
+    → (r ≡ r') × (now (s .1 .1 .0) ≡ now (s' .1 .1 .0))
+trigger-overlaps-agrees κs a r r' s s' p q = (p .0 ∙ sym (q .0), p .1 ∙ sym (q .1))
 
 -- "Every refusal writes nothing"
 pub read-keeps : (κs : _) (a : _) (r : _) (s : _) → read.Post κs a r s → (r .number ≡ 0 → ⊥) → now (s .1 .1 .1 .0) ≡ now (a .1 .1 .1 .0)

@@ -9,6 +9,9 @@ ghost use Rattle.brachymel.specs.Bytes.{bytesReadAnswer, readBytes, byte
 ghost use Rattle.brachymel.specs.Engine.{early};
 ghost use Rattle.writer.specs.Result.{writeAnswer, channelAfter};
 ghost use Rattle.listed.specs.Listing.{listAnswer, listAfter};
+ghost use Rattle.trigger.specs.Reading.{entryAnswer, recordRead};
+ghost use Rattle.trigger.specs.Writing.{recordAnswer, entryWritten};
+ghost use Rattle.overlaps.specs.Result.{overlapsAnswer, pairsAfter};
 
 // The reading, through words of its own.
 fn read_through(
@@ -101,4 +104,34 @@ pub extern "C" fn brachymel_list(bandwidth: u32, cc1: &[u8], cc2: &[u8], text: &
     ensures { λ _. ⌜ now (text .exit) ≡ listAfter bandwidth (now (cc1 .entry)) (now (cc2 .entry)) (now (text .entry)) ⌝ }
 {
     listing::list(bandwidth, cc1, cc2, text)
+}
+
+// ---- entries of a Trigger frame (02, T-02)
+
+#[no_mangle]
+pub extern "C" fn brachymel_trigger_read(bandwidth: u32, entry: &[u8], out: &mut [u8]) -> Answer
+    ensures { λ r. ⌜ r ≡ entryAnswer bandwidth (now (entry .entry)) (length (now (out .entry))) ⌝ }
+    ensures { λ _. ⌜ now (out .exit) ≡ recordRead bandwidth (now (entry .entry)) (now (out .entry)) ⌝ }
+{
+    trigger::read(bandwidth, entry, out)
+}
+
+#[no_mangle]
+pub extern "C" fn brachymel_trigger_write(bandwidth: u32, given: &[u8], entry: &mut [u8]) -> Answer
+    ensures { λ r. ⌜ r ≡ recordAnswer bandwidth (now (given .entry)) (length (now (entry .entry))) ⌝ }
+    ensures { λ _. ⌜ now (entry .exit) ≡ entryWritten bandwidth (now (given .entry)) (now (entry .entry)) ⌝ }
+{
+    trigger::write(bandwidth, given, entry)
+}
+
+#[no_mangle]
+pub extern "C" fn brachymel_trigger_overlaps(
+    bandwidth: u32,
+    entries: &[u8],
+    pairs: &mut [u8],
+) -> Answer
+    ensures { λ r. ⌜ r ≡ overlapsAnswer bandwidth (now (entries .entry)) (length (now (pairs .entry))) ⌝ }
+    ensures { λ _. ⌜ now (pairs .exit) ≡ pairsAfter bandwidth (now (entries .entry)) (now (pairs .entry)) ⌝ }
+{
+    overlaps::overlaps(bandwidth, entries, pairs)
 }

@@ -7,3 +7,6 @@ pub mod Answers
 pub mod Formats
 pub mod Unassigned
 pub mod CutShort
+pub mod OfPlan
+pub mod Holding
+pub mod Trigger

@@ -13,6 +13,12 @@ use Rattle.listing.proofs.respond.Reads as respond
 use Rattle.brachymel.proofs.brachymel_read.Reads as c-read
 use Rattle.brachymel.proofs.brachymel_write.Reads as c-write
 use Rattle.brachymel.proofs.brachymel_list.Reads as c-list
+use Rattle.trigger.proofs.read.Reads as trigger-read
+use Rattle.trigger.proofs.write.Reads as trigger-write
+use Rattle.overlaps.proofs.overlaps.Reads as trigger-overlaps
+use Rattle.brachymel.proofs.brachymel_trigger_read.Reads as c-trigger-read
+use Rattle.brachymel.proofs.brachymel_trigger_write.Reads as c-trigger-write
+use Rattle.brachymel.proofs.brachymel_trigger_overlaps.Reads as c-trigger-overlaps
 
 -- a call that reads or lists: the bandwidth code, both channels' bytes, the lent buffer, and then the answer and what the buffer holds
 pub record Call : Type 0 where
@@ -40,12 +46,23 @@ pub record TextCall : Type 0 where
   pub bytes : ℕ
   pub after : List ℕ
 
+-- a call about entries of a Trigger frame: the bandwidth code, the bytes given, the lent buffer, and then the answer and what the buffer holds
+pub record EntryCall : Type 0 where
+  pub bandwidth : ℕ
+  pub given : List ℕ
+  pub lent : List ℕ
+  pub answer : Answer
+  pub after : List ℕ
+
 abbrev call : ℕ → List ℕ → List ℕ → List ℕ → Answer → List ℕ → Call
 call bw a b d r e = record { bandwidth = bw; channel-1 = a; channel-2 = b; lent = d; answer = r; after = e }
 
 abbrev write-call : ℕ → List ℕ → List ℕ → List ℕ → Answer → List ℕ → List ℕ → WriteCall
 write-call bw w a b r x y =
     record { bandwidth = bw; words = w; lent-1 = a; lent-2 = b; answer = r; after-1 = x; after-2 = y }
+
+abbrev entry-call : ℕ → List ℕ → List ℕ → Answer → List ℕ → EntryCall
+entry-call bw e d r x = record { bandwidth = bw; given = e; lent = d; answer = r; after = x }
 
 -- ---- the calls that each contract allows
 
@@ -81,3 +98,22 @@ pub data C-lists : Call → Type 0 where
 pub data C-writes : WriteCall → Type 0 where
   c-writes : (κs : _) (a : _) (r : _) (s : _) → c-write.Post κs a r s
       → C-writes (write-call (a .0) (now (a .1 .0)) (now (a .1 .1 .0)) (now (a .1 .1 .1 .0)) r (now (s .1 .1 .0)) (now (s .1 .1 .1 .0)))
+
+-- entries of a Trigger frame, from Rattle or from C: an entry read, a record written, the overlaps of a list
+pub data Entry-reads : EntryCall → Type 0 where
+  entry-reads : (κs : _) (a : _) (r : _) (s : _) → trigger-read.Post κs a r s
+      → Entry-reads (entry-call (a .0) (now (a .1 .0)) (now (a .1 .1 .0)) r (now (s .1 .1 .0)))
+  c-entry-reads : (κs : _) (a : _) (r : _) (s : _) → c-trigger-read.Post κs a r s
+      → Entry-reads (entry-call (a .0) (now (a .1 .0)) (now (a .1 .1 .0)) r (now (s .1 .1 .0)))
+
+pub data Entry-writes : EntryCall → Type 0 where
+  entry-writes : (κs : _) (a : _) (r : _) (s : _) → trigger-write.Post κs a r s
+      → Entry-writes (entry-call (a .0) (now (a .1 .0)) (now (a .1 .1 .0)) r (now (s .1 .1 .0)))
+  c-entry-writes : (κs : _) (a : _) (r : _) (s : _) → c-trigger-write.Post κs a r s
+      → Entry-writes (entry-call (a .0) (now (a .1 .0)) (now (a .1 .1 .0)) r (now (s .1 .1 .0)))
+
+pub data Overlaps : EntryCall → Type 0 where
+  overlaps : (κs : _) (a : _) (r : _) (s : _) → trigger-overlaps.Post κs a r s
+      → Overlaps (entry-call (a .0) (now (a .1 .0)) (now (a .1 .1 .0)) r (now (s .1 .1 .0)))
+  c-overlaps : (κs : _) (a : _) (r : _) (s : _) → c-trigger-overlaps.Post κs a r s
+      → Overlaps (entry-call (a .0) (now (a .1 .0)) (now (a .1 .1 .0)) r (now (s .1 .1 .0)))

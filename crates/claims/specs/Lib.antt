@@ -7,3 +7,4 @@ pub mod Rows
 pub mod Formats
 pub mod Unassigned
 pub mod CutShort
+pub mod Trigger
