@@ -7,6 +7,7 @@ ghost use mathlib.Core.Bool.{cond};
 ghost use mathlib.Core.List.{List, [], _∷_, _++_};
 ghost use lib.Dec.{T, eqb};
 ghost use Rattle.resource.specs.Values.{carried, fieldsOf, divides, pieceFields, ownPieces, smallerAt, familyOf};
+ghost use Rattle.resource.specs.Names.{sizeOf, nameOf, numberOf};
 ghost use Rattle.resource.specs.Index.{indexOf, resourceAt, isPiece, fromPositions};
 ghost use Rattle.resource.specs.Engine.{starts, nthFrom, pieceFrom, pieceAt, numberedOf, runOf, edge, the242, offset26, offset52, offset106};
 ghost use Rattle.resource.specs.Engine.{wide, wideWith26, the242If, placesRuns, narrow26, narrow52, narrow106, narrow, narrowWith26, runsOf, noRun, held};
@@ -226,6 +227,44 @@ pub fn resource_at(p: u16, x: Piece) -> Resource
     match x {
         Piece::Part(size, i) => Resource::Single(size, index_of(q, size, i)),
         Piece::With26(i) => Resource::Joined(Pairing::P106And26, 2 * q + i),
+    }
+}
+
+// ---- what a resource is called
+
+fn size_of(size: Size) -> u32
+    ensures { λ r. ⌜ r ≡ sizeOf size ⌝ }
+{
+    match size {
+        Size::S26 => 26,
+        Size::S52 => 52,
+        Size::S106 => 106,
+        Size::S242 => 242,
+        Size::S484 => 484,
+        Size::S996 => 996,
+    }
+}
+
+// How many subcarriers a resource has.
+pub fn subcarriers_of(r: Resource) -> u32
+    ensures { λ n. ⌜ n ≡ nameOf r ⌝ }
+{
+    match r {
+        Resource::Single(size, _) => size_of(size),
+        Resource::Joined(pairing, _) => match pairing {
+            Pairing::P106And26 => 132,
+            Pairing::P484And242 => 726,
+        },
+    }
+}
+
+// Its index.
+pub fn number_of(r: Resource) -> u16
+    ensures { λ n. ⌜ n ≡ numberOf r ⌝ }
+{
+    match r {
+        Resource::Single(_, i) => i,
+        Resource::Joined(_, i) => i,
     }
 }
 

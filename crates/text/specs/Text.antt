@@ -1,4 +1,4 @@
--- Text as a list of bytes: fixed keys, decimals, signed decimals, items one after the other; and what a writer into a
+-- Text as a list of bytes: fixed keys, decimals, signed decimals, keys with a number, items one after the other; and what a writer into a
 -- lent buffer does.
 --
 -- 01, "Listing": "Each line starts with its fixed key, compared and written byte for byte."
@@ -31,6 +31,14 @@ dec n = decs 20 n
 unfoldable pub signed : ℤ → List ℕ
 signed (pos n) = dec n
 signed (negsuc n) = codes "-" ++ dec (suc n)
+
+-- a fixed key and a number
+abbrev pub keyed : List ℕ → ℕ → List ℕ
+keyed k n = k ++ dec n
+
+-- a whole line of them: "each ended by a line feed"
+abbrev pub line : List ℕ → ℕ → List ℕ
+line k n = k ++ dec n ++ codes "\n"
 
 -- the text of the first n items, one after the other
 unfoldable pub upto : (ℕ → List ℕ) → ℕ → List ℕ
