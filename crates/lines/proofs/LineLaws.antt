@@ -1,36 +1,16 @@
--- The lengths of a listing's lines, and what the line of a User field says.
+-- What the line of a User field says, and how long its STA-ID is.
 use mathlib.Core.Path.{_≡_, refl, sym, ap, _∙_}
 use mathlib.Core.Logic.{_≢_}
 use mathlib.Core.Bool.{Bool, true, false, cond}
-use mathlib.Core.List.{List, [], _++_}
-use Prim.Native.Nat.{ℕ, suc, _≤_, _<_}
+use mathlib.Core.List.{List, _++_}
+use Prim.Native.Nat.{ℕ, _≤_, _<_}
 use native.Mathlib.Omega.{arith}
 use lib.Dec.{eqb}
-use lib.IntN.{ℤ, pos, negsuc}
-use lib.ListN.{length, getD, length-append}
+use lib.ListN.{length, getD}
 use borrow.Author.Tests.{eq-eqb, ne-eqb, eqb-true, eqb-false}
-use Rattle.resource.specs.Tones.{Span}
-use Rattle.text.specs.Text.{codes, dec, signed}
-use Rattle.text.proofs.Laws.{dec-short, dec-fit, dec-digit}
-use Rattle.lines.specs.Lines.{keyed, line, comma, spanText, assigned, idText, staLine}
-
--- ---- lengths
-pub comma-short : (i : ℕ) → length (comma i) ≤ 1
-unfolding comma
-comma-short i = go (eqb i 0)
-  where
-    go : (b : Bool) → length (cond b [] (codes ",")) ≤ 1
-    go true = omega arith
-    go false = omega arith
-
-pub signed-short : (z : ℤ) → length (signed z) ≤ 21
-unfolding signed
-signed-short (pos n) = let h = dec-short n in omega arith
-signed-short (negsuc n) = let h = dec-short (suc n) in omega arith
-
-pub span-short : (i : ℕ) (s : Span) → length (spanText i s) ≤ 44
-span-short i s =
-    simp length-append (omega (arith, comma-short i, signed-short (s .lo), signed-short (s .hi)))
+use Rattle.text.specs.Text.{codes, dec, keyed, line}
+use Rattle.text.proofs.Laws.{dec-fit, dec-digit}
+use Rattle.lines.specs.Lines.{assigned, idText, staLine}
 
 -- none is as long as a number of four digits
 pub id-short : (id : ℕ) → id < 10000 → length (idText id) ≤ 4

@@ -1,0 +1,2 @@
+pub mod ResourceLine
+pub mod Engine
