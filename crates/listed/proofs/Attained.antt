@@ -30,7 +30,8 @@ use Rattle.faults.specs.Checks.{cutUsers, wrongBlock, firstWrong, wrongUsersOf,
 use Rattle.stations.specs.Stations.{firstRepeated, stationTwice}
 use Rattle.halves.specs.Table.{check1, check2, check3, check4, check5, check6, check7, check8, check9, check10, check11, outcome11}
 use Rattle.text.specs.Text.{dec, signed, upto}
-use Rattle.lines.specs.Lines.{nameText, comma, tonesText, ruHead, ruLine, idText, staLine, headText}
+use Rattle.resource_line.specs.ResourceLine.{nameText, comma, tonesText, ruName, ruHead, ruLine}
+use Rattle.lines.specs.Lines.{idText, staLine, headText}
 use Rattle.listed.specs.Listing.{ruLines, ownerIn, staLineAt, staLines, stationsIn, listingOf, listing}
 use Rattle.listed.proofs.Longest.{longest, longest-most, longest-is}
 use Rattle.listed.specs.Longest.{Longest, longestAt}
@@ -85,7 +86,7 @@ as-long : (bw : ℕ) → bw < 5 → length (listing bw (channel bw) (second bw))
 unfolding times channel second count total present subfieldsIn subfields fieldsOf pieces carried positions row build rowAt value valueAt
     firsts seconds secondAt firstBits secondBits field bit common hasSecond userAt onlyPlan choose tells orElse nameOf kindOf mustName
     blankAt takesBlock takes mask span family kindAt kinds least fieldsIn dec signed upto ownPieces indexOf resourceAt positionOf placeOf
-    tonesAt tonesOf divides pieceFields lead listAt lowest ownerAt ownerOf nameText comma tonesText ruHead ruLine idText staLine headText
+    tonesAt tonesOf divides pieceFields lead listAt lowest ownerAt ownerOf nameText comma tonesText ruName ruHead ruLine idText staLine headText
     ruLines ownerIn staLineAt staLines stationsIn listingOf listing longest
 as-long zero l = refl
 as-long (suc zero) l = refl

@@ -28,7 +28,8 @@ use Rattle.channel.specs.Layout.{positions}
 use Rattle.channel.proofs.Laws.{positions-le}
 use Rattle.text.specs.Text.{dec, signed, upto}
 use Rattle.text.proofs.Laws.{dec-fit}
-use Rattle.lines.specs.Lines.{nameText, comma, tonesText, ruHead, ruLine, staLine}
+use Rattle.resource_line.specs.ResourceLine.{nameText, comma, tonesText, ruName, ruHead, ruLine}
+use Rattle.lines.specs.Lines.{staLine}
 use Rattle.lines.proofs.LineLaws.{id-short}
 use Rattle.listed.proofs.Owner.{at-small}
 use Rattle.listed.proofs.Lengths.{sum-split, sum-most, sum-each, sum-both, digits, dec-most, sizes, sizes-short}
@@ -84,7 +85,7 @@ position-test n p = leb 456 (most n p 0) && below (λ v. wherever (divides v) (l
 
 tested : T (below (λ b. below (position-test (2 ^ b)) (2 ^ b)) 5)
 unfolding dec signed upto carried pieces fieldsOf ownPieces indexOf resourceAt positionOf placeOf tonesAt tonesOf divides pieceFields
-    nameText comma tonesText ruHead ruLine
+    nameText comma tonesText ruName ruHead ruLine
 tested = tt
 
 module _ (b p : ℕ) (h : b < 5) (l : p < 2 ^ b) where
@@ -102,7 +103,7 @@ module _ (b p : ℕ) (h : b < 5) (l : p < 2 ^ b) where
       (both-right (leb 456 (most (2 ^ b) p 0)) _ here) v (divided-low v d))
       (rw d tt))
 
-one-listed : (c p v : ℕ) → divides v ≡ false → listed c p v ≤ 1
+pub one-listed : (c p v : ℕ) → divides v ≡ false → listed c p v ≤ 1
 unfolding listed ownPieces
 one-listed c p v d = go (eqb c 0) (eqb v 28 || between 64 71 v) (eqb (p % span c) (lead c))
   where
@@ -112,7 +113,7 @@ one-listed c p v d = go (eqb c 0) (eqb v 28 || between 64 71 v) (eqb (p % span c
     go false t true = omega arith
     go false t false = omega arith
 
-fields-whole : (v : ℕ) → divides v ≡ false → fieldsOf v ≤ 8
+pub fields-whole : (v : ℕ) → divides v ≡ false → fieldsOf v ≤ 8
 unfolding fieldsOf
 fields-whole v d = go (ltb v 64) (carried v)
   where

@@ -17,7 +17,8 @@ use Rattle.records.specs.Engine.{lowest, ownerAt, ownerOf}
 use Rattle.channel.specs.Layout.{positions, present, firsts, seconds, firstBits, secondAt, secondBits, hasSecond, common, subfields, subfieldsIn}
 use Rattle.channel.specs.Layout.{valueAt, value, rowAt, row, total, count, userAt}
 use Rattle.text.specs.Text.{codes, dec, signed, upto}
-use Rattle.lines.specs.Lines.{nameText, comma, tonesText, ruHead, ruLine, idText, staLine, headText}
+use Rattle.resource_line.specs.ResourceLine.{nameText, comma, tonesText, ruName, ruHead, ruLine}
+use Rattle.lines.specs.Lines.{idText, staLine, headText}
 use Rattle.listed.specs.Listing.{ruLines, ownerIn, staLineAt, staLines, stationsIn, listingOf, listing}
 
 -- channel 1 with the STA-IDs 11 and 12; with 11 and 2046; channel 2, which has no User field
@@ -41,6 +42,6 @@ pub worked-listing :
 unfolding count total present subfieldsIn subfields fieldsOf pieces carried positions row build rowAt value valueAt firsts seconds secondAt
     firstBits secondBits field bit common hasSecond userAt onlyPlan choose tells orElse nameOf kindOf mustName blankAt takesBlock takes mask
     span family kindAt kinds least fieldsIn dec signed upto ownPieces indexOf resourceAt positionOf placeOf tonesAt tonesOf divides
-    pieceFields lead listAt lowest ownerAt ownerOf nameText comma tonesText ruHead ruLine idText staLine headText ruLines ownerIn staLineAt
+    pieceFields lead listAt lowest ownerAt ownerOf nameText comma tonesText ruName ruHead ruLine idText staLine headText ruLines ownerIn staLineAt
     staLines stationsIn listingOf listing
 worked-listing = (refl, refl)

@@ -21,8 +21,9 @@ use Rattle.records.specs.Records.{listAt, recordsFrom, blank}
 use Rattle.records.proofs.Sums.{sumTo}
 use Rattle.text.specs.Text.{dec, upto}
 use Rattle.text.proofs.Laws.{dec-short, dec-fit, upto-short}
-use Rattle.lines.specs.Lines.{nameText, spanText, tonesText, ruHead, ruLine, headText}
-use Rattle.lines.proofs.LineLaws.{span-short}
+use Rattle.resource_line.specs.ResourceLine.{nameText, spanText, tonesText, ruName, ruHead, ruLine}
+use Rattle.lines.specs.Lines.{headText}
+use Rattle.resource_line.proofs.LineLaws.{span-short}
 use Rattle.listed.specs.Listing.{recordLine, ruLines}
 
 -- ---- sums
@@ -102,7 +103,7 @@ tones-short n g r =
     omega (arith, tones-few n g r)
 
 ru-short : (n : ℕ) (x : Record) → length (recordLine n x) ≤ 280
-unfolding ruLine ruHead
+unfolding ruLine ruHead ruName
 ru-short n x =
     let r = x .resource in
     simp length-append

@@ -34,10 +34,11 @@ use Rattle.halves.specs.Table.{outcome11}
 use Rattle.text.specs.Text.{dec, signed, upto, Wrote}
 use Rattle.text.proofs.Laws.{count as written, dec-short}
 use Rattle.input.specs.Worked.{Said, wrong, frame, said}
-use Rattle.lines.specs.Lines.{nameText, comma, tonesText, ruHead, ruLine, assigned, refusalText, headText}
+use Rattle.resource_line.specs.ResourceLine.{nameText, comma, tonesText, ruName, ruHead, ruLine}
+use Rattle.lines.specs.Lines.{assigned, refusalText, headText}
 use Rattle.listed.specs.Listing.{resources, ruLines, ownerIn, staLineAt, staLines, stationsIn, listingOf}
 use Rattle.listed.specs.Listing.{listing, outcomeText, frameText, saidText, programText}
-use Rattle.listed.proofs.Accepted.{known-code, accepted-signals}
+use Rattle.both_halves.proofs.Accepted.{known-code, accepted-signals}
 use Rattle.listed.proofs.Stations.{fields-1, fields-2}
 use Rattle.listed.specs.Longest.{longestAt}
 use Rattle.listed.proofs.Lengths.{sum-split, sum-most, upto-sum, headMost, head-most, sizes, lines-sizes, sizes-positions}
@@ -135,7 +136,7 @@ longest-most bw a b e =
 
 pub longest-table : build (λ b. longest (2 ^ b)) 5 ≡ 649 ∷ 1267 ∷ 2513 ∷ 4990 ∷ 10131 ∷ []
 unfolding build longest dec signed upto carried pieces fieldsOf ownPieces indexOf resourceAt positionOf placeOf tonesAt tonesOf divides
-    pieceFields nameText comma tonesText ruHead ruLine
+    pieceFields nameText comma tonesText ruName ruHead ruLine
 longest-table = refl
 
 pub longest-is : (bw : ℕ) → bw < 5 → longest (2 ^ bw) ≡ longestAt bw
@@ -148,7 +149,7 @@ listing-within bw a b e = omega (arith, longest-most bw a b e, longest-is bw (om
 -- so at most 10,131 bytes
 pub listing-most : (bw : ℕ) (a b : List ℕ) → outcome11 bw a b ≡ Pass → length (listing bw a b) ≤ 10131
 unfolding longest dec signed upto carried pieces fieldsOf ownPieces indexOf resourceAt positionOf placeOf tonesAt tonesOf divides
-    pieceFields nameText comma tonesText ruHead ruLine
+    pieceFields nameText comma tonesText ruName ruHead ruLine
 listing-most bw a b e =
     let h : longest (2 ^ bw) ≤ 10131 =
     leb→le (longest (2 ^ bw)) 10131 (every-below (λ b. leb (longest (2 ^ b)) 10131) 5 tt bw (omega (arith, known-code bw a b e))) in

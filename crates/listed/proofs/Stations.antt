@@ -29,11 +29,12 @@ use Rattle.frame_words.specs.Words.{wordCount, wordsOf}
 use Rattle.frame_words.proofs.Determine.{words-length, user-back-1, user-back-2}
 use Rattle.frame_words.proofs.Counts.{row-count-1, row-count-2}
 use Rattle.text.specs.Text.{codes}
-use Rattle.lines.specs.Lines.{line, assigned, staLine}
+use Rattle.text.specs.Text.{line}
+use Rattle.lines.specs.Lines.{assigned, staLine}
 use Rattle.lines.proofs.LineLaws.{number-line, none-line, only-none}
 use Rattle.listed.specs.Listing.{ownerIn, staLineAt, stationsIn}
 use Rattle.listed.specs.Stations.{channelAt, placeIn, wordStation, SaysNone, Station, Counted}
-use Rattle.listed.proofs.Accepted.{known-code, accepted-signals}
+use Rattle.both_halves.proofs.Accepted.{known-code, accepted-signals}
 
 -- ---- how many: "the count is the sum over the row's values", in each channel
 

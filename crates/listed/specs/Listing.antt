@@ -10,29 +10,25 @@ use Rattle.answer.specs.Answer.{no, refuseIf, _or_, answerAt, after}
 use Rattle.answer.specs.declared.Answer.{Answer}
 use Rattle.answer.specs.declared.Outcome.{Outcome}
 use Rattle.answer.specs.declared.Outcome.the-variants.{Pass, Refuse}
-use Rattle.answer.specs.Lists.{at}
 use Rattle.answer.specs.Tally.{tally}
 use Rattle.resource.specs.Tones.{tonesOf}
 use Rattle.plan.specs.Worked.{thePlan}
 use Rattle.records.specs.declared.Record.{Record}
-use Rattle.records.specs.Records.{listAt, recordsOf, blank}
+use Rattle.records.specs.Records.{recordsOf, blank}
 use Rattle.records.specs.Worked.{theOwner}
 use Rattle.channel.specs.Layout.{row, count}
 use Rattle.stations.specs.Stations.{stationOf}
 use Rattle.halves.specs.Table.{outcome11, checks11}
 use Rattle.text.specs.Text.{upto}
 use Rattle.input.specs.Worked.{Said, wrong, frame, said}
-use Rattle.lines.specs.Lines.{ruLine, assigned, staLine, refusalText, headText}
+use Rattle.resource_line.specs.ResourceLine.{ruLine}
+use Rattle.lines.specs.Lines.{assigned, staLine, refusalText, headText}
 
 -- ---- the listing of a row r
 
 -- the line of a record of the plan, in a channel of n positions; its users are its fields of both channels
 abbrev pub recordLine : ℕ → Record → List ℕ
 recordLine n x = ruLine (x .segment) (x .resource) (x .fields1 + x .fields2) (tonesOf n (x .segment) (x .resource))
-
--- those whose lowest position is p, which is given to c
-abbrev pub listedAt : List ℕ → ℕ → ℕ → List Record
-listedAt r c p = listAt c (at r) p
 
 -- the plan's resources, "by lowest position, then frequency"
 abbrev pub resources : List ℕ → List Record

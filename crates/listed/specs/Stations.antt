@@ -11,7 +11,7 @@ use Rattle.text.specs.Text.{codes}
 use Rattle.plan.specs.Worked.{thePlan}
 use Rattle.records.specs.Owns.{Owns, Counts}
 use Rattle.frame_words.specs.Words.{wordsOf}
-use Rattle.lines.specs.Lines.{keyed, line}
+use Rattle.text.specs.Text.{keyed, line}
 use Rattle.listed.specs.Listing.{resources, ownerIn, staLineAt, stationsIn}
 
 -- "one per User field, channel 1 first": of the i-th User field over both channels, m of which are channel 1's, the channel

@@ -1,69 +1,23 @@
 -- The lines of a row's resources, position by position.
-use mathlib.Core.Path.{_≡_, refl, ap, _∙_}
-use mathlib.Core.Logic.{_≢_}
-use mathlib.Core.Bool.{Bool, true, false, cond}
-use mathlib.Core.List.{List, [], _∷_, _++_}
-use Prim.Native.Nat.{ℕ, _+_, _%_, _≤_}
+use mathlib.Core.Path.{_≡_}
+use mathlib.Core.List.{List, _++_}
+use Prim.Native.Nat.{ℕ, _+_, _≤_}
 use native.Mathlib.Omega.{arith}
 use native.Mathlib.Numerals.{add-one}
-use borrow.Author.Tests.{ne-eqb}
-use lib.Dec.{eqb}
-use lib.ListN.{length, getD, length-append, List·getD-append}
-use lib.Seq.{getD-append-add}
-use Rattle.text.specs.Text.{upto, Wrote}
-use Rattle.text.proofs.Laws.{no-item, upto-cong, upto-append}
-use Rattle.plan.specs.Kinds.{span}
+use lib.ListN.{length}
 use Rattle.answer.specs.Lists.{at}
 use Rattle.plan.specs.Engine.{onlyPlan}
-use Rattle.records.specs.declared.Record.{Record}
-use Rattle.records.specs.Records.{lead, largerRecord, listAt, recordsFrom, blank}
-use Rattle.records.specs.Engine.{listed}
+use Rattle.records.specs.Records.{listAt, recordsFrom}
 use Rattle.records.proofs.Listing.{records-most}
+use Rattle.position_lines.specs.Engine.{runsLines}
+use Rattle.position_lines.proofs.Lines.{lines-append}
 use Rattle.listed.specs.Listing.{resources}
-use Rattle.listing.specs.Engine.{runsLine, runsLines}
 
 -- a row of sixteen positions has at most 144 resources
 pub resources-few : (r : List ℕ) → length r ≤ 16 → length (resources r) ≤ 144
 resources-few r l = omega (arith, records-most (onlyPlan (at r)) (at r) (length r))
 
--- the lines of two lists of resources, one after the other
-pub lines-append : (n : ℕ) (xs ys : List Record) → runsLines n (xs ++ ys) ≡ runsLines n xs ++ runsLines n ys
-unfolding runsLines
-lines-append n xs ys =
-    let f : ℕ → List ℕ = λ i. runsLine n (getD (xs ++ ys) i blank) in
-    rw (length-append xs ys)
-    (upto-append f (length xs) (length ys)
-    ∙ rw (upto-cong f (λ i. runsLine n (getD xs i blank)) (length xs) (λ i l. ap (runsLine n) (List·getD-append xs ys blank i l)))
-    (ap (λ (t : List ℕ). upto (λ i. runsLine n (getD xs i blank)) (length xs) ++ t)
-    (upto-cong (λ i. f (length xs + i)) (λ i. runsLine n (getD ys i blank)) (length ys) (λ i l. ap (runsLine n) (getD-append-add xs ys i blank)))))
-
 -- one position more
 pub lines-next : (n : ℕ) (o row : ℕ → ℕ) (p : ℕ)
     → runsLines n (recordsFrom o row (p + 1)) ≡ runsLines n (recordsFrom o row p) ++ runsLines n (listAt (o p) row p)
 lines-next n o row p = rw (add-one p) (lines-append n (recordsFrom o row p) (listAt (o p) row p))
-
--- ---- a larger resource has a line where it is listed
-listed-or : (t : Bool) (r : Record) → _≡_ {A = ℕ} (cond t 1 0) 0 → cond t (r ∷ []) [] ≡ []
-listed-or true r e = absurd (omega arith)
-listed-or false r e = refl
-
-listed-if : (t : Bool) (r : Record) → (_≡_ {A = ℕ} (cond t 1 0) 0 → ⊥) → cond t (r ∷ []) [] ≡ r ∷ []
-listed-if true r e = refl
-listed-if false r e = absurd (e refl)
-
-module _ (c : ℕ) (row : ℕ → ℕ) (p : ℕ) (n : c ≢ 0) where
-  pub none-listed : listed c p (row p) ≡ 0 → listAt c row p ≡ []
-  unfolding listed listAt
-  none-listed e = rw (ne-eqb c 0 n) (listed-or (eqb (p % span c) (lead c)) (largerRecord c row p) (rw (ne-eqb c 0 n) at e))
-
-  pub one-listed : (listed c p (row p) ≡ 0 → ⊥) → listAt c row p ≡ largerRecord c row p ∷ []
-  unfolding listed listAt
-  one-listed e = rw (ne-eqb c 0 n) (listed-if (eqb (p % span c) (lead c)) (largerRecord c row p) (rw (ne-eqb c 0 n) at e))
-
-pub no-lines : (n : ℕ) (d : List ℕ) (at : ℕ) → Wrote d at (runsLines n []) d at
-unfolding runsLines
-no-lines n d at = no-item _ d at
-
-pub one-line : (n : ℕ) (r : Record) → runsLines n (r ∷ []) ≡ runsLine n r
-unfolding runsLines upto
-one-line n r = refl

@@ -1,6 +1,5 @@
 pub mod Held
 pub mod Shown
-pub mod Halves
 pub mod Channels
 pub mod Outcome
 pub mod Facts

@@ -1,15 +1,12 @@
 // A listing (01, "Listing"): an accepted frame's resources and stations as lines of text; and the program's whole text.
 use answer::Answer;
 use answer::Outcome;
-use halves::Planned;
 use input::Parsed;
 use lines::is_assigned;
 use lines::put_head;
 use lines::put_refusal;
-use lines::put_ru;
 use lines::put_sta;
-use records::Record;
-use resource::Tones;
+use position_lines::put_position;
 ghost use mathlib.Core.Path.{_≡_};
 ghost use Prim.Native.Nat.{_+_, _*_, _≤_, _<_};
 ghost use lib.ListN.{length, getD};
@@ -17,81 +14,17 @@ ghost use Rattle.answer.specs.Tally.{tally};
 ghost use Rattle.stations.specs.Stations.{stationAt};
 ghost use Rattle.text.specs.Text.{Wrote, upto};
 ghost use Rattle.input.specs.Engine.{bytesAt, secondAt};
-ghost use Rattle.resource.specs.Values.{ownPieces};
-ghost use Rattle.resource.specs.Engine.{pieceAt, runsOf, held};
 ghost use Rattle.plan.specs.Engine.{kindsOf};
-ghost use Rattle.records.specs.Records.{pieceRecord, listAt};
 ghost use Rattle.records.specs.Engine.{numbersOf};
 ghost use Rattle.halves.specs.Table.{outcome11};
 ghost use Rattle.lines.specs.Lines.{assigned};
-ghost use Rattle.listing.specs.Engine.{Given, acceptedPlan, ownedLine, ownersIn, runsLine, runsLines, runsListing};
+ghost use Rattle.position_lines.specs.Engine.{runsLines};
+ghost use Rattle.both_halves.specs.Engine.{Given};
+ghost use Rattle.listing.specs.Engine.{ownedLine, ownersIn, runsListing};
 ghost use Rattle.listed.specs.Longest.{longestAt};
-ghost use Rattle.listed.specs.Listing.{listedAt, resources, staLines, listing, listAnswer, listAfter, frameText, programText};
+ghost use Rattle.listed.specs.Listing.{resources, staLines, listing, listAnswer, listAfter, frameText, programText};
 
 // ---- the listing of an accepted frame
-
-fn put_record(out: &mut [u8], at: usize, n: u16, x: Record, tones: Tones) -> usize
-    requires { ⌜ (at ≤ 59000) × (tones ≡ held (runsOf n (x .segment) (x .resource))) ⌝ }
-    ensures { λ r. ⌜ Wrote (now (out .entry)) at (runsLine n x) (now (out .exit)) r ⌝ }
-    ensures bounded { λ r. ⌜ r ≤ at + 240 ⌝ }
-{
-    let users = x.fields1 as u64 + x.fields2 as u64;
-    let resource = x.resource;
-    put_ru(out, at, n, x.segment, resource, users, tones)
-}
-
-// The line of the k-th piece of position p, whose value is v, in a channel of n positions.
-fn put_piece(out: &mut [u8], at: usize, n: u16, v: u16, p: usize, k: u16) -> usize
-    requires { ⌜ (at ≤ 59000) × (p < 4096) × (k < length (ownPieces v)) ⌝ }
-    ensures { λ r. ⌜ Wrote (now (out .entry)) at (runsLine n (pieceRecord (λ q. v) p (pieceAt v k))) (now (out .exit)) r ⌝ }
-    ensures bounded { λ r. ⌜ r ≤ at + 240 ⌝ }
-{
-    let x = resource::piece_at(v, k);
-    let tones = resource::piece_tones(n, p as u16, x);
-    put_record(out, at, n, records::piece_record(v, p, x), tones)
-}
-
-// A line for each piece of position p, which is given to itself.
-fn put_pieces(out: &mut [u8], at: usize, n: u16, v: u16, p: usize) -> usize
-    requires { ⌜ (at ≤ 50000) × (p < 4096) ⌝ }
-    ensures { λ r. ⌜ Wrote (now (out .entry)) at (runsLines n (listAt 0 (λ q. v) p)) (now (out .exit)) r ⌝ }
-    ensures bounded { λ r. ⌜ r ≤ at + 240 * length (listAt 0 (λ q. v) p) ⌝ }
-{
-    let here = resource::pieces_of(v);
-    let mut e = at;
-    let mut k: u16 = 0;
-    while k < here {
-        e = put_piece(out, e, n, v, p, k);
-        k += 1;
-    }
-    e
-}
-
-// The line of the larger resource of this kind, where p is its lowest position.
-fn put_larger(out: &mut [u8], at: usize, row: &[u16], kind: u16, p: usize) -> usize
-    requires { ⌜ (at ≤ 50000) × (length (now row) ≤ 16) × (p < length (now row)) × (kind < 7) × (kind ≡ 0 → ⊥) ⌝ }
-    ensures { λ r. ⌜ Wrote (now (out .entry)) at (runsLines (length (now (row .entry))) (listedAt (now (row .entry)) kind p)) (now (out .exit)) r ⌝ }
-    ensures bounded { λ r. ⌜ r ≤ at + 240 * length (listedAt (now (row .entry)) kind p) ⌝ }
-{
-    if records::listed_of(kind, p, row[p]) == 0 {
-        return at;
-    }
-    let n = row.len() as u16;
-    let tones = records::larger_tones(kind, p);
-    put_record(out, at, n, records::larger_record(kind, row, p), tones)
-}
-
-// A line for each of the resources whose lowest position is p, which is given to this kind.
-fn put_position(out: &mut [u8], at: usize, row: &[u16], kind: u16, p: usize) -> usize
-    requires { ⌜ (at ≤ 50000) × (length (now row) ≤ 16) × (p < length (now row)) × (kind < 7) ⌝ }
-    ensures { λ r. ⌜ Wrote (now (out .entry)) at (runsLines (length (now (row .entry))) (listedAt (now (row .entry)) kind p)) (now (out .exit)) r ⌝ }
-    ensures bounded { λ r. ⌜ r ≤ at + 240 * length (listedAt (now (row .entry)) kind p) ⌝ }
-{
-    if kind == 0 {
-        return put_pieces(out, at, row.len() as u16, row[p], p);
-    }
-    put_larger(out, at, row, kind, p)
-}
 
 // A line for each resource, by the row's table.
 fn put_records(out: &mut [u8], at: usize, row: &[u16], kinds: &[u16; 16]) -> usize
@@ -284,38 +217,14 @@ fn list_given(
     }
 }
 
-// ---- the two halves of the reading, and the lines of a frame that passes both
-
-// 1 to 11, and the plan of a frame that passes 1 to 8: nothing of it is worked out again.
-fn plan_accepted(bw: u32, a: &[u8], b: &[u8]) -> Planned
-    ensures { λ r. ⌜ r ≡ acceptedPlan bw (now (a .entry)) (now (b .entry)) ⌝ }
-{
-    let plan = halves::plan_frame(bw, a, b, false);
-    let planned = plan.outcome;
-    if let Outcome::Refuse(_) = planned {
-        return plan;
-    }
-    let m = plan.fields1;
-    let k = plan.fields2;
-    let outcome = halves::then_users(planned, bw, a, b, m, k, false);
-    let row = plan.row;
-    let kinds = plan.kinds;
-    Planned {
-        outcome,
-        row,
-        kinds,
-        shared: plan.shared,
-        fields1: m,
-        fields2: k,
-    }
-}
+// ---- the lines of a frame that passes both halves of a reading
 
 // Lists a frame: 1 to 11 as the reader, then 23. A refusal writes nothing.
 pub fn list(bandwidth: u32, cc1: &[u8], cc2: &[u8], out: &mut [u8]) -> Answer
     ensures { λ r. ⌜ r ≡ listAnswer bandwidth (now (cc1 .entry)) (now (cc2 .entry)) (length (now (out .entry))) ⌝ }
     ensures { λ _. ⌜ now (out .exit) ≡ listAfter bandwidth (now (cc1 .entry)) (now (cc2 .entry)) (now (out .entry)) ⌝ }
 {
-    let plan = plan_accepted(bandwidth, cc1, cc2);
+    let plan = both_halves::plan_accepted(bandwidth, cc1, cc2);
     let checked = plan.outcome;
     if let Outcome::Refuse(x) = checked {
         return x;
@@ -341,7 +250,7 @@ pub fn list(bandwidth: u32, cc1: &[u8], cc2: &[u8], out: &mut [u8]) -> Answer
 fn put_outcome(out: &mut [u8], bw: u32, a: &[u8], b: &[u8]) -> usize
     ensures { λ r. ⌜ Wrote (now (out .entry)) 0 (frameText bw (now (a .entry)) (now (b .entry))) (now (out .exit)) r ⌝ }
 {
-    let plan = plan_accepted(bw, a, b);
+    let plan = both_halves::plan_accepted(bw, a, b);
     let checked = plan.outcome;
     if let Outcome::Refuse(x) = checked {
         return put_refusal(out, x.number, x.channel, x.place);

@@ -1,6 +1,6 @@
 -- `listing::list` meets its contract.
 use native.Mathlib.Omega.{arith}
-use Rattle.listing.proofs.Halves.{outcome, code, row-16, given, given-front}
+use Rattle.both_halves.proofs.Halves.{outcome, code, row-16, given, given-front}
 use Rattle.listing.proofs.Outcome.{refused-by}
 use borrow.Author.Needs.{needs}
 use Rattle.listing.proofs.list.Statement.{statement}

@@ -1,7 +1,7 @@
 -- `listing::list_given` meets its contract.
 use native.Mathlib.Omega.{arith}
 use Rattle.listing.proofs.Outcome.{too-short, at-once, listed}
-use Rattle.listed.proofs.Accepted.{known-code}
+use Rattle.both_halves.proofs.Accepted.{known-code}
 use Rattle.listed.proofs.Longest.{listing-within}
 use Rattle.text.proofs.Laws.{count}
 use borrow.Author.Needs.{needs}

@@ -1,8 +1,8 @@
 -- `listing::put_listing` meets its contract.
 use Rattle.channel.proofs.Laws.{count-le}
-use Rattle.listing.proofs.Halves.{row-few}
+use Rattle.both_halves.proofs.Halves.{row-few}
 use Rattle.listing.proofs.Shown.{shown}
-use Rattle.listed.proofs.Accepted.{known-code}
+use Rattle.both_halves.proofs.Accepted.{known-code}
 use borrow.Author.Needs.{needs}
 use Rattle.listing.proofs.put_listing.Statement.{statement}
 use Rattle.listing.proofs.put_listing.Tie as tie

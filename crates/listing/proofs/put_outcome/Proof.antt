@@ -1,6 +1,6 @@
 -- `listing::put_outcome` meets its contract.
 use native.Mathlib.Omega.{arith}
-use Rattle.listing.proofs.Halves.{outcome, code, row-16, given, given-front}
+use Rattle.both_halves.proofs.Halves.{outcome, code, row-16, given, given-front}
 use Rattle.listed.specs.Listing.{frameText}
 use borrow.Author.Needs.{needs}
 use Rattle.listing.proofs.put_outcome.Statement.{statement}

@@ -10,7 +10,7 @@ use Rattle.plan.specs.Engine.{onlyPlan}
 use Rattle.records.specs.Records.{listAt, recordsFrom}
 use Rattle.records.proofs.Listing.{next-length, records-most}
 use Rattle.records.proofs.Tables.{kind-in, kind-known}
-use Rattle.listing.specs.Engine.{runsLines}
+use Rattle.position_lines.specs.Engine.{runsLines}
 use Rattle.listing.proofs.Held.{lines-next}
 use Rattle.listing.proofs.put_records.Statement.{statement}
 use Rattle.listing.proofs.put_records.Tie as tie

@@ -1,11 +1,11 @@
--- `listing::plan_accepted` meets its contract.
+-- `both_halves::plan_accepted` meets its contract.
 use mathlib.Core.Bool.{false≢true}
 use Rattle.halves.proofs.Stages.{common-pass}
 use Rattle.halves.proofs.Half.{planned-made}
-use Rattle.listing.proofs.Halves.{stopped, both}
+use Rattle.both_halves.proofs.Halves.{stopped, both}
 use borrow.Author.Needs.{needs}
-use Rattle.listing.proofs.plan_accepted.Statement.{statement}
-use Rattle.listing.proofs.plan_accepted.Tie as tie
+use Rattle.both_halves.proofs.plan_accepted.Statement.{statement}
+use Rattle.both_halves.proofs.plan_accepted.Tie as tie
 
 plan-frame-requires : tie.Need-plan-frame-requires
 plan-frame-requires c κs = λ e. absurd (false≢true e)

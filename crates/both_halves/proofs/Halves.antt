@@ -1,4 +1,4 @@
--- The listing from the two halves of a reading.
+-- What the two halves of a reading tell together.
 use mathlib.Core.Path.{_≡_, sym, _∙_, ap}
 use mathlib.Core.List.{List}
 use Prim.Native.Nat.{ℕ, _≤_}
@@ -18,8 +18,8 @@ use Rattle.halves.specs.Engine.{plannedOf, outcome9to11}
 use Rattle.halves.proofs.Stages.{outcome11-stages}
 use Rattle.halves.proofs.Half.{Made, outcome-made, planned-out, planned-pass, planned-refuse, planned-rest}
 use Rattle.halves.proofs.Rows.{front, sixteen}
-use Rattle.listed.proofs.Accepted.{known-code}
-use Rattle.listing.specs.Engine.{withOutcome, acceptedPlan, Given}
+use Rattle.both_halves.proofs.Accepted.{known-code}
+use Rattle.both_halves.specs.Engine.{withOutcome, acceptedPlan, Given}
 
 module _ (bw : ℕ) (a b : List ℕ) (p : Planned) where
   -- refused by the first
