@@ -26,8 +26,8 @@ use Rattle.resource.proofs.Test.{below-or, both-left, both-right, wherever, met
 use Rattle.resource.proofs.Edge.{In, in-among, among-in, among-counted}
 use Rattle.resource.proofs.Apart.{ascending, bounded}
 use Rattle.resource.proofs.Agree.{AgreesAt, agrees-test, tested-agrees}
-use Rattle.trigger.specs.Values.{named, resourceOf, reaches, taken}
-use Rattle.trigger.proofs.Back.{named-low, taken-named}
+use Rattle.trigger_values.specs.Values.{named, resourceOf, reaches, taken}
+use Rattle.trigger_values.proofs.Back.{named-low, taken-named}
 use Rattle.overlaps.specs.Overlaps.{Share}
 use Rattle.overlaps.specs.Engine.{maskOf}
 

@@ -6,9 +6,9 @@ use lib.Dec.{T, eqb, eqb→eq, eqb-refl}
 use Rattle.resource.specs.declared.Resource.{Resource}
 use Rattle.resource.specs.Names.{nameOf, numberOf}
 use Rattle.resource.proofs.Test.{wherever, met, below, every-below}
-use Rattle.trigger.specs.Values.{named, resourceOf, taken}
-use Rattle.trigger.specs.Engine.{valueFor}
-use Rattle.trigger.proofs.Back.{named-low, taken-named, value-back}
+use Rattle.trigger_values.specs.Values.{named, resourceOf, taken}
+use Rattle.trigger_values.specs.Engine.{valueFor}
+use Rattle.trigger_values.proofs.Back.{named-low, taken-named, value-back}
 use Rattle.overlaps.specs.Engine.{maskOf}
 
 abbrev both-named : ℕ → ℕ → Bool

@@ -16,7 +16,7 @@ use Rattle.answer.specs.declared.Outcome.the-variants.{Pass, Refuse}
 use Rattle.answer.proofs.Order.{or-pass, or-refuse, or-next}
 use Rattle.bits.specs.Bits.{bit, field}
 use Rattle.bits.proofs.Fields.{field-ext}
-use Rattle.trigger.specs.UserInfo.{part}
+use Rattle.trigger_values.specs.UserInfo.{part}
 use Rattle.trigger.specs.Reading.{infoOutcome}
 use Rattle.overlaps.specs.Overlaps.{infoAt}
 use Rattle.overlaps.specs.Engine.{maskOf, maskAt}

@@ -19,8 +19,8 @@ use Rattle.answer.specs.declared.Outcome.{Outcome}
 use Rattle.answer.specs.declared.Outcome.the-variants.{Pass, Refuse}
 use Rattle.answer.proofs.First.{first-chain, first-pass, first-applies}
 use Rattle.answer.proofs.Order.{pass-or-refuse, pass-not-refuse, refuse-same, pass-left, pass-right, pass-if, refuse-if, or-cases, or-end, after-answered}
-use Rattle.trigger.specs.UserInfo.{aid12, b0, valueIn, ps160}
-use Rattle.trigger.specs.Values.{taken}
+use Rattle.trigger_values.specs.UserInfo.{aid12, b0, valueIn, ps160}
+use Rattle.trigger_values.specs.Values.{taken}
 use Rattle.trigger.specs.Reading.{above2, is2007, bitSet, notTaken, infoOutcome, noRecordRoom, notFive, entryOutcome, entryAnswer}
 use Rattle.trigger.proofs.Stages.{read-chain}
 use Rattle.trigger.proofs.Worked.{accepted}

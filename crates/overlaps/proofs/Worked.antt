@@ -10,8 +10,8 @@ use lib.Dec.{T, T-not, not-T, ltb, ltb→lt, lt→ltb, eqb, eqb→eq, eqb-refl}
 use mir.Facts.{and-yes, yes-and}
 use Rattle.answer.specs.Tally.{tally}
 use Rattle.resource.proofs.Test.{below-or}
-use Rattle.trigger.specs.UserInfo.{valueIn}
-use Rattle.trigger.specs.Values.{resourceOf, taken}
+use Rattle.trigger_values.specs.UserInfo.{valueIn}
+use Rattle.trigger_values.specs.Values.{resourceOf, taken}
 use Rattle.overlaps.specs.Overlaps.{entriesIn, infoAt, entryResource, Overlap, earlier, later}
 use Rattle.overlaps.specs.Engine.{maskOf, maskAt, meet, hit}
 use Rattle.overlaps.specs.Worked.{pairCount, pairBytes, Worked}

@@ -5,7 +5,7 @@ use mathlib.Core.List.{List, [], _∷_, _++_}
 use Prim.Native.Nat.{ℕ, zero, suc, _+_, _-_, _*_, _/_, _%_, _^_}
 use lib.Bits.{bitAnd, bitOr}
 use lib.Dec.{ltb, leb, eqb}
-use Rattle.trigger.specs.UserInfo.{valueIn}
+use Rattle.trigger_values.specs.UserInfo.{valueIn}
 use Rattle.overlaps.specs.Overlaps.{infoAt}
 
 -- the 36 26s of a segment as bits, bit 9 p + j the j-th of position p; those that the resource of a value takes

@@ -11,8 +11,8 @@ use lib.ListN.{length, take, drop}
 use Rattle.answer.specs.Lists.{at}
 use Rattle.resource.specs.declared.Resource.{Resource}
 use Rattle.resource.specs.Tones.{tonesOf, Among}
-use Rattle.trigger.specs.UserInfo.{infoOf, valueIn}
-use Rattle.trigger.specs.Values.{resourceOf}
+use Rattle.trigger_values.specs.UserInfo.{infoOf, valueIn}
+use Rattle.trigger_values.specs.Values.{resourceOf}
 
 -- how many entries a list of bytes has, and entry i of it, from 0
 abbrev pub entriesIn : List ℕ → ℕ

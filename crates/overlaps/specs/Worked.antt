@@ -6,8 +6,8 @@ use Prim.Native.Nat.{ℕ, _*_, _≤_, _<_}
 use lib.Dec.{T}
 use lib.ListN.{length}
 use Rattle.answer.specs.Tally.{tally}
-use Rattle.trigger.specs.UserInfo.{valueIn}
-use Rattle.trigger.specs.Values.{taken}
+use Rattle.trigger_values.specs.UserInfo.{valueIn}
+use Rattle.trigger_values.specs.Values.{taken}
 use Rattle.overlaps.specs.Overlaps.{entriesIn, infoAt, Reported}
 use Rattle.overlaps.specs.Engine.{maskAt, hit, pairsTo}
 

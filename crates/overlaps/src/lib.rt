@@ -51,7 +51,7 @@ fn fill_masks(bandwidth: u32, entries: &[u8], n: usize, masks: &mut [u64; 32]) -
     while i < n {
         let x = trigger::info_at(entries, i);
         read = read & trigger::is_read(bandwidth, x);
-        masks[i] = mask_of(trigger::part_of(x, 2));
+        masks[i] = mask_of(trigger_values::part_of(x, 2));
         i += 1;
     }
     read

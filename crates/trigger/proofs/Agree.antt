@@ -3,9 +3,6 @@ use mathlib.Core.Path.{_≡_, sym, _∙_}
 use denote.Ref.{now}
 use Rattle.answer.proofs.Agree.{Agrees}
 use Rattle.trigger.proofs.info_at.Reads as info-at
-use Rattle.trigger.proofs.part_of.Reads as part-of
-use Rattle.trigger.proofs.is_taken.Reads as is-taken
-use Rattle.trigger.proofs.resource_of.Reads as resource-of
 use Rattle.trigger.proofs.judge.Reads as judge
 use Rattle.trigger.proofs.is_read.Reads as is-read
 use Rattle.trigger.proofs.read.Reads as read
@@ -13,15 +10,6 @@ use Rattle.trigger.proofs.write.Reads as write
 
 pub info-at-agrees : Agrees info-at.Post
 info-at-agrees κs a r r' s s' p q = p ∙ sym q
-
-pub part-of-agrees : Agrees part-of.Post
-part-of-agrees κs a r r' s s' p q = p ∙ sym q
-
-pub is-taken-agrees : Agrees is-taken.Post
-is-taken-agrees κs a r r' s s' p q = p ∙ sym q
-
-pub resource-of-agrees : Agrees resource-of.Post
-resource-of-agrees κs a r r' s s' p q = p ∙ sym q
 
 pub judge-agrees : Agrees judge.Post
 judge-agrees κs a r r' s s' p q = p ∙ sym q

@@ -11,7 +11,7 @@ use Rattle.answer.proofs.Lists.{filled-start, filled-step}
 use Rattle.bits.specs.Bits.{field, bit, Small}
 use Rattle.bits.proofs.Fields.{field-of, field-byte}
 use Rattle.bits.proofs.Bytes.{length-bytes, bit-bytes, bytes-small}
-use Rattle.trigger.specs.UserInfo.{entryOf}
+use Rattle.trigger_values.specs.UserInfo.{entryOf}
 
 -- bits below 40, and fields of them, are the number's
 pub entry-bit : (x i : ℕ) → i < 40 → bit (entryOf x) i ≡ x / 2 ^ i % 2

@@ -19,15 +19,15 @@ use Rattle.word_bytes.proofs.Back.{words-back, word-same}
 use Rattle.resource.specs.declared.Resource.{Resource}
 use Rattle.resource.specs.Names.{nameOf, numberOf}
 use Rattle.resource.proofs.Test.{below-or}
-use Rattle.trigger.specs.UserInfo.{infoOf, aid12, valueIn, entryOf}
-use Rattle.trigger.specs.Values.{resourceOf, ResourceOf}
+use Rattle.trigger_values.specs.UserInfo.{infoOf, aid12, valueIn, entryOf}
+use Rattle.trigger_values.specs.Values.{resourceOf, ResourceOf}
 use Rattle.trigger.specs.Reading.{above2, notFive, infoOutcome, noRecordRoom, entryOutcome, numbersOf, entryAnswer, recordRead}
 use Rattle.trigger.specs.Worked.{EntryReads, SomeEntry, theEntry, someEntry}
 use Rattle.trigger.specs.Engine.{infoWith}
 use Rattle.trigger.specs.Writing.{says2007, ofNone, noEntryRoom, recordOutcome, recordAnswer, entryWritten}
 use Rattle.trigger.proofs.Stages.{read-chain, not-false}
 use Rattle.trigger.proofs.Five.{entry-length}
-use Rattle.trigger.proofs.OneToOne.{one-to-one}
+use Rattle.trigger_values.proofs.OneToOne.{one-to-one}
 use Rattle.trigger.proofs.Worked.{accepted, number-low, record-words, the-entry, found, reads-to, small-entry}
 use Rattle.trigger.proofs.Judged.{entry-judged, record-judged, record-exactly}
 

@@ -11,8 +11,8 @@ use Rattle.answer.proofs.Numbers.{only-if, Gives, distinct, absent, judged, num
 use Rattle.answer.proofs.First.{first-chain}
 use Rattle.answer.proofs.Order.{after-answered}
 use Rattle.word_bytes.specs.Bytes.{byteAt, wordAt}
-use Rattle.trigger.specs.UserInfo.{infoOf, aid12, b0, valueIn, ps160}
-use Rattle.trigger.specs.Values.{taken}
+use Rattle.trigger_values.specs.UserInfo.{infoOf, aid12, b0, valueIn, ps160}
+use Rattle.trigger_values.specs.Values.{taken}
 use Rattle.trigger.specs.Reading.{above2, notFive, is2007, bitSet, notTaken, noRecordRoom, entryOutcome, entryNumbers, entryChecks}
 use Rattle.trigger.specs.Reading.{numbersOf, entryAnswer, recordRead}
 use Rattle.trigger.specs.Worked.{theEntry, someEntry}

@@ -1,6 +1,3 @@
-pub mod Taken
-pub mod Back
-pub mod OneToOne
 pub mod Stages
 pub mod Five
 pub mod Worked

@@ -16,8 +16,8 @@ use Rattle.answer.specs.declared.Outcome.the-variants.{Pass, Refuse}
 use Rattle.answer.specs.Lists.{at, build, filled}
 use Rattle.answer.proofs.Lists.{getD-filled, getD-kept}
 use Rattle.answer.proofs.Order.{pass-left, pass-right, pass-if, or-assoc}
-use Rattle.trigger.specs.UserInfo.{infoOf, aid12, b0, valueIn, ps160}
-use Rattle.trigger.specs.Values.{taken}
+use Rattle.trigger_values.specs.UserInfo.{infoOf, aid12, b0, valueIn, ps160}
+use Rattle.trigger_values.specs.Values.{taken}
 use Rattle.trigger.specs.Reading.{above2, notFive, is2007, bitSet, notTaken, infoOutcome, noRecordRoom, entryOutcome}
 use Rattle.trigger.specs.Engine.{fit, valueNamed, readBack, numbersOutcome}
 use Rattle.trigger.specs.Worked.{someEntry}

@@ -22,13 +22,13 @@ use Rattle.resource.specs.Names.{nameOf, numberOf}
 use Rattle.resource.proofs.Test.{below, every-below, both-left, both-right}
 use Rattle.word_bytes.specs.Bytes.{byteAt, wordAt, wordsIn}
 use Rattle.word_bytes.proofs.Back.{words-back, bytes-back}
-use Rattle.trigger.specs.UserInfo.{infoOf, infoWidths, part, aid12, b0, valueIn, ps160, entryOf}
-use Rattle.trigger.specs.Values.{resourceOf, taken}
+use Rattle.trigger_values.specs.UserInfo.{infoOf, infoWidths, part, aid12, b0, valueIn, ps160, entryOf}
+use Rattle.trigger_values.specs.Values.{resourceOf, taken}
 use Rattle.trigger.specs.Reading.{is2007, bitSet, notTaken, infoOutcome, numbersOf}
 use Rattle.trigger.specs.Engine.{valueNamed, fit, infoWith, readBack}
 use Rattle.trigger.specs.Worked.{EntryReads, theEntry, someEntry, Worked}
-use Rattle.trigger.proofs.Back.{value-back, back-value}
-use Rattle.trigger.proofs.Taken.{value-low}
+use Rattle.trigger_values.proofs.Back.{value-back, back-value}
+use Rattle.trigger_values.proofs.Taken.{value-low}
 use Rattle.trigger.proofs.Stages.{both-true, not-false, bounds}
 use Rattle.trigger.proofs.Five.{entry-bit, entry-length, entry-small, entry-field}
 

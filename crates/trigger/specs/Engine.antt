@@ -1,36 +1,16 @@
--- Engine: how the code finds which bandwidths take a value and the value of a record, and puts its 40 bits together. The contracts of the
--- code cite it; nobody has to believe it: `proofs/Taken.antt`, and for records `Worked.antt` says what it comes to.
-use mathlib.Core.Bool.{Bool, cond, not, _&&_}
+-- Engine: how the code finds the value of a record, and puts its 40 bits together. The contracts of the code cite it; nobody has to believe
+-- it: `Worked.antt` says what it comes to.
+use mathlib.Core.Bool.{Bool, not, _&&_}
 use mathlib.Core.List.{List, [], _∷_}
-use Prim.Native.Nat.{ℕ, _+_, _-_}
-use lib.Dec.{ltb, leb, eqb}
+use Prim.Native.Nat.{ℕ}
+use lib.Dec.{ltb, eqb}
 use Rattle.answer.specs.Answer.{no, refuseIf, _or_}
 use Rattle.answer.specs.declared.Outcome.{Outcome}
 use Rattle.answer.specs.Lists.{at}
-use Rattle.answer.specs.Least.{least}
 use Rattle.bits.specs.Pack.{pack}
-use Rattle.trigger.specs.UserInfo.{infoWidths}
-use Rattle.trigger.specs.Values.{taken}
-
--- the narrowest bandwidth code that takes a value, 3 where none does
-unfoldable pub codeFrom : ℕ → ℕ
-codeFrom v = least (λ b. taken b v) 3
-
--- the value of the i-th of a kind that has n, the first of them being f; 128, which is none, where there is no i-th
-unfoldable pub nthOf : ℕ → ℕ → ℕ → ℕ
-nthOf i n f = cond (leb 1 i && leb i n) (f + i - 1) 128
-
--- the value that could name the resource of s subcarriers with index i
-unfoldable pub valueFor : ℕ → ℕ → ℕ
-valueFor s i =
-    cond (eqb s 26) (nthOf i 37 0)
-    (cond (eqb s 52) (nthOf i 16 37)
-    (cond (eqb s 106) (nthOf i 8 53)
-    (cond (eqb s 242) (nthOf i 4 61)
-    (cond (eqb s 484) (nthOf i 2 65)
-    (cond (eqb s 996) (nthOf i 1 67)
-    (cond (eqb s 132) (nthOf i 8 82)
-    (cond (eqb s 726) (nthOf i 4 90) 128)))))))
+use Rattle.trigger_values.specs.UserInfo.{infoWidths}
+use Rattle.trigger_values.specs.Values.{taken}
+use Rattle.trigger_values.specs.Engine.{valueFor}
 
 -- ---- of a record's eight numbers w
 unfoldable pub valueNamed : List ℕ → ℕ

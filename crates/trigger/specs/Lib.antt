@@ -1,5 +1,3 @@
-pub mod UserInfo
-pub mod Values
 pub mod Reading
 pub mod Engine
 pub mod Worked

@@ -14,8 +14,8 @@ use Rattle.answer.specs.declared.Outcome.{Outcome}
 use Rattle.answer.specs.Lists.{filled}
 use Rattle.resource.specs.Names.{nameOf, numberOf}
 use Rattle.word_bytes.specs.Bytes.{byteAt}
-use Rattle.trigger.specs.UserInfo.{infoOf, aid12, b0, valueIn, coding, mcs, reserved, spatial, power, ps160}
-use Rattle.trigger.specs.Values.{resourceOf, taken}
+use Rattle.trigger_values.specs.UserInfo.{infoOf, aid12, b0, valueIn, coding, mcs, reserved, spatial, power, ps160}
+use Rattle.trigger_values.specs.Values.{resourceOf, taken}
 
 -- 1: "Bandwidth codes above 2 get 1 here."
 unfoldable pub above2 : ℕ → Outcome

@@ -11,7 +11,7 @@ use Rattle.answer.specs.Decides.{Decides}
 use Rattle.answer.specs.Lists.{at, build}
 use Rattle.bits.specs.Bits.{Small}
 use Rattle.word_bytes.specs.Bytes.{byteAt, wordsIn}
-use Rattle.trigger.specs.UserInfo.{infoOf, entryOf}
+use Rattle.trigger_values.specs.UserInfo.{infoOf, entryOf}
 use Rattle.trigger.specs.Reading.{infoOutcome, numbersOf}
 use Rattle.trigger.specs.Engine.{readBack, infoWith}
 

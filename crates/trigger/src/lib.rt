@@ -1,9 +1,10 @@
 // Entries of a Trigger frame: the EHT variant User Info, five bytes, read into a record of eight numbers and written back (02, T-02).
 use answer::Answer;
 use answer::Outcome;
-use resource::Pairing;
 use resource::Resource;
-use resource::Size;
+use trigger_values::is_taken;
+use trigger_values::part_of;
+use trigger_values::resource_of;
 ghost use mathlib.Core.Path.{_≡_};
 ghost use mathlib.Core.Bool.{true};
 ghost use mathlib.Core.List.{[], _∷_};
@@ -14,11 +15,10 @@ ghost use Rattle.answer.specs.Lists.{at, filled};
 ghost use Rattle.bits.specs.Bits.{field};
 ghost use Rattle.bits.specs.Pack.{pack};
 ghost use Rattle.word_bytes.specs.Bytes.{byteAt};
-ghost use Rattle.resource.specs.Names.{sizeOf, nameOf, numberOf};
-ghost use Rattle.trigger.specs.UserInfo.{infoWidths, part, entryOf};
-ghost use Rattle.trigger.specs.Values.{resourceOf, taken};
+ghost use Rattle.trigger_values.specs.UserInfo.{infoWidths, entryOf};
+ghost use Rattle.trigger_values.specs.Engine.{nthOf, valueFor};
 ghost use Rattle.trigger.specs.Reading.{above2, notFive, infoOutcome, noRecordRoom, numbersOf, entryAnswer, recordRead};
-ghost use Rattle.trigger.specs.Engine.{codeFrom, nthOf, valueFor, valueNamed, fit, infoWith, numbersOutcome};
+ghost use Rattle.trigger.specs.Engine.{valueNamed, fit, infoWith, numbersOutcome};
 ghost use Rattle.trigger.specs.Writing.{recordAnswer, entryWritten};
 
 // The 40 bits of the entry at byte 5 i, of two windows of 32 that lie in its five bytes: 15 from its first byte, 25 from its second.
@@ -29,115 +29,6 @@ pub fn info_at(entries: &[u8], i: usize) -> u64
     let low = bits::field_at(entries, 40 * i, 15);
     let high = bits::field_at(entries, 40 * i + 15, 25);
     low as u64 + 32768 * high as u64
-}
-
-// Field k of the 40 bits x: 0 AID12, 1 B0, 2 B7-B1, 3 coding, 4 MCS, 5 reserved, 6 SS allocation, 7 target power, 8 PS160.
-pub fn part_of(x: u64, k: u16) -> u16
-    ensures { λ r. ⌜ r ≡ part x k ⌝ }
-{
-    match k {
-        0 => (x % 4096) as u16,
-        1 => (x / 4096 % 2) as u16,
-        2 => (x / 8192 % 128) as u16,
-        3 => (x / 1048576 % 2) as u16,
-        4 => (x / 2097152 % 16) as u16,
-        5 => (x / 33554432 % 2) as u16,
-        6 => (x / 67108864 % 64) as u16,
-        7 => (x / 4294967296 % 128) as u16,
-        8 => (x / 549755813888 % 2) as u16,
-        _ => 0,
-    }
-}
-
-// ---- values of B7-B1
-
-// The narrowest bandwidth code that takes the value, 3 where none does: 001's table, whose constants are one load.
-fn code_from(v: u16) -> u32
-    ensures { λ r. ⌜ r ≡ codeFrom v ⌝ }
-{
-    match v {
-        0..=8 => 0,
-        9..=17 => 1,
-        18 => 3,
-        19..=36 => 2,
-        37..=40 => 0,
-        41..=44 => 1,
-        45..=52 => 2,
-        53..=54 => 0,
-        55..=56 => 1,
-        57..=60 => 2,
-        61 => 0,
-        62 => 1,
-        63..=64 => 2,
-        65 => 1,
-        66..=67 => 2,
-        82..=83 => 0,
-        84..=85 => 1,
-        86 => 2,
-        87..=88 => 3,
-        89..=93 => 2,
-        _ => 3,
-    }
-}
-
-// The bandwidth takes the value.
-pub fn is_taken(bandwidth: u32, v: u16) -> bool
-    ensures { λ r. ⌜ r ≡ taken bandwidth v ⌝ }
-{
-    let b = code_from(v);
-    (b < 3) & (b <= bandwidth)
-}
-
-// The resource that a value names.
-pub fn resource_of(v: u16) -> Resource
-    ensures { λ r. ⌜ r ≡ resourceOf v ⌝ }
-{
-    match v {
-        0..=36 => Resource::Single(Size::S26, v + 1),
-        37..=52 => Resource::Single(Size::S52, v - 36),
-        53..=60 => Resource::Single(Size::S106, v - 52),
-        61..=64 => Resource::Single(Size::S242, v - 60),
-        65..=66 => Resource::Single(Size::S484, v - 64),
-        67 => Resource::Single(Size::S996, 1),
-        68..=81 => Resource::Joined(Pairing::P106And26, 0),
-        82..=89 => Resource::Joined(Pairing::P106And26, v - 81),
-        _ => Resource::Joined(Pairing::P484And242, v - 89),
-    }
-}
-
-fn size_of(size: Size) -> u32
-    ensures { λ r. ⌜ r ≡ sizeOf size ⌝ }
-{
-    match size {
-        Size::S26 => 26,
-        Size::S52 => 52,
-        Size::S106 => 106,
-        Size::S242 => 242,
-        Size::S484 => 484,
-        Size::S996 => 996,
-    }
-}
-
-// A resource's subcarriers.
-fn subcarriers_of(r: Resource) -> u32
-    ensures { λ n. ⌜ n ≡ nameOf r ⌝ }
-{
-    match r {
-        Resource::Single(size, _) => size_of(size),
-        Resource::Joined(pairing, _) => match pairing {
-            Pairing::P106And26 => 132,
-            Pairing::P484And242 => 726,
-        },
-    }
-}
-
-fn number_of(r: Resource) -> u16
-    ensures { λ n. ⌜ n ≡ numberOf r ⌝ }
-{
-    match r {
-        Resource::Single(_, i) => i,
-        Resource::Joined(_, i) => i,
-    }
 }
 
 // ---- reading
@@ -188,8 +79,8 @@ fn put_record(out: &mut [u8], x: u64)
     let r = resource_of(part_of(x, 2));
     let numbers = [
         part_of(x, 0) as u32,
-        subcarriers_of(r),
-        number_of(r) as u32,
+        resource::subcarriers_of(r),
+        resource::number_of(r) as u32,
         part_of(x, 3) as u32,
         part_of(x, 4) as u32,
         part_of(x, 5) as u32,

@@ -5,7 +5,7 @@ use Prim.Native.Nat.{ℕ, _≤_}
 use native.Mathlib.Omega.{arith}
 use lib.Dec.{leb, leb→le}
 use Rattle.resource.proofs.Test.{both-left, both-right}
-use Rattle.trigger.specs.Engine.{nthOf}
+use Rattle.trigger_values.specs.Engine.{nthOf}
 use Rattle.trigger.proofs.nth_of.Statement.{statement}
 use Rattle.trigger.proofs.nth_of.Tie as tie
 

@@ -4,7 +4,7 @@ use mathlib.Core.List.{[], _∷_}
 use Prim.Native.Nat.{ℕ}
 use borrow.Author.Tests.{ne-eqb}
 use Rattle.resource.proofs.Test.{Missed}
-use Rattle.trigger.specs.Engine.{valueFor}
+use Rattle.trigger_values.specs.Engine.{valueFor}
 use borrow.Author.Needs.{needs}
 use Rattle.trigger.proofs.value_for.Statement.{statement}
 use Rattle.trigger.proofs.value_for.Tie as tie

@@ -6,7 +6,7 @@ use lib.ListN.{length}
 use Rattle.answer.specs.Answer.{answerAt, after}
 use Rattle.answer.specs.declared.Outcome.{Outcome}
 use Rattle.answer.specs.Lists.{at, filled}
-use Rattle.trigger.specs.UserInfo.{entryOf}
+use Rattle.trigger_values.specs.UserInfo.{entryOf}
 use Rattle.trigger.specs.Engine.{infoWith}
 use Rattle.trigger.specs.Worked.{theEntry}
 use Rattle.trigger.specs.Writing.{recordOutcome, recordAnswer, entryWritten}

@@ -3,11 +3,11 @@ use mathlib.Core.Path.{sym, _∙_, ap}
 use Prim.Native.Nat.{ℕ}
 use lib.ListN.{length}
 use Rattle.answer.specs.Lists.{at, filled}
-use Rattle.trigger.specs.UserInfo.{entryOf}
-use Rattle.trigger.specs.Values.{taken}
+use Rattle.trigger_values.specs.UserInfo.{entryOf}
+use Rattle.trigger_values.specs.Values.{taken}
 use Rattle.trigger.specs.Engine.{valueNamed}
 use Rattle.trigger.proofs.Stages.{numbers-passed}
-use Rattle.trigger.proofs.Taken.{value-low}
+use Rattle.trigger_values.proofs.Taken.{value-low}
 use borrow.Author.Needs.{needs}
 use Rattle.trigger.proofs.write_numbers.Statement.{statement}
 use Rattle.trigger.proofs.write_numbers.Tie as tie

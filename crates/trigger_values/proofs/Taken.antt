@@ -11,9 +11,9 @@ use Rattle.answer.specs.Least.{least}
 use Rattle.answer.proofs.Least.{least-none}
 use Rattle.resource.specs.Index.{positionOf, fromPositions}
 use Rattle.resource.proofs.Test.{below-or, below, every-below}
-use Rattle.trigger.specs.Values.{named, resourceOf, reaches, taken}
-use Rattle.trigger.specs.Engine.{codeFrom}
-use Rattle.trigger.proofs.Back.{named-high}
+use Rattle.trigger_values.specs.Values.{named, resourceOf, reaches, taken}
+use Rattle.trigger_values.specs.Engine.{codeFrom}
+use Rattle.trigger_values.proofs.Back.{named-high}
 
 -- from 94 on no value is taken
 taken-from-94 : (bw v : ℕ) → 94 ≤ v → taken bw v ≡ false

@@ -1,4 +1,4 @@
--- `trigger::code_from` meets its contract: each range of the `match` has its code.
+-- `trigger_values::code_from` meets its contract: each range of the `match` has its code.
 use mathlib.Core.Path.{_≡_, sym}
 use mathlib.Core.Bool.{Bool}
 use Prim.Native.Nat.{ℕ, _≤_, _<_}
@@ -7,11 +7,11 @@ use lib.Dec.{T, leb, eqb, eqb→eq}
 use Rattle.answer.specs.Least.{least}
 use Rattle.resource.specs.Index.{positionOf, fromPositions}
 use Rattle.resource.proofs.Test.{wherever, below, every-between}
-use Rattle.trigger.specs.Values.{named, resourceOf, reaches, taken}
-use Rattle.trigger.specs.Engine.{codeFrom}
-use Rattle.trigger.proofs.Taken.{code-none}
-use Rattle.trigger.proofs.code_from.Statement.{statement}
-use Rattle.trigger.proofs.code_from.Tie as tie
+use Rattle.trigger_values.specs.Values.{named, resourceOf, reaches, taken}
+use Rattle.trigger_values.specs.Engine.{codeFrom}
+use Rattle.trigger_values.proofs.Taken.{code-none}
+use Rattle.trigger_values.proofs.code_from.Statement.{statement}
+use Rattle.trigger_values.proofs.code_from.Tie as tie
 
 -- r is the code of every value from a up to below b
 gives : ℕ → ℕ → ℕ → Bool

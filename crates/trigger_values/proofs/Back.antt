@@ -8,8 +8,8 @@ use borrow.Author.Tests.{le-leb, lt-leb, ne-eqb, eqb-true}
 use lib.Dec.{T, leb, leb→le, eqb, eqb→eq}
 use Rattle.resource.specs.Names.{nameOf, numberOf}
 use Rattle.resource.proofs.Test.{below-or, both-left, both-right, wherever, met, below, every-below}
-use Rattle.trigger.specs.Values.{named, resourceOf, reaches, taken}
-use Rattle.trigger.specs.Engine.{nthOf, valueFor}
+use Rattle.trigger_values.specs.Values.{named, resourceOf, reaches, taken}
+use Rattle.trigger_values.specs.Engine.{nthOf, valueFor}
 
 pub named-high : (v : ℕ) → 94 ≤ v → named v ≡ false
 unfolding named

@@ -1,4 +1,4 @@
--- `trigger::part_of` meets its contract: a field by its first bit is the field of its turn.
+-- `trigger_values::part_of` meets its contract: a field by its first bit is the field of its turn.
 use mathlib.Core.Path.{_≡_, sym}
 use mathlib.Core.Logic.{⊎-elim}
 use mathlib.Core.List.{List, [], _∷_}
@@ -9,9 +9,9 @@ use lib.Dec.{leb, leb→le}
 use lib.ListN.{List·getD-eq-default}
 use Rattle.bits.specs.Pack.{unpack}
 use Rattle.resource.proofs.Test.{Missed, key-or, no-key, below-or, every-below}
-use Rattle.trigger.specs.UserInfo.{infoWidths, part}
-use Rattle.trigger.proofs.part_of.Statement.{statement}
-use Rattle.trigger.proofs.part_of.Tie as tie
+use Rattle.trigger_values.specs.UserInfo.{infoWidths, part}
+use Rattle.trigger_values.proofs.part_of.Statement.{statement}
+use Rattle.trigger_values.proofs.part_of.Tie as tie
 
 field-0 : (x k : ℕ) → k ≡ 0 → x % 4096 ≡ part x k
 unfolding part

@@ -1,4 +1,4 @@
--- `trigger::resource_of` meets its contract.
+-- `trigger_values::resource_of` meets its contract.
 use mathlib.Core.Path.{_≡_, refl, sym, _∙_, ap}
 use mathlib.Core.Bool.{Bool, cond}
 use Prim.Native.Nat.{ℕ, _+_, _-_, _≤_, _<_}
@@ -8,10 +8,10 @@ use lib.Dec.{leb}
 use Rattle.resource.specs.declared.Size.the-variants.{S26, S52, S106, S242, S484, S996}
 use Rattle.resource.specs.declared.Pairing.the-variants.{P106And26, P484And242}
 use Rattle.resource.specs.declared.Resource.the-variants.{Single, Joined}
-use Rattle.trigger.specs.Values.{resourceOf}
+use Rattle.trigger_values.specs.Values.{resourceOf}
 use borrow.Author.Needs.{needs}
-use Rattle.trigger.proofs.resource_of.Statement.{statement}
-use Rattle.trigger.proofs.resource_of.Tie as tie
+use Rattle.trigger_values.proofs.resource_of.Statement.{statement}
+use Rattle.trigger_values.proofs.resource_of.Tie as tie
 
 of-26 : (v : ℕ) → v ≤ 36 → Single S26 (v + 1) ≡ resourceOf v
 unfolding resourceOf

@@ -1,8 +1,8 @@
--- `trigger::is_taken` meets its contract.
+-- `trigger_values::is_taken` meets its contract.
 use borrow.Author.Needs.{needs}
-use Rattle.trigger.proofs.Taken.{taken-by-code}
-use Rattle.trigger.proofs.is_taken.Statement.{statement}
-use Rattle.trigger.proofs.is_taken.Tie as tie
+use Rattle.trigger_values.proofs.Taken.{taken-by-code}
+use Rattle.trigger_values.proofs.is_taken.Statement.{statement}
+use Rattle.trigger_values.proofs.is_taken.Tie as tie
 
 code-from-requires : tie.Need-code-from-requires
 code-from-requires c κs = search needs

@@ -17,9 +17,9 @@ use Rattle.resource.specs.Values.{smallerAt}
 use Rattle.resource.specs.Index.{indexOf, positionOf, placeOf, fromPositions, isPiece, exists, resourceAt, leavingOut}
 use Rattle.resource.proofs.Test.{below-or, both-left, both-right, wherever, met, below, every-below}
 use Rattle.resource.proofs.Everywhere.{every-piece, at-piece}
-use Rattle.trigger.specs.Values.{named, resourceOf, reaches, taken, allowedAt, ResourceOf, piece, leaving, rank, Before, OneToOne}
-use Rattle.trigger.specs.Engine.{nthOf, valueFor}
-use Rattle.trigger.proofs.Back.{named-low, taken-named, value-back, back-value}
+use Rattle.trigger_values.specs.Values.{named, resourceOf, reaches, taken, allowedAt, ResourceOf, piece, leaving, rank, Before, OneToOne}
+use Rattle.trigger_values.specs.Engine.{nthOf, valueFor}
+use Rattle.trigger_values.proofs.Back.{named-low, taken-named, value-back, back-value}
 
 -- ---- a resource is known by its size and its index
 abbrev called : ℕ → ℕ → Resource

@@ -1,0 +1,4 @@
+pub mod Taken
+pub mod Back
+pub mod OneToOne
+pub mod Agree

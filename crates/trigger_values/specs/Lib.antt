@@ -1,0 +1,3 @@
+pub mod UserInfo
+pub mod Values
+pub mod Engine
