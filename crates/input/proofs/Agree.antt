@@ -2,8 +2,16 @@
 use mathlib.Core.Path.{_≡_, sym, _∙_}
 use denote.Ref.{now}
 use Rattle.answer.proofs.Agree.{Agrees}
+use Rattle.input.proofs.first_three.Reads as first-three
+use Rattle.input.proofs.three_lines.Reads as three-lines
 use Rattle.input.proofs.parse.Reads as parse
 use Rattle.input.proofs.unhex.Reads as unhex
+
+pub first-three-agrees : Agrees first-three.Post
+first-three-agrees κs a r r' s s' p q = p ∙ sym q
+
+pub three-lines-agrees : Agrees three-lines.Post
+three-lines-agrees κs a r r' s s' p q = p ∙ sym q
 
 pub parse-agrees : Agrees parse.Post
 parse-agrees κs a r r' s s' p q = p ∙ sym q

@@ -1,24 +1,21 @@
 -- The program reads exactly the texts of `Form`, and in any other names the first wrong line.
-use mathlib.Core.Path.{_≡_, refl, sym, ap, subst, _∙_}
+use mathlib.Core.Path.{_≡_, refl, sym, ap, _∙_}
 use mathlib.Core.Bool.{Bool, true, false}
-use mathlib.Core.List.{List, [], _∷_, _++_, append-assoc, append-nil}
-use Prim.Native.Nat.{ℕ, _+_, _-_, _*_, _≤_, _<_}
+use mathlib.Core.List.{List, [], _∷_, _++_, append-nil}
+use Prim.Native.Nat.{ℕ, _+_, _*_, _≤_, _<_}
 use native.Mathlib.Omega.{arith}
 use mathlib.Core.Logic.{_⊎_, inl, inr}
 use borrow.Author.Tests.{le-ltb, eq-eqb, ltb-true, ltb-false, eqb-true}
 use lib.Dec.{ltb, eqb}
-use lib.ListN.{length, drop, getD, length-append}
+use lib.ListN.{length, drop, length-drop}
 use Rattle.answer.proofs.Lists.{length-build}
-use Rattle.text.specs.Text.{codes}
-use Rattle.input.specs.declared.Scan.{Scan}
-use Rattle.input.specs.declared.Scan.the-variants.{Bad, Pairs}
+use Rattle.input.specs.declared.Parsed.{Parsed}
 use Rattle.input.specs.declared.Parsed.the-variants.{Wrong, Lines}
-use Rattle.input.specs.Form.{Bytes, pairs, line1, line2, line3, textOf, Wrong-line}
-use Rattle.input.specs.Engine.{pick, keyed, lineBw, afterOne, afterTwo, threeLines, parsed, byteOf, bytesAt, secondAt}
-use Rattle.input.proofs.Pairs.{bytes-back}
-use Rattle.input.proofs.Lines.{bw-line, Digit, bw-is, line-rest, length-line2, second-line, third-line}
-use Rattle.input.proofs.Lines.{length-text, Two, two-lines, Three, three-lines, length-three, digit-of}
-use Rattle.input.proofs.Wrong.{no-lines, wrong-line}
+use Rattle.input.specs.Form.{Bytes, textOf, Wrong-line}
+use Rattle.input.specs.Engine.{pick, firstThree, pastThree, nothingAfter, threeLines, parsed, byteOf, bytesAt, secondAt}
+use Rattle.input.proofs.Lines.{length-text}
+use Rattle.input.proofs.Front.{no-lines, front-read, Front, front-is}
+use Rattle.input.proofs.Wrong.{wrong-line}
 
 -- ---- the three lines
 -- a text that the program reads is the text of what it reads
@@ -31,61 +28,27 @@ empty : (l : List ℕ) → length l ≡ 0 → l ≡ []
 empty [] e = refl
 empty (x ∷ l) e = absurd (omega arith)
 
-read-of : (s : List ℕ) (d n m : ℕ) (a b : List ℕ) → d < 10 → Bytes a × Bytes b → n ≡ length a → m ≡ length b → s ≡ textOf d a b
-    → (bytesAt s 9 n ≡ a) × (bytesAt s (secondAt n) m ≡ b)
-read-of s d n m a b l h x y e = (
-  ap (bytesAt s 9) x
-      ∙ bytes-back s (line1 d ++ codes "cc1=") a (10 ∷ line3 b) 9 refl (h .0) (e ∙ ap (λ (t : List ℕ). line1 d ++ t) (line-rest (codes "cc1=") a (line3 b))),
-  ap (λ (k : ℕ). bytesAt s (secondAt k) m) x
-      ∙ ap (bytesAt s (secondAt (length a))) y
-      ∙ bytes-back s (line1 d ++ (line2 a ++ codes "cc2=")) b (codes "\n") (secondAt (length a))
-      (let j = length-line2 a in let k = length-append (line2 a) (codes "cc2=") in omega arith)
-      (h .1)
-      (e ∙ ap (λ (t : List ℕ). line1 d ++ t) (sym (append-assoc (line2 a) (codes "cc2=") (pairs b ++ codes "\n")))),
-)
+only-read : (s : List ℕ) (d n m : ℕ) → Front s d n m → length s ≡ pastThree n m → Reads s d n m
+only-read s d n m f l =
+    let t = textOf d (bytesAt s 9 n) (bytesAt s (secondAt n) m) in
+    let z : drop (pastThree n m) s ≡ [] = empty _ (let k = length-drop (pastThree n m) s in omega arith) in
+    record { is-digit = f .is-digit; are-bytes = f .are-bytes; is = f .is ∙ ap (λ (r : List ℕ). t ++ r) z ∙ append-nil t }
 
 pub lines-read : (s : List ℕ) (d n m : ℕ) → threeLines s ≡ Lines d n m → Reads s d n m
 unfolding threeLines
-lines-read s d n m e = go1 (lineBw s) refl e
+lines-read s d n m e = go (firstThree s) refl e
   where
-    wrong : {j : ℕ} → Wrong j ≡ Lines d n m → Reads s d n m
-    wrong e = no-lines (sym e)
-
-    fits : (n′ m′ : ℕ) → Digit s → Three s n′ m′ → length s ≡ 15 + 2 * n′ + 2 * m′ → Lines (getD s 3 0 - 48) n′ m′ ≡ Lines d n m → Reads s d n m
-    fits n′ m′ g t l e =
-        let p : getD s 3 0 - 48 ≡ d = cc in
+    found : (d′ n′ m′ : ℕ) → firstThree s ≡ Lines d′ n′ m′ → (b : Bool) → eqb (length s) (pastThree n′ m′) ≡ b
+        → pick b (Lines d′ n′ m′) (Wrong 4) ≡ Lines d n m → Reads s d n m
+    found d′ n′ m′ f true q e =
         let x : n′ ≡ n = cc in
         let y : m′ ≡ m = cc in
-        let z : t .rest ≡ [] = empty (t .rest) (let k = length-three s n′ m′ t in omega arith) in
-        let w : s ≡ textOf d (t .first) (t .second) =
-        t .is
-        ∙ ap (λ (r : List ℕ). line1 (getD s 3 0 - 48) ++ (line2 (t .first) ++ (line3 (t .second) ++ r))) z
-        ∙ ap (λ (r : List ℕ). line1 (getD s 3 0 - 48) ++ (line2 (t .first) ++ r)) (append-nil (line3 (t .second)))
-        ∙ ap (λ (k : ℕ). textOf k (t .first) (t .second)) p in
-        let u : d < 10 = let q = digit-of s g in omega arith in
-        let v = read-of s d n m (t .first) (t .second) u (t .are-bytes) (sym x ∙ t .many .0) (sym y ∙ t .many .1) w in
-        record {
-          is-digit = u;
-          are-bytes = (subst Bytes (sym (v .0)) (t .are-bytes .0), subst Bytes (sym (v .1)) (t .are-bytes .1));
-          is = w ∙ ap (λ (a : List ℕ). textOf d a (t .second)) (sym (v .0)) ∙ ap (textOf d (bytesAt s 9 n)) (sym (v .1));
-        }
+        only-read s d n m (front-is s d n m (f ∙ e)) (let l = eqb-true (length s) (pastThree n′ m′) q in omega arith)
+    found d′ n′ m′ f false q e = no-lines (sym e)
 
-    go4 : (n′ m′ : ℕ) → Digit s → Three s n′ m′
-        → (b : Bool) → eqb (length s) (15 + 2 * n′ + 2 * m′) ≡ b → pick b (Lines (getD s 3 0 - 48) n′ m′) (Wrong 4) ≡ Lines d n m → Reads s d n m
-    go4 n′ m′ g t true q e = fits n′ m′ g t (eqb-true (length s) (15 + 2 * n′ + 2 * m′) q) e
-    go4 n′ m′ g t false q e = wrong e
-
-    go3 : (n′ : ℕ) → Digit s → Two s n′ → (r : Scan) → keyed (codes "cc2=") (drop (10 + 2 * n′) s) ≡ r → afterTwo s n′ r ≡ Lines d n m → Reads s d n m
-    go3 n′ g t Bad q e = wrong e
-    go3 n′ g t (Pairs m′) q e = go4 n′ m′ g (three-lines s n′ m′ t q) (eqb (length s) (15 + 2 * n′ + 2 * m′)) refl e
-
-    go2 : lineBw s ≡ true → (r : Scan) → keyed (codes "cc1=") (drop 5 s) ≡ r → afterOne s r ≡ Lines d n m → Reads s d n m
-    go2 h Bad f e = wrong e
-    go2 h (Pairs n′) f e = go3 n′ (bw-is s h) (two-lines s n′ h f) (keyed (codes "cc2=") (drop (10 + 2 * n′) s)) refl e
-
-    go1 : (b : Bool) → lineBw s ≡ b → pick b (afterOne s (keyed (codes "cc1=") (drop 5 s))) (Wrong 1) ≡ Lines d n m → Reads s d n m
-    go1 true h e = go2 h (keyed (codes "cc1=") (drop 5 s)) refl e
-    go1 false h e = wrong e
+    go : (r : Parsed) → firstThree s ≡ r → nothingAfter (length s) r ≡ Lines d n m → Reads s d n m
+    go (Wrong k) f e = no-lines (sym e)
+    go (Lines d′ n′ m′) f e = found d′ n′ m′ f (eqb (length s) (pastThree n′ m′)) refl e
 
 -- every text of the form is read, to its digit and its bytes
 pub record ReadsTo (s : List ℕ) (d : ℕ) (a b : List ℕ) : Type 0 where
@@ -96,19 +59,11 @@ pub record ReadsTo (s : List ℕ) (d : ℕ) (a b : List ℕ) : Type 0 where
 pub text-read : (d : ℕ) (a b : List ℕ) → d < 10 → Bytes a → Bytes b → ReadsTo (textOf d a b) d a b
 unfolding threeLines
 text-read d a b l h k =
-    let s = textOf d a b in
-    let v = read-of s d (length a) (length b) a b l (h, k) refl refl refl in
+    let f = front-read (textOf d a b) d a b [] l (h, k) (sym (append-nil (textOf d a b))) in
     record {
-      lines =
-          rw (
-            bw-line d (line2 a ++ line3 b) l,
-            second-line s d a (line3 b) h refl,
-            third-line s d a b [] k (ap (λ (z : List ℕ). line1 d ++ (line2 a ++ z)) (sym (append-nil (line3 b)))),
-            eq-eqb (length s) (15 + 2 * length a + 2 * length b) (length-text d a b),
-          )
-          (ap (λ (x : ℕ). Lines x (length a) (length b)) (omega arith));
-      first = v .0;
-      second = v .1;
+      lines = rw (f .lines, eq-eqb (length (textOf d a b)) (pastThree (length a) (length b)) (length-text d a b));
+      first = f .first;
+      second = f .second;
     }
 
 -- ---- 22: "program text over 8,192 bytes, else not the three lines named under Listing | 0, 0; else first wrong line"

@@ -6,3 +6,4 @@ pub mod Tests
 pub mod Pairs
 pub mod Lines
 pub mod Wrong
+pub mod Front

@@ -155,19 +155,5 @@ three-lines s n m t f =
       is = t .is ∙ ap (λ (u : List ℕ). line1 (getD s 3 0 - 48) ++ (line2 (t .bytes) ++ u)) q;
     }
 
-pub length-three : (s : List ℕ) (n m : ℕ) (t : Three s n m) → length s ≡ 15 + 2 * n + 2 * m + length (t .rest)
-length-three s n m t =
-    let d = getD s 3 0 - 48 in
-    let a = t .first in
-    let b = t .second in
-    let e = ap length (t .is) in
-    let h = length-line2 a in
-    let k = length-line3 b in
-    let j = length-append (line3 b) (t .rest) in
-    let i = length-append (line2 a) (line3 b ++ t .rest) in
-    let u = t .many .0 in
-    let v = t .many .1 in
-    omega arith
-
 pub digit-of : (s : List ℕ) → Digit s → getD s 3 0 - 48 < 10
 digit-of s d = let h = d .high in let l = d .low in omega arith

@@ -16,7 +16,7 @@ use Rattle.input.specs.declared.Scan.{Scan}
 use Rattle.input.specs.declared.Scan.the-variants.{Bad, Pairs}
 use Rattle.input.specs.declared.Parsed.{Parsed}
 use Rattle.input.specs.declared.Parsed.the-variants.{Wrong, Lines}
-use Rattle.input.specs.Engine.{hexOf, pick, hexLine, starts, keyed, lineBw, afterTwo, afterOne, threeLines, parsed, Room}
+use Rattle.input.specs.Engine.{hexOf, pick, hexLine, starts, keyed, lineBw, afterTwo, afterOne, firstThree, pastThree, threeLines, parsed, Room}
 
 pick-same : {A : Type 0} (b : Bool) (s : A) → pick b s s ≡ s
 pick-same true s = refl
@@ -134,17 +134,27 @@ pub parsed-short : (s : List ℕ) → length s ≤ 8192 → parsed s ≡ threeLi
 unfolding parsed
 parsed-short s h = rw (le-ltb 8192 (length s) h)
 
--- the third line, and nothing after
+-- the three lines, and nothing after
+module _ (s : List ℕ) {r : Parsed} (e : r ≡ firstThree s) where
+  pub same-wrong : {k : ℕ} → r ≡ Wrong k → Wrong k ≡ threeLines s
+  unfolding threeLines
+  same-wrong h = rw (sym e ∙ h)
+
+  pub nothing-after : {d n m : ℕ} → r ≡ Lines d n m → length s ≡ pastThree n m → Lines d n m ≡ threeLines s
+  unfolding threeLines
+  nothing-after {d} {n} {m} h q = rw (sym e ∙ h, eq-eqb (length s) (pastThree n m) q)
+
+  pub wrong-4 : {d n m : ℕ} → r ≡ Lines d n m → (length s ≡ pastThree n m → ⊥) → Wrong 4 ≡ threeLines s
+  unfolding threeLines
+  wrong-4 {d} {n} {m} h ne = rw (sym e ∙ h, ne-eqb (length s) (pastThree n m) ne)
+
+-- the third line
 module _ (s : List ℕ) (n : ℕ) {q : Scan} (k : q ≡ keyed (codes "cc2=") (drop (10 + 2 * n) s)) where
   pub wrong-3 : q ≡ Bad → Wrong 3 ≡ afterTwo s n (keyed (codes "cc2=") (drop (10 + 2 * n) s))
   wrong-3 l = rw (sym k ∙ l)
 
-  pub wrong-4 : {m : ℕ} → q ≡ Pairs m → (length s ≡ 15 + 2 * n + 2 * m → ⊥) → Wrong 4 ≡ afterTwo s n (keyed (codes "cc2=") (drop (10 + 2 * n) s))
-  wrong-4 {m} l ne = rw (sym k ∙ l, ne-eqb (length s) (15 + 2 * n + 2 * m) ne)
-
-  pub right : {m d : ℕ} → q ≡ Pairs m → length s ≡ 15 + 2 * n + 2 * m → d ≡ getD s 3 0 - 48
-      → Lines d n m ≡ afterTwo s n (keyed (codes "cc2=") (drop (10 + 2 * n) s))
-  right {m} l eq p = rw (sym k ∙ l, eq-eqb (length s) (15 + 2 * n + 2 * m) eq, p)
+  pub right : {m d : ℕ} → q ≡ Pairs m → d ≡ getD s 3 0 - 48 → Lines d n m ≡ afterTwo s n (keyed (codes "cc2=") (drop (10 + 2 * n) s))
+  right l p = rw (sym k ∙ l, p)
 
 -- the second line
 module _ (s : List ℕ) {r : Scan} (f : r ≡ keyed (codes "cc1=") (drop 5 s)) where
@@ -157,10 +167,10 @@ module _ (s : List ℕ) {r : Scan} (f : r ≡ keyed (codes "cc1=") (drop 5 s)) w
 
 -- the first
 module _ (s : List ℕ) {b : Bool} (e : b ≡ lineBw s) where
-  pub wrong-1 : b ≡ false → Wrong 1 ≡ threeLines s
-  unfolding threeLines
+  pub wrong-1 : b ≡ false → Wrong 1 ≡ firstThree s
+  unfolding firstThree
   wrong-1 h = rw (sym e ∙ h)
 
-  pub next-1 : {t : Parsed} → b ≡ true → t ≡ afterOne s (keyed (codes "cc1=") (drop 5 s)) → t ≡ threeLines s
-  unfolding threeLines
+  pub next-1 : {t : Parsed} → b ≡ true → t ≡ afterOne s (keyed (codes "cc1=") (drop 5 s)) → t ≡ firstThree s
+  unfolding firstThree
   next-1 h p = p ∙ rw (sym e ∙ h)

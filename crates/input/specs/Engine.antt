@@ -42,14 +42,27 @@ lineBw s = cond (starts (codes "bw=") s) (cond (ltb (getD s 3 0) 48) false (cond
 
 abbrev pub afterTwo : List ℕ → ℕ → Scan → Parsed
 afterTwo s n Bad = Wrong 3
-afterTwo s n (Pairs m) = pick (eqb (length s) (15 + 2 * n + 2 * m)) (Lines (getD s 3 0 - 48) n m) (Wrong 4)
+afterTwo s n (Pairs m) = Lines (getD s 3 0 - 48) n m
 
 abbrev pub afterOne : List ℕ → Scan → Parsed
 afterOne s Bad = Wrong 2
 afterOne s (Pairs n) = afterTwo s n (keyed (codes "cc2=") (drop (10 + 2 * n) s))
 
+-- the three lines at the front of a text, whatever comes after
+unfoldable pub firstThree : List ℕ → Parsed
+firstThree s = pick (lineBw s) (afterOne s (keyed (codes "cc1=") (drop 5 s))) (Wrong 1)
+
+-- where they end, after n and m pairs
+abbrev pub pastThree : ℕ → ℕ → ℕ
+pastThree n m = 15 + 2 * n + 2 * m
+
+-- the same with nothing after, of a text of so many bytes
+abbrev pub nothingAfter : ℕ → Parsed → Parsed
+nothingAfter len (Wrong k) = Wrong k
+nothingAfter len (Lines d n m) = pick (eqb len (pastThree n m)) (Lines d n m) (Wrong 4)
+
 unfoldable pub threeLines : List ℕ → Parsed
-threeLines s = pick (lineBw s) (afterOne s (keyed (codes "cc1=") (drop 5 s))) (Wrong 1)
+threeLines s = nothingAfter (length s) (firstThree s)
 
 -- the line that is wrong, 0 where the text is too long; or the digit of the first line and how many pairs the others have
 unfoldable pub parsed : List ℕ → Parsed

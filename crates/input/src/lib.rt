@@ -4,7 +4,21 @@ ghost use Prim.Native.Nat.{_+_, _-_, _*_, _≤_, _<_};
 ghost use lib.ListN.{length, drop, getD};
 ghost use Rattle.text.specs.Text.{codes};
 ghost use Rattle.answer.specs.Lists.{filled};
-ghost use Rattle.input.specs.Engine.{hexOf, hexLine, starts, keyed, Room, lineBw, afterTwo, afterOne, threeLines, parsed, pairOf, byteOf};
+ghost use Rattle.input.specs.Engine.{
+  hexOf,
+  hexLine,
+  starts,
+  keyed,
+  Room,
+  lineBw,
+  afterTwo,
+  afterOne,
+  firstThree,
+  threeLines,
+  parsed,
+  pairOf,
+  byteOf,
+};
 
 enum Scan {
     Bad,
@@ -109,30 +123,24 @@ fn line_bw(s: &[u8]) -> bool
     false
 }
 
-// The third line, after n pairs in the second, and nothing after.
+// The third line, after n pairs in the second.
 fn after_two(s: &[u8], bw: u32, n: usize) -> Parsed
-    requires { ⌜ (length (now s) ≤ 8192) × (10 + 2 * n ≤ length (now s)) × (bw ≡ getD (now s) 3 0 - 48) ⌝ }
+    requires { ⌜ (length (now s) ≤ 16384) × (10 + 2 * n ≤ length (now s)) × (bw ≡ getD (now s) 3 0 - 48) ⌝ }
     ensures { λ r. ⌜ r ≡ afterTwo (now (s .entry)) n (keyed (codes "cc2=") (drop (10 + 2 * n) (now (s .entry)))) ⌝ }
 {
     match line(s, 10 + 2 * n, b"cc2=") {
         Scan::Bad => Parsed::Wrong(3),
-        Scan::Pairs(m) => {
-            if s.len() == 15 + 2 * n + 2 * m {
-                Parsed::Lines {
-                    bw,
-                    first: n,
-                    second: m,
-                }
-            } else {
-                Parsed::Wrong(4)
-            }
-        }
+        Scan::Pairs(m) => Parsed::Lines {
+            bw,
+            first: n,
+            second: m,
+        },
     }
 }
 
-// The second line, and those after it.
+// The second line, and the one after it.
 fn after_one(s: &[u8], bw: u32) -> Parsed
-    requires { ⌜ (length (now s) ≤ 8192) × (5 ≤ length (now s)) × (bw ≡ getD (now s) 3 0 - 48) ⌝ }
+    requires { ⌜ (length (now s) ≤ 16384) × (5 ≤ length (now s)) × (bw ≡ getD (now s) 3 0 - 48) ⌝ }
     ensures { λ r. ⌜ r ≡ afterOne (now (s .entry)) (keyed (codes "cc1=") (drop 5 (now (s .entry)))) ⌝ }
 {
     match line(s, 5, b"cc1=") {
@@ -141,15 +149,32 @@ fn after_one(s: &[u8], bw: u32) -> Parsed
     }
 }
 
-// The three lines, and nothing after.
-fn three_lines(s: &[u8]) -> Parsed
-    requires { ⌜ length (now s) ≤ 8192 ⌝ }
-    ensures { λ r. ⌜ r ≡ threeLines (now (s .entry)) ⌝ }
+// The three lines at the front of a text. What comes after them is not looked at: it may be a second capture (02, T-06).
+pub fn first_three(s: &[u8]) -> Parsed
+    requires { ⌜ length (now s) ≤ 16384 ⌝ }
+    ensures { λ r. ⌜ r ≡ firstThree (now (s .entry)) ⌝ }
 {
     if line_bw(s) {
         after_one(s, (bits::byte_at(s, 3) - 48) as u32)
     } else {
         Parsed::Wrong(1)
+    }
+}
+
+// The three lines, and nothing after.
+pub fn three_lines(s: &[u8]) -> Parsed
+    requires { ⌜ length (now s) ≤ 16384 ⌝ }
+    ensures { λ r. ⌜ r ≡ threeLines (now (s .entry)) ⌝ }
+{
+    match first_three(s) {
+        Parsed::Wrong(k) => Parsed::Wrong(k),
+        Parsed::Lines { bw, first, second } => {
+            if s.len() == 15 + 2 * first + 2 * second {
+                Parsed::Lines { bw, first, second }
+            } else {
+                Parsed::Wrong(4)
+            }
+        }
     }
 }
 
@@ -174,7 +199,7 @@ fn pair(x: u8, y: u8) -> u8
 
 // The first n bytes of `out`: those of the n pairs that start at a place of the text.
 pub fn unhex(s: &[u8], at: usize, n: usize, out: &mut [u8])
-    requires { ⌜ (at ≤ 65536) × (n ≤ length (now out)) × (n ≤ 4096) ⌝ }
+    requires { ⌜ (at ≤ 65536) × (n ≤ length (now out)) × (n ≤ 8192) ⌝ }
     ensures { λ _. ⌜ now (out .exit) ≡ filled (byteOf (now (s .entry)) at) n (now (out .entry)) ⌝ }
 {
     let mut i = 0;

@@ -1,48 +1,64 @@
 -- `input::three_lines` meets its contract.
 use native.Mathlib.Omega.{arith}
-use mathlib.Core.Path.{sym, ap, _∙_}
-use Prim.Native.Nat.{_-_}
-use Rattle.input.proofs.Turns.{bw-digit, bw-long, wrong-1, next-1}
+use Rattle.input.proofs.Front.{front-room}
+use Rattle.input.proofs.Turns.{same-wrong, nothing-after, wrong-4}
 use borrow.Author.Needs.{needs}
 use Rattle.input.proofs.three_lines.Statement.{statement}
 use Rattle.input.proofs.three_lines.Tie as tie
 
-line-bw-requires : tie.Need-line-bw-requires
-line-bw-requires c κs = search needs
+first-three-requires : tie.Need-first-three-requires
+first-three-requires c κs = search needs
 
-byte-at-requires : tie.Need-byte-at-requires
-byte-at-requires c κs = search needs
+enum-known-k : tie.Need-enum-known-k
+enum-known-k c = search needs
 
-sub-after-one : tie.Need-sub-after-one
-sub-after-one c =
-    let e = c .byte-at .ensures in
-    let d = bw-digit (c .before .before .before .before .args .s .now) (sym (c .before .before .line-bw .ensures) ∙ c .before .if1 .taken) in
+enum-known-bw : tie.Need-enum-known-bw
+enum-known-bw c = search needs
+
+mul-if1 : tie.Need-mul-if1
+mul-if1 c =
+    let h = front-room (c .before .before .before .before .before .args .s .now) (c .before .before .before .first-three .ensures) (c .before .bw .given .1) in
     omega arith
 
-cast-after-one : tie.Need-cast-after-one
-cast-after-one c = search needs
+add-if1 : tie.Need-add-if1
+add-if1 c =
+    let h = front-room (c .before .before .before .before .before .args .s .now) (c .before .before .before .first-three .ensures) (c .before .bw .given .1) in
+    omega arith
 
-after-one-requires : tie.Need-after-one-requires
-after-one-requires c κs =
-    let l = bw-long (c .before .before .before .before .args .s .now) (sym (c .before .before .line-bw .ensures) ∙ c .before .if1 .taken) in
-    (omega arith, omega arith, ap (λ x. x - 48) (c .byte-at .ensures))
+mul-if1-2 : tie.Need-mul-if1-2
+mul-if1-2 c =
+    let h = front-room (c .before .before .before .before .before .args .s .now) (c .before .before .before .first-three .ensures) (c .before .bw .given .1) in
+    omega arith
+
+add-if1-2 : tie.Need-add-if1-2
+add-if1-2 c =
+    let h = front-room (c .before .before .before .before .before .args .s .now) (c .before .before .before .first-three .ensures) (c .before .bw .given .1) in
+    omega arith
 
 returns : tie.Need-returns
-returns c =
-    let a = c .before .before .before .before .before .args in
-    next-1 (a .s .now) (c .before .before .before .line-bw .ensures) (c .before .before .if1 .taken) (c .after-one .ensures)
+returns c = same-wrong (c .before .before .before .before .before .args .s .now) (c .before .before .before .first-three .ensures) (c .before .k .given .1)
 
 returns-2 : tie.Need-returns-2
-returns-2 c = wrong-1 (c .before .before .before .args .s .now) (c .before .line-bw .ensures) (c .if1 .left)
+returns-2 c =
+    let found = c .before .before in
+    nothing-after (found .before .before .before .before .args .s .now) (found .before .before .first-three .ensures) (found .bw .given .1) (c .if1 .taken)
+
+returns-3 : tie.Need-returns-3
+returns-3 c =
+    let found = c .before .before in
+    wrong-4 (found .before .before .before .before .args .s .now) (found .before .before .first-three .ensures) (found .bw .given .1) (c .if1 .left)
 
 pub three-lines-spec : {M : Type 1} → statement M
 three-lines-spec =
     tie.close
     (tie.spec
-    line-bw-requires
-    byte-at-requires
-    sub-after-one
-    cast-after-one
-    after-one-requires
+    first-three-requires
+    enum-known-k
+    enum-known-bw
+    mul-if1
+    add-if1
+    mul-if1-2
+    add-if1-2
     returns
-    returns-2)
+    returns-2
+    returns-3)
