@@ -1,0 +1,4 @@
+pub mod Coded
+pub mod Groups
+pub mod Outcomes
+pub mod Equal
