@@ -13,6 +13,7 @@ use Rattle.brachymel.specs.Bytes.{readBytes}
 use Rattle.brachymel.proofs.brachymel_read.Reads as read
 use Rattle.brachymel.proofs.brachymel_write.Reads as write
 use Rattle.brachymel.proofs.brachymel_list.Reads as list
+use Rattle.brachymel.proofs.brachymel_compare.Reads as compare
 use Rattle.brachymel.proofs.brachymel_trigger_read.Reads as trigger-read
 use Rattle.brachymel.proofs.brachymel_trigger_write.Reads as trigger-write
 use Rattle.brachymel.proofs.brachymel_trigger_overlaps.Reads as trigger-overlaps
@@ -28,6 +29,10 @@ list-agrees κs a r r' s s' p q = (p .0 ∙ sym (q .0), p .1 ∙ sym (q .1))
 pub write-agrees : (κs : _) (a : _) (r r' : _) (s s' : _) → write.Post κs a r s → write.Post κs a r' s'
     → (r ≡ r') × ((now (s .1 .1 .0) ≡ now (s' .1 .1 .0)) × (now (s .1 .1 .1 .0) ≡ now (s' .1 .1 .1 .0)))
 write-agrees κs a r r' s s' p q = (p .0 ∙ sym (q .0), (p .1 .0 ∙ sym (q .1 .0), p .1 .1 ∙ sym (q .1 .1)))
+
+pub compare-agrees : (κs : _) (a : _) (r r' : _) (s s' : _) → compare.Post κs a r s → compare.Post κs a r' s'
+    → (r ≡ r') × (now (s .1 .1 .1 .1 .1 .1 .0) ≡ now (s' .1 .1 .1 .1 .1 .1 .0))
+compare-agrees κs a r r' s s' p q = (p .0 ∙ sym (q .0), p .1 ∙ sym (q .1))
 
 pub trigger-read-agrees : (κs : _) (a : _) (r r' : _) (s s' : _) → trigger-read.Post κs a r s → trigger-read.Post κs a r' s'
     → (r ≡ r') × (now (s .1 .1 .0) ≡ now (s' .1 .1 .0))

@@ -9,6 +9,7 @@ ghost use Rattle.brachymel.specs.Bytes.{bytesReadAnswer, readBytes, byte
 ghost use Rattle.brachymel.specs.Engine.{early};
 ghost use Rattle.writer.specs.Result.{writeAnswer, channelAfter};
 ghost use Rattle.listed.specs.Listing.{listAnswer, listAfter};
+ghost use Rattle.compared.specs.Text.{compareAnswer, compareAfter};
 ghost use Rattle.trigger.specs.Reading.{entryAnswer, recordRead};
 ghost use Rattle.trigger.specs.Writing.{recordAnswer, entryWritten};
 ghost use Rattle.overlaps.specs.Result.{overlapsAnswer, pairsAfter};
@@ -104,6 +105,26 @@ pub extern "C" fn brachymel_list(bandwidth: u32, cc1: &[u8], cc2: &[u8], text: &
     ensures { λ _. ⌜ now (text .exit) ≡ listAfter bandwidth (now (cc1 .entry)) (now (cc2 .entry)) (now (text .entry)) ⌝ }
 {
     listing::list(bandwidth, cc1, cc2, text)
+}
+
+// ---- two frames compared (02, T-06)
+
+#[no_mangle]
+pub extern "C" fn brachymel_compare(
+    bandwidth1: u32,
+    cc1: &[u8],
+    cc2: &[u8],
+    bandwidth2: u32,
+    other1: &[u8],
+    other2: &[u8],
+    text: &mut [u8],
+) -> Answer
+    ensures { λ r. ⌜ r ≡ compareAnswer bandwidth1 (now (cc1 .entry)) (now (cc2 .entry)) bandwidth2 (now (other1 .entry)) (now (other2 .entry))
+        (length (now (text .entry))) ⌝ }
+    ensures { λ _. ⌜ now (text .exit)
+        ≡ compareAfter bandwidth1 (now (cc1 .entry)) (now (cc2 .entry)) bandwidth2 (now (other1 .entry)) (now (other2 .entry)) (now (text .entry)) ⌝ }
+{
+    compare::compare(bandwidth1, cc1, cc2, bandwidth2, other1, other2, text)
 }
 
 // ---- entries of a Trigger frame (02, T-02)

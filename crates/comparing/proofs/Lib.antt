@@ -1,0 +1,2 @@
+pub mod Facts
+pub mod Within
