@@ -24,9 +24,9 @@ use Rattle.plan.proofs.Demand.{accepted-plan, only-plan}
 use Rattle.records.specs.declared.Record.{Record}
 use Rattle.records.specs.Records.{lead, resourceColumn, larger, listAt, recordsOf, blank}
 use Rattle.records.proofs.Listing.{same-records}
-use Rattle.trigger.specs.Values.{named, resourceOf, reaches, taken}
-use Rattle.trigger.proofs.Back.{named-low, taken-named}
-use Rattle.trigger.proofs.OneToOne.{same, same-resource}
+use Rattle.trigger_values.specs.Values.{named, resourceOf, reaches, taken}
+use Rattle.trigger_values.proofs.Back.{named-low, taken-named}
+use Rattle.trigger_values.proofs.OneToOne.{same, same-resource}
 use Rattle.claims.specs.Trigger.{HeldBySome}
 
 -- the value at position p of a row whose plan holds the resource of value v: all positions alike, but for a 106+26 and a 484+242

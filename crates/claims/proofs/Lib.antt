@@ -10,3 +10,5 @@ pub mod CutShort
 pub mod OfPlan
 pub mod Holding
 pub mod Trigger
+pub mod Texts
+pub mod Compared

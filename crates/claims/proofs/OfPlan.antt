@@ -26,8 +26,8 @@ use Rattle.records.specs.Records.{resourceColumn, larger, listAt, recordsFrom}
 use Rattle.records.proofs.Listing.{recordAt, Somewhere, located, located-record, own-length, own-record, larger-record}
 use Rattle.records.proofs.Larger.{is-there}
 use Rattle.records.proofs.Subcarriers.{whole-span}
-use Rattle.trigger.specs.Values.{allowedAt, ResourceOf, piece}
-use Rattle.trigger.proofs.OneToOne.{there, there-is}
+use Rattle.trigger_values.specs.Values.{allowedAt, ResourceOf, piece}
+use Rattle.trigger_values.proofs.OneToOne.{there, there-is}
 
 -- ---- pieces of a position that is given to itself
 abbrev all-of : (Piece → Bool) → List Piece → Bool

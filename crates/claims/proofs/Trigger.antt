@@ -13,11 +13,11 @@ use Rattle.resource.specs.declared.Resource.{Resource}
 use Rattle.resource.specs.Names.{nameOf, numberOf}
 use Rattle.plan.specs.Signals.{Signals}
 use Rattle.records.specs.Records.{recordsFrom, blank}
-use Rattle.trigger.specs.Values.{resourceOf, taken, ResourceOf}
+use Rattle.trigger_values.specs.Values.{resourceOf, taken, ResourceOf}
 use Rattle.trigger.specs.Reading.{entryAnswer, recordRead}
 use Rattle.trigger.specs.Worked.{EntryReads, SomeEntry}
 use Rattle.trigger.specs.Writing.{recordAnswer, entryWritten}
-use Rattle.trigger.proofs.OneToOne.{one-to-one}
+use Rattle.trigger_values.proofs.OneToOne.{one-to-one}
 use Rattle.trigger.proofs.Judged.{entry-judged, record-judged, record-kept, entry-kept}
 use Rattle.trigger.proofs.Inverse.{entry-passed, reads-it, reads-exactly, gives-back, written-reads, refused-17, refused-17-none, read-resource}
 use Rattle.overlaps.specs.Overlaps.{Reported}

@@ -19,6 +19,9 @@ use Rattle.overlaps.proofs.overlaps.Reads as trigger-overlaps
 use Rattle.brachymel.proofs.brachymel_trigger_read.Reads as c-trigger-read
 use Rattle.brachymel.proofs.brachymel_trigger_write.Reads as c-trigger-write
 use Rattle.brachymel.proofs.brachymel_trigger_overlaps.Reads as c-trigger-overlaps
+use Rattle.compare.proofs.compare.Reads as compare
+use Rattle.brachymel.proofs.brachymel_compare.Reads as c-compare
+use Rattle.comparing.proofs.respond.Reads as compare-respond
 
 -- a call that reads or lists: the bandwidth code, both channels' bytes, the lent buffer, and then the answer and what the buffer holds
 pub record Call : Type 0 where
@@ -54,6 +57,18 @@ pub record EntryCall : Type 0 where
   pub answer : Answer
   pub after : List ℕ
 
+-- a call that compares: of each frame the bandwidth code and both channels' bytes, the lent buffer, and then the answer and what the buffer holds
+pub record CompareCall : Type 0 where
+  pub bandwidth-1 : ℕ
+  pub first-1 : List ℕ
+  pub first-2 : List ℕ
+  pub bandwidth-2 : ℕ
+  pub second-1 : List ℕ
+  pub second-2 : List ℕ
+  pub lent : List ℕ
+  pub answer : Answer
+  pub after : List ℕ
+
 abbrev call : ℕ → List ℕ → List ℕ → List ℕ → Answer → List ℕ → Call
 call bw a b d r e = record { bandwidth = bw; channel-1 = a; channel-2 = b; lent = d; answer = r; after = e }
 
@@ -63,6 +78,19 @@ write-call bw w a b r x y =
 
 abbrev entry-call : ℕ → List ℕ → List ℕ → Answer → List ℕ → EntryCall
 entry-call bw e d r x = record { bandwidth = bw; given = e; lent = d; answer = r; after = x }
+
+abbrev compare-call : ℕ → List ℕ → List ℕ → ℕ → List ℕ → List ℕ → List ℕ → Answer → List ℕ → CompareCall
+compare-call bw a b bw′ a′ b′ d r x = record {
+  bandwidth-1 = bw;
+  first-1 = a;
+  first-2 = b;
+  bandwidth-2 = bw′;
+  second-1 = a′;
+  second-2 = b′;
+  lent = d;
+  answer = r;
+  after = x;
+}
 
 -- ---- the calls that each contract allows
 
@@ -117,3 +145,16 @@ pub data Overlaps : EntryCall → Type 0 where
       → Overlaps (entry-call (a .0) (now (a .1 .0)) (now (a .1 .1 .0)) r (now (s .1 .1 .0)))
   c-overlaps : (κs : _) (a : _) (r : _) (s : _) → c-trigger-overlaps.Post κs a r s
       → Overlaps (entry-call (a .0) (now (a .1 .0)) (now (a .1 .1 .0)) r (now (s .1 .1 .0)))
+
+-- two frames compared, from Rattle or from C; and the program's text of two captures, `comparing::respond`
+pub data Compares : CompareCall → Type 0 where
+  compares : (κs : _) (a : _) (r : _) (s : _) → compare.Post κs a r s
+      → Compares (compare-call (a .0) (now (a .1 .0)) (now (a .1 .1 .0)) (a .1 .1 .1 .0) (now (a .1 .1 .1 .1 .0)) (now (a .1 .1 .1 .1 .1 .0))
+      (now (a .1 .1 .1 .1 .1 .1 .0)) r (now (s .1 .1 .1 .1 .1 .1 .0)))
+  c-compares : (κs : _) (a : _) (r : _) (s : _) → c-compare.Post κs a r s
+      → Compares (compare-call (a .0) (now (a .1 .0)) (now (a .1 .1 .0)) (a .1 .1 .1 .0) (now (a .1 .1 .1 .1 .0)) (now (a .1 .1 .1 .1 .1 .0))
+      (now (a .1 .1 .1 .1 .1 .1 .0)) r (now (s .1 .1 .1 .1 .1 .1 .0)))
+
+pub data Compare-responds : TextCall → Type 0 where
+  compare-responds : (κs : _) (a : _) (r : _) (s : _) → compare-respond.Post κs a r s
+      → Compare-responds (record { text = now (a .0); lent = now (a .1 .0); bytes = r; after = now (s .1 .0) })

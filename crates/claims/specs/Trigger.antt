@@ -19,7 +19,7 @@ use Rattle.answer.specs.Lists.{at}
 use Rattle.plan.specs.Signals.{Signals}
 use Rattle.plan.specs.Answers.{SomePlanOfEight}
 use Rattle.records.specs.Records.{recordsFrom, recordsOf, blank}
-use Rattle.trigger.specs.Values.{resourceOf, taken, ResourceOf, OneToOne}
+use Rattle.trigger_values.specs.Values.{resourceOf, taken, ResourceOf, OneToOne}
 use Rattle.trigger.specs.Reading.{entryNumbers, entryChecks, entryAnswer, recordRead}
 use Rattle.trigger.specs.Writing.{recordNumbers, recordChecks}
 use Rattle.trigger.proofs.read.Reads as read

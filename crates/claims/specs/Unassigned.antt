@@ -13,7 +13,7 @@ use Rattle.records.specs.Records.{blank}
 use Rattle.halves.specs.Table.{outcome11}
 use Rattle.text.specs.Text.{codes, upto}
 use Rattle.input.specs.Worked.{frame, said}
-use Rattle.lines.specs.Lines.{line}
+use Rattle.text.specs.Text.{line}
 use Rattle.listed.specs.Listing.{resources, recordLine, staLineAt, stationsIn}
 use Rattle.listed.specs.Stations.{Station, Counted}
 use Rattle.claims.specs.Calls.{Call, TextCall, Lists, C-lists, Responds}
