@@ -22,7 +22,7 @@ const char *in_call = "no call";
 
 /* ---- memory to lend */
 
-arena cc1, cc2, other;
+arena cc1, cc2, other1, other2, other;
 
 static void prepare(arena *a)
 {
@@ -33,7 +33,7 @@ static void prepare(arena *a)
         printf("driver: no memory with guard pages\n0 passed, 1 failed\n");
         exit(2);
     }
-    a->memory = whole + page;
+    a->memory = a->low = a->high = whole + page;
 }
 
 void lend(arena *a, chance *c, const uint8_t *held, size_t length)
@@ -73,7 +73,7 @@ static int is_as_it_should_be(const arena *a)
 
 const char *const entry_name[ENTRIES] = {"brachymel_read", "brachymel_write", "brachymel_list",
                                          "brachymel_trigger_read", "brachymel_trigger_write",
-                                         "brachymel_trigger_overlaps"};
+                                         "brachymel_trigger_overlaps", "brachymel_compare"};
 static unsigned long met[ENTRIES][32];
 
 int is_told(void)
@@ -84,7 +84,8 @@ int is_told(void)
 int compare(int entry, answer should, brachymel_answer is)
 {
     int right = should.number == is.number && should.channel == is.channel && should.place == is.place;
-    int kept = is_as_it_should_be(&cc1) && is_as_it_should_be(&cc2) && is_as_it_should_be(&other);
+    int kept = is_as_it_should_be(&cc1) && is_as_it_should_be(&cc2) && is_as_it_should_be(&other1)
+        && is_as_it_should_be(&other2) && is_as_it_should_be(&other);
     calls++;
     met[entry][should.number]++;
     if (right && kept)
@@ -363,7 +364,7 @@ static unsigned not_met(void)
     } of[ENTRIES] = {
         {13, {0, 1, 2, 3, 4, 5, 6, 7, 8, 9, 10, 11, 12}}, {4, {0, 1, 13, 14}},
         {13, {0, 1, 2, 3, 4, 5, 6, 7, 8, 9, 10, 11, 23}}, {7, {0, 1, 15, 24, 16, 17, 23}}, {5, {0, 1, 24, 17, 23}},
-        {8, {0, 1, 15, 25, 24, 16, 17, 26}}};
+        {8, {0, 1, 15, 25, 24, 16, 17, 26}}, {2, {0, 23}}};
     unsigned missing = 0;
     for (unsigned e = 0; e < ENTRIES; e++) {
         printf("driver: %s:", entry_name[e]);
@@ -400,6 +401,8 @@ int main(int argc, char **argv)
     signal(SIGABRT, fell);
     prepare(&cc1);
     prepare(&cc2);
+    prepare(&other1);
+    prepare(&other2);
     prepare(&other);
     c = chance_from(seed, 'C');
     largest(&c);
@@ -413,6 +416,8 @@ int main(int argc, char **argv)
         any_call(&c);
     c = chance_from(seed, 'G');
     every_trigger(&c, count / 15);
+    c = chance_from(seed, 'T');
+    every_comparison(&c, count / 30);
     missing = not_met();
     printf("%lu passed, %lu failed\n", calls - wrong, wrong + missing);
     return wrong + missing == 0 ? 0 : 1;

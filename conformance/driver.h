@@ -8,7 +8,7 @@
 
 /* ---- memory to lend */
 
-#define ARENA 32768
+#define ARENA 65536
 #define GUARD 64
 
 typedef struct {
@@ -19,7 +19,7 @@ typedef struct {
     uint8_t should_be[ARENA];     /* what the watched bytes should hold after the call */
 } arena;
 
-extern arena cc1, cc2, other;
+extern arena cc1, cc2, other1, other2, other; /* two channels, those of another frame, and what else is lent */
 
 /* Lends `length` bytes, which hold `held`, or a pattern where that is NULL. */
 void lend(arena *a, chance *c, const uint8_t *held, size_t length);
@@ -32,7 +32,7 @@ uint8_t *pointer(arena *a, chance *c);
 
 /* ---- a call */
 
-enum { READ, WRITE, LIST, TRIGGER_READ, TRIGGER_WRITE, TRIGGER_OVERLAPS, ENTRIES };
+enum { READ, WRITE, LIST, TRIGGER_READ, TRIGGER_WRITE, TRIGGER_OVERLAPS, COMPARE, ENTRIES };
 extern const char *const entry_name[ENTRIES];
 extern const char *in_call; /* for the report, should the call fall */
 
@@ -47,5 +47,8 @@ void hold(int holds, const char *what);
 
 /* triggers.c: the calls of T-02, and then so many that are drawn. */
 void every_trigger(chance *c, unsigned long drawn);
+
+/* compares.c: the calls of T-06, and then so many pairs that are drawn. */
+void every_comparison(chance *c, unsigned long drawn);
 
 #endif

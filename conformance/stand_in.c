@@ -3,6 +3,8 @@
 #include "brachymel.h"
 #include "reference/reference.h"
 
+#include <stdio.h>
+#include <stdlib.h>
 #include <string.h>
 
 #ifndef FAULT
@@ -243,4 +245,238 @@ brachymel_answer brachymel_trigger_overlaps(uint32_t bandwidth, const uint8_t *e
     if (FAULT == 47 && a.number == 0 && entries_len == 0 && pairs_len == 0)
         a.number = 26; /* no entries need room */
     return as_answer(a);
+}
+
+/* ---- two frames compared (02, T-06) */
+
+typedef struct {
+    uint32_t bandwidth;
+    const uint8_t *cc[2];
+    size_t length[2];
+} one_frame;
+
+static answer compared(const one_frame *x, const one_frame *y, uint8_t *text, size_t room)
+{
+    return reference_compare(x->bandwidth, x->cc[0], x->length[0], x->cc[1], x->length[1], y->bandwidth, y->cc[0],
+                             y->length[0], y->cc[1], y->length[1], text, room);
+}
+
+static answer outcome_of(const one_frame *x)
+{
+    static reading r;
+    return read_frame(x->bandwidth, x->cc[0], x->length[0], x->cc[1], x->length[1], &r);
+}
+
+static unsigned fields_in(const one_frame *x)
+{
+    return users_told(x->bandwidth, x->cc[0], x->length[0]) + users_told(x->bandwidth, x->cc[1], x->length[1]);
+}
+
+static int same_bytes(const one_frame *x, const one_frame *y)
+{
+    return x->length[0] == y->length[0] && x->length[1] == y->length[1] && memcmp(x->cc[0], y->cc[0], x->length[0]) == 0
+        && (x->length[1] == 0 || memcmp(x->cc[1], y->cc[1], x->length[1]) == 0);
+}
+
+/* The lines of a text, each with a zero in its line feed's place. */
+typedef struct {
+    unsigned count;
+    char *line[700], text[MOST_COMPARISON];
+} lines;
+
+static void cut(lines *l)
+{
+    l->count = 0;
+    for (char *line = strtok(l->text, "\n"); line != NULL; line = strtok(NULL, "\n"))
+        l->line[l->count++] = line;
+}
+
+static void list(const one_frame *x, lines *l)
+{
+    answer a = reference_list(x->bandwidth, x->cc[0], x->length[0], x->cc[1], x->length[1], (uint8_t *)l->text, sizeof l->text);
+    l->text[a.number == 0 ? a.place : 0] = 0;
+    cut(l);
+}
+
+static int is_of(const char *line, const char *key)
+{
+    return strncmp(line + 8, key, strlen(key)) == 0; /* after "frame=1 " */
+}
+
+static unsigned number_after(const char *line, const char *key)
+{
+    return (unsigned)strtoul(strstr(line, key) + strlen(key), NULL, 10);
+}
+
+/* Whether the other frame's line of the same User field, if there is one, says the same of this key. */
+static int same_user_part(const lines *l, unsigned k, const char *key)
+{
+    for (unsigned m = k == 0 ? 0 : k - 1; m <= k + 1 && m < l->count; m++) {
+        const char *mine = strstr(l->line[k], key), *its = strstr(l->line[m], key);
+        if (m != k && is_of(l->line[m], "user=") && number_after(l->line[m], "user=") == number_after(l->line[k], "user="))
+            return strcspn(mine, " ") == strcspn(its, " ") && memcmp(mine, its, strcspn(mine, " ")) == 0;
+    }
+    return 0;
+}
+
+/* Whether the listing has a resource of the same size and index, whatever its segment. */
+static int in_some_segment(const lines *listing, const char *line)
+{
+    size_t length = (size_t)(strstr(line, " segment=") - (line + 8));
+    for (unsigned k = 0; k < listing->count; k++)
+        if (strncmp(listing->line[k], line + 8, length) == 0 && listing->line[k][length] == ' ')
+            return 1;
+    return 0;
+}
+
+/* Whether a line is left out. */
+static int left_out(const one_frame x[2], const lines *l, unsigned k)
+{
+    static lines listing;
+    const char *line = l->line[k];
+    unsigned fields[2] = {0, 0};
+    if (FAULT == 63)
+        return k == 1 && is_of(line, "answer="); /* of two refusals only the first */
+    if (FAULT == 64 && is_of(line, "ru=")) {
+        list(&x[line[6] == '1' ? 1 : 0], &listing);
+        return in_some_segment(&listing, line); /* a resource known by size and index alone */
+    }
+    if (FAULT == 69 && is_of(line, "position="))
+        return number_after(line, "position=") >= 8; /* the first half of 320 MHz */
+    if (FAULT == 70)
+        return is_of(line, "disregard="); /* what is disregarded is not compared */
+    if (!is_of(line, "user="))
+        return 0;
+    for (unsigned f = 0; f < 2; f++)
+        fields[f] = fields_in(&x[f]);
+    if (FAULT == 52)
+        return number_after(line, "user=") == (fields[0] > fields[1] ? fields[0] : fields[1]); /* the last field */
+    if (FAULT == 53)
+        return number_after(line, "user=") > (fields[0] < fields[1] ? fields[0] : fields[1]); /* those that only one has */
+    if (FAULT == 67)
+        return same_user_part(l, k, "bits="); /* a field's resource is not compared */
+    if (FAULT == 68)
+        return same_user_part(l, k, "sta="); /* a field's station is all that is compared */
+    if (FAULT == 59) { /* the highest of the 22 bits is not compared */
+        static lines own;
+        own = *l;
+        for (unsigned m = 0; m < l->count; m++) {
+            own.line[m] = own.text + (l->line[m] - l->text);
+            if (is_of(own.line[m], "user=") && strstr(own.line[m], "bits=")[5] >= '2')
+                strstr(own.line[m], "bits=")[5] -= 2;
+        }
+        return same_user_part(&own, k, "bits=") && same_user_part(&own, k, "ru=") && same_user_part(&own, k, "index=");
+    }
+    return 0;
+}
+
+/* A line as it is written, with some fault. */
+static size_t written_line(const char *line, char *text)
+{
+    size_t n = (size_t)sprintf(text, "%s\n", line);
+    char *bits = strstr(text, "bits="), *name = text + 8;
+    for (unsigned k = 0; FAULT == 57 && bits != NULL && k < 6; k++)
+        if (bits[5 + k] >= 'A')
+            bits[5 + k] = (char)(bits[5 + k] - 'A' + 'a'); /* small letters */
+    if (FAULT == 58 && is_of(line, "user="))
+        return (size_t)sprintf(name, "user=%u%s\n", number_after(line, "user=") - 1, strchr(line + 8, ' ')) + 8; /* from 0 */
+    if (FAULT == 60 && strstr(text, "sta=none") != NULL)
+        memcpy(strstr(text, "sta=none") + 4, "2046", 4); /* a station that is nobody's */
+    if (FAULT == 65 && is_of(line, "position="))
+        return (size_t)sprintf(name, "position=%u%s\n", number_after(line, "position=") + 1, strchr(line + 8, ' ')) + 8; /* from 1 */
+    if (FAULT == 66 && is_of(line, "pre-fec="))
+        return (size_t)sprintf(name, "pre-fec=%u\n", number_after(line, "pre-fec=") + 1) + 8; /* the factor, not the raw bits */
+    if (FAULT == 71 && is_of(line, "bw="))
+        return (size_t)sprintf(name, "bw=%u\n", 20u << number_after(line, "bw=")) + 8; /* megahertz */
+    if (FAULT == 72 && is_of(line, "user="))
+        return (size_t)sprintf(strstr(text, " segment="), "\n") + (size_t)(strstr(line, " segment=") - line); /* no segment */
+    if (FAULT == 73 && bits != NULL && bits[5] == '0') {
+        memmove(bits + 5, bits + 6, strlen(bits + 6) + 1); /* five digits where they suffice */
+        return n - 1;
+    }
+    return n;
+}
+
+/* The resources that only one has, where one with another number of users is another one. */
+static size_t by_users_too(const one_frame x[2], char *text)
+{
+    static lines l[2];
+    size_t n = 0;
+    if (x[0].bandwidth != x[1].bandwidth)
+        return 0;
+    list(&x[0], &l[0]);
+    list(&x[1], &l[1]);
+    for (unsigned f = 0; f < 2; f++)
+        for (unsigned k = 0; k < l[f].count; k++) {
+            int found = strncmp(l[f].line[k], "ru=", 3) != 0;
+            for (unsigned m = 0; m < l[1 - f].count && !found; m++)
+                found = strcmp(l[f].line[k], l[1 - f].line[m]) == 0;
+            if (!found)
+                n += (size_t)sprintf(text + n, "frame=%u %s\n", f + 1, l[f].line[k]);
+        }
+    return n;
+}
+
+static size_t rewritten(const one_frame x[2], lines *l, char *text)
+{
+    size_t n = 0;
+    int resources = 0;
+    for (unsigned k = 0; k < l->count; k++) {
+        if (FAULT == 49 && is_of(l->line[k], "ru="))
+            continue;
+        if (FAULT == 49 && is_of(l->line[k], "user=") && !resources++)
+            n += by_users_too(x, text + n);
+        if (FAULT == 51 && k + 1 < l->count && l->line[k][6] == '1' && l->line[k + 1][6] == '2' && is_of(l->line[k], "ru=")
+            && is_of(l->line[k + 1], "ru=")) {
+            char *first = l->line[k]; /* frame 2's first resource before frame 1's last */
+            l->line[k] = l->line[k + 1];
+            l->line[k + 1] = first;
+        }
+        if (!left_out(x, l, k))
+            n += written_line(l->line[k], text + n);
+    }
+    if (FAULT == 49 && !resources)
+        n += by_users_too(x, text + n); /* a resource with another number of users taken for another */
+    return n;
+}
+
+brachymel_answer brachymel_compare(uint32_t bandwidth1, const uint8_t *cc1, size_t cc1_len, const uint8_t *cc2, size_t cc2_len,
+                                   uint32_t bandwidth2, const uint8_t *other1, size_t other1_len, const uint8_t *other2,
+                                   size_t other2_len, uint8_t *text, size_t text_len)
+{
+    static lines l;
+    static char own[MOST_COMPARISON];
+    const one_frame x[2] = {{bandwidth1, {cc1, cc2}, {cc1_len, cc2_len}}, {bandwidth2, {other1, other2}, {other1_len, other2_len}}};
+    answer a = FAULT == 50 ? compared(&x[1], &x[0], (uint8_t *)l.text, sizeof l.text) /* the sides exchanged */
+                           : compared(&x[0], &x[1], (uint8_t *)l.text, sizeof l.text);
+    size_t n;
+    l.text[a.place] = 0;
+    cut(&l);
+    n = rewritten(x, &l, own);
+    if (FAULT == 48 && n == 0 && !same_bytes(&x[0], &x[1]))
+        n = (size_t)sprintf(own, "frame=1 padding\n"); /* the padding compared */
+    if (FAULT == 61 && bandwidth1 != bandwidth2 && bandwidth1 <= 4 && bandwidth2 <= 4)
+        n = (size_t)sprintf(own, "frame=1 bw=%u\nframe=2 bw=%u\n", (unsigned)bandwidth1, (unsigned)bandwidth2); /* before refusals */
+    if (FAULT == 62 && bandwidth1 != bandwidth2 && n != 0 && is_of(own, "bw="))
+        n += (size_t)sprintf(own + n, "frame=1 gi-ltf=0\nframe=2 gi-ltf=1\n"); /* and then something more */
+    if (FAULT == 74 && outcome_of(&x[0]).number != 0)
+        return as_answer(outcome_of(&x[0])); /* a refused frame refuses the call */
+    if (FAULT == 75 && n != 0)
+        n--; /* the last line without its line feed */
+    if (FAULT == 76 && n != 0 && text_len == n)
+        return as_answer(answer_of(23, 0, n)); /* just enough is too little */
+    if (text_len < n) {
+        if (FAULT == 55 && text_len > 0)
+            memcpy(text, own, text_len); /* what fits */
+        return as_answer(answer_of(23, FAULT == 77, FAULT == 56 ? n - text_len : n)); /* the bytes that lack; a channel named */
+    }
+    if (n != 0)
+        memcpy(text, own, n);
+    if (FAULT == 54 && text_len > n)
+        text[n] = 0; /* a zero after the text */
+    if (FAULT == 78)
+        n = l.count; /* the lines as place */
+    if (FAULT == 79 && other2_len != 0 && *(const volatile uint8_t *)(other2 + other2_len) == 7)
+        n++; /* reads past the end */
+    return as_answer(answer_of(0, 0, n));
 }

@@ -41,7 +41,9 @@ typedef struct {
 void draw_good_frame(chance *c, frame *f);
 void build_frame(chance *c, unsigned bandwidth, const unsigned *row, frame *f);
 void mend_checks(frame *f);
-size_t bytes_told(const frame *f, unsigned ch); /* up to the padding */
+unsigned fields_told(const frame *f, unsigned ch);
+unsigned bits_told(const frame *f, unsigned ch); /* up to the padding */
+size_t bytes_told(const frame *f, unsigned ch);
 void put_stations(frame *f, unsigned channels, uint32_t id); /* and mends the checks */
 void draw_frame(chance *c, frame *f); /* good, damaged in one way or two, or of random bytes */
 size_t draw_words_room(chance *c, const frame *f);
@@ -72,10 +74,18 @@ void draw_list(chance *c, uint32_t bandwidth, uint8_t *entries, size_t count); /
 /* Makes an entry one that is refused with this number (24, 16 or 17), now and then with a later one besides. */
 void spoil_entry(chance *c, uint32_t bandwidth, uint8_t *entry, uint32_t number);
 
-/* texts.c: a text for the program, and a listing's room. */
-#define MOST_TEXT 10000
+/* pairs.c: two frames to compare (02, T-06). */
+void row_of_frame(const frame *f, unsigned row[16]);
+void make_alike(const frame *x, frame *y); /* y's overflow, and its User fields as far as x has them, are x's */
+void draw_padding(chance *c, frame *f);    /* its length and all bits past the last block drawn anew */
+void draw_change(chance *c, const frame *x, frame *y); /* y is x, a good frame, with something changed */
+void draw_pair(chance *c, frame *x, frame *y);         /* of one bandwidth and good, mostly, and alike, mostly */
+
+/* texts.c: a text for the programs, of one capture or two, and a listing's room. */
+#define MOST_TEXT 20000
 
 size_t draw_text(chance *c, uint8_t text[MOST_TEXT]);
+size_t draw_text_of_two(chance *c, uint8_t text[MOST_TEXT]);
 size_t draw_listing_room(chance *c, const frame *f);
 
 #endif

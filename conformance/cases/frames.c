@@ -6,7 +6,7 @@
 #include <string.h>
 
 /* The User fields that a channel's own values tell of, whatever their layout. */
-static unsigned fields_told(const frame *f, unsigned ch)
+unsigned fields_told(const frame *f, unsigned ch)
 {
     unsigned n = 0;
     for (unsigned k = 0; k < subfields_of(f->bandwidth); k++)
@@ -14,10 +14,15 @@ static unsigned fields_told(const frame *f, unsigned ch)
     return n > MOST_FIELDS / 2 ? MOST_FIELDS / 2 : n;
 }
 
+unsigned bits_told(const frame *f, unsigned ch)
+{
+    return end_of_channel(f->bandwidth, fields_told(f, ch));
+}
+
 /* The bytes that hold a channel up to its padding. */
 size_t bytes_told(const frame *f, unsigned ch)
 {
-    return (end_of_channel(f->bandwidth, fields_told(f, ch)) + 7) / 8;
+    return (bits_told(f, ch) + 7) / 8;
 }
 
 static void mend_block(uint8_t *s, unsigned at, unsigned covered)

@@ -20,6 +20,7 @@ void print_block(chance *c, unsigned long k);
 
 /* whole.c: */
 void print_frame(char letter, const frame *f, size_t room);
+void print_pair(const frame *x, const frame *y, size_t room);
 void print_words(const words_case *w);
 void print_value(chance *c, unsigned long k);
 void print_row(chance *c, unsigned long k);

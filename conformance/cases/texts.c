@@ -37,10 +37,10 @@ static size_t drop(char *text, size_t n, size_t at)
 }
 
 /* A byte put in, taken out or changed, near an edge of a line or anywhere; the text cut or made longer. */
-static size_t damage_text(chance *c, char *text, size_t n)
+static size_t damage_text(chance *c, char *text, size_t n, unsigned captures)
 {
     static const char some[] = "\n\n\r =:abAGg09\tBbCc-";
-    size_t at = (size_t)below(c, n), edge = 0, line = (size_t)below(c, 3);
+    size_t at = (size_t)below(c, n), edge = 0, line = (size_t)below(c, 3 * captures);
     char what = one_in(c, 6) ? (char)below(c, 256) : some[below(c, sizeof some - 1)];
     for (size_t k = 0; k < line; k++)
         edge += (size_t)((char *)memchr(text + edge, '\n', n - edge) - (text + edge)) + 1;
@@ -53,9 +53,9 @@ static size_t damage_text(chance *c, char *text, size_t n)
     case 3: return at;
     case 4: return insert(text, n, n, what);
     case 5: return drop(text, n, n - 1);
-    case 6: /* to the limit of 8,192 bytes, or just past it, in digits of channel 2 */
+    case 6: /* to the limit of 8,192 bytes, or of two captures 16,384, or just past it, in digits of channel 2 */
         n--;
-        for (size_t to = 8190 + (size_t)below(c, 4); n < to; n++)
+        for (size_t to = (size_t)MOST_CAPTURE * captures - 2 + (size_t)below(c, 4); n < to; n++)
             text[n] = 'A';
         return insert(text, n, n, '\n');
     default: text[3] = (char)('0' + below(c, 10)); return n;
@@ -71,8 +71,19 @@ size_t draw_text(chance *c, uint8_t text[MOST_TEXT])
     else
         draw_frame(c, &f);
     n = put_frame((char *)text, &f);
-    return one_in(c, 3) ? damage_text(c, (char *)text, n) : n;
+    return one_in(c, 3) ? damage_text(c, (char *)text, n, 1) : n;
 }
+
+size_t draw_text_of_two(chance *c, uint8_t text[MOST_TEXT])
+{
+    static frame x, y;
+    size_t n;
+    draw_pair(c, &x, &y);
+    n = put_frame((char *)text, &x);
+    n += put_frame((char *)text + n, &y);
+    return one_in(c, 3) ? damage_text(c, (char *)text, n, 2) : n;
+}
+
 
 /* Room for a listing: plenty, just enough, one too few, or any. */
 size_t draw_listing_room(chance *c, const frame *f)

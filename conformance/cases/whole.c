@@ -23,12 +23,27 @@ void print_row(chance *c, unsigned long k)
     print_end();
 }
 
-void print_frame(char letter, const frame *f, size_t room)
+static void print_capture(const frame *f)
 {
-    print_letter(letter);
     print_number(f->bandwidth);
     print_string(f->cc[0], f->length[0]);
     print_string(f->cc[1], f->length[1]);
+}
+
+void print_frame(char letter, const frame *f, size_t room)
+{
+    print_letter(letter);
+    print_capture(f);
+    print_number(room);
+    print_end();
+}
+
+/* As a case of the letter C, for a report: there are no generated cases of it. */
+void print_pair(const frame *x, const frame *y, size_t room)
+{
+    print_letter('C');
+    print_capture(x);
+    print_capture(y);
     print_number(room);
     print_end();
 }

@@ -72,7 +72,7 @@ answer reference_list(uint32_t bandwidth, const uint8_t *cc1, size_t cc1_length,
 }
 
 /* "A refusal is answer=, channel=, place=, three lines, by the program". */
-static size_t refusal_text(answer a, char *text)
+size_t refusal_text(answer a, char *text)
 {
     return (size_t)sprintf(text, "answer=%lu\nchannel=%lu\nplace=%llu\n", (unsigned long)a.number,
                            (unsigned long)a.channel, (unsigned long long)a.place);
@@ -95,14 +95,14 @@ static int starts_with(const uint8_t *line, size_t length, const char *key)
 }
 
 /* "the lines bw= (one decimal digit), cc1=, cc2= (pairs of hex digits, capital letters, perhaps none)". The
- * line is given without its line feed. */
+ * line, of these three the one from 0, is given without its line feed. */
 static int line_is_right(unsigned which, const uint8_t *line, size_t length)
 {
-    static const char *const key[4] = {"", "bw=", "cc1=", "cc2="};
+    static const char *const key[3] = {"bw=", "cc1=", "cc2="};
     size_t after = strlen(key[which]);
     if (!starts_with(line, length, key[which]))
         return 0;
-    if (which == 1)
+    if (which == 0)
         return length == after + 1 && line[after] >= '0' && line[after] <= '9';
     if ((length - after) % 2 != 0)
         return 0;
@@ -112,49 +112,47 @@ static int line_is_right(unsigned which, const uint8_t *line, size_t length)
     return 1;
 }
 
-/* "each ended by a line feed and nothing after". 22: "program text over 8,192 bytes, else not the three
- * lines named under Listing | 0, 0; else first wrong line, from 1 (text after the third is line 4)". On 0
- * the lines' first bytes and lengths are kept. */
-static answer check_22(const uint8_t *text, size_t length, const uint8_t *line[4], size_t line_length[4])
+/* Keeps what a right line says. */
+static void keep_line(unsigned which, const uint8_t *line, size_t length, capture *x)
 {
-    size_t at = 0;
-    if (length > 8192)
-        return answer_of(22, 0, 0);
-    for (unsigned which = 1; which <= 3; which++) {
-        const uint8_t *feed = at < length ? memchr(text + at, '\n', length - at) : NULL;
-        if (feed == NULL)
-            return answer_of(22, 0, which);
-        line[which] = text + at;
-        line_length[which] = (size_t)(feed - (text + at));
-        if (!line_is_right(which, line[which], line_length[which]))
-            return answer_of(22, 0, which);
-        at += line_length[which] + 1;
+    if (which == 0) {
+        x->bandwidth = digit_of(line[3]);
+        return;
     }
-    if (at != length)
-        return answer_of(22, 0, 4);
-    return answer_of(0, 0, 0);
+    x->length[which - 1] = (length - 4) / 2;
+    for (size_t k = 0; k < x->length[which - 1]; k++)
+        x->cc[which - 1][k] = (uint8_t)(digit_of(line[4 + 2 * k]) << 4 | digit_of(line[5 + 2 * k]));
 }
 
-static size_t bytes_of_line(const uint8_t *line, size_t length, uint8_t *bytes)
+/* "each ended by a line feed and nothing after". 22: "program text over 8,192 bytes, else not the three
+ * lines named under Listing | 0, 0; else first wrong line, from 1 (text after the third is line 4)". Of two captures
+ * one after the other (02, T-06) the same with 16,384 bytes in all, six lines, and line 7 (decision). */
+answer read_captures(const uint8_t *text, size_t length, unsigned captures, capture *x)
 {
-    size_t n = (length - 4) / 2;
-    for (size_t k = 0; k < n; k++)
-        bytes[k] = (uint8_t)(digit_of(line[4 + 2 * k]) << 4 | digit_of(line[5 + 2 * k]));
-    return n;
+    size_t at = 0;
+    if (length > (size_t)MOST_CAPTURE * captures)
+        return answer_of(22, 0, 0);
+    for (unsigned n = 0; n < 3 * captures; n++) {
+        const uint8_t *feed = at < length ? memchr(text + at, '\n', length - at) : NULL;
+        size_t line_length = feed == NULL ? 0 : (size_t)(feed - (text + at));
+        if (feed == NULL || !line_is_right(n % 3, text + at, line_length))
+            return answer_of(22, 0, n + 1);
+        keep_line(n % 3, text + at, line_length, &x[n / 3]);
+        at += line_length + 1;
+    }
+    if (at != length)
+        return answer_of(22, 0, 3 * captures + 1);
+    return answer_of(0, 0, 0);
 }
 
 /* "22 is first of all"; "and writes the listing". */
 size_t reference_program(const uint8_t *text, size_t length, char out[MOST_LISTING])
 {
-    static uint8_t cc1[4096], cc2[4096];
-    const uint8_t *line[4];
-    size_t line_length[4], n1, n2;
-    answer a = check_22(text, length, line, line_length);
+    static capture x;
+    answer a = read_captures(text, length, 1, &x);
     if (a.number != 0)
         return refusal_text(a, out);
-    n1 = bytes_of_line(line[2], line_length[2], cc1);
-    n2 = bytes_of_line(line[3], line_length[3], cc2);
-    a = reference_list(digit_of(line[1][3]), cc1, n1, cc2, n2, (uint8_t *)out, MOST_LISTING);
+    a = reference_list(x.bandwidth, x.cc[0], x.length[0], x.cc[1], x.length[1], (uint8_t *)out, MOST_LISTING);
     if (a.number != 0)
         return refusal_text(a, out);
     return (size_t)a.place;

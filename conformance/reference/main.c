@@ -1,5 +1,6 @@
 /* reference: reads case lines on standard input and writes one line for each.
- * reference --program: reads a text and writes what the program should.
+ * reference --program: reads a text and writes what the program ehtsig should.
+ * reference --compare: reads a text of two captures and writes what the program ehtcompare should.
  * reference --self-test: holds the reference to 01's bench checks and to 004's example.
  * conformance/README.md has the form of a case. */
 #include "reference.h"
@@ -288,12 +289,32 @@ static void case_list(void)
     free(t.bytes);
 }
 
-static void case_text(void)
+static void case_compare(void)
 {
-    static char out[MOST_LISTING];
+    want(8);
+    string s = string_of(2), t = string_of(3), other_s = string_of(5), other_t = string_of(6);
+    size_t room = (size_t)number(7);
+    uint8_t *text = room_for(room);
+    print_answer(reference_compare(bandwidth(1), s.bytes, s.length, t.bytes, t.length, bandwidth(4), other_s.bytes,
+                                   other_s.length, other_t.bytes, other_t.length, text, room));
+    putchar(' ');
+    print_bytes(text, room);
+    free(text);
+    free(s.bytes);
+    free(t.bytes);
+    free(other_s.bytes);
+    free(other_t.bytes);
+}
+
+/* All that a program writes of a text. */
+typedef size_t program(const uint8_t *text, size_t length, char *out);
+
+static void case_text(program *p)
+{
+    static char out[MOST_COMPARISON];
     want(2);
     string t = string_of(1);
-    print_bytes((const uint8_t *)out, reference_program(t.bytes, t.length, out));
+    print_bytes((const uint8_t *)out, p(t.bytes, t.length, out));
     free(t.bytes);
 }
 
@@ -329,7 +350,9 @@ static void run_case(char *line)
     case 'R': case_read(); break;
     case 'W': case_write(); break;
     case 'L': case_list(); break;
-    case 'T': case_text(); break;
+    case 'C': case_compare(); break;
+    case 'T': case_text(reference_program); break;
+    case 'D': case_text(reference_compare_program); break;
     case 't': case_trigger(reference_trigger_read); break;
     case 'u': case_trigger(reference_trigger_write); break;
     case 'o': case_trigger(reference_trigger_overlaps); break;
@@ -338,12 +361,12 @@ static void run_case(char *line)
     putchar('\n');
 }
 
-static int as_program(void)
+static int as_program(program *p)
 {
-    static uint8_t text[8193]; /* a longer text is as wrong as one of this length */
-    static char out[MOST_LISTING];
+    static uint8_t text[2 * MOST_CAPTURE + 1]; /* a longer text is as wrong as one of this length */
+    static char out[MOST_COMPARISON];
     size_t n = fread(text, 1, sizeof text, stdin);
-    n = reference_program(text, n, out);
+    n = p(text, n, out);
     return fwrite(out, 1, n, stdout) == n && fflush(stdout) == 0 ? 0 : 2;
 }
 
@@ -353,9 +376,12 @@ int main(int argc, char **argv)
     if (argc == 2 && strcmp(argv[1], "--self-test") == 0)
         return self_test();
     if (argc == 2 && strcmp(argv[1], "--program") == 0)
-        return as_program();
+        return as_program(reference_program);
+    if (argc == 2 && strcmp(argv[1], "--compare") == 0)
+        return as_program(reference_compare_program);
     if (argc != 1) {
-        fprintf(stderr, "usage: reference <cases, reference --program <text, or reference --self-test\n");
+        fprintf(stderr, "usage: reference <cases, reference --program <text, reference --compare <two captures, or "
+                        "reference --self-test\n");
         return 2;
     }
     while (fgets(line, sizeof line, stdin) != NULL) {

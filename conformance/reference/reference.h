@@ -139,6 +139,25 @@ answer reference_list(uint32_t bandwidth, const uint8_t *cc1, size_t cc1_length,
                       size_t cc2_length, uint8_t *text, size_t room);
 size_t reference_program(const uint8_t *text, size_t length, char out[MOST_LISTING]);
 
+/* A program's text is so many captures, one after the other, each of the three lines named under Listing. */
+#define MOST_CAPTURE 8192
+
+typedef struct {
+    uint32_t bandwidth;
+    size_t length[2];
+    uint8_t cc[2][MOST_CAPTURE]; /* of two captures, one may have all digits that both may have */
+} capture;
+
+answer read_captures(const uint8_t *text, size_t length, unsigned captures, capture *x); /* 0 or 22 */
+size_t refusal_text(answer a, char *text);
+
+/* compare.c: the differences of two frames (02, T-06). */
+#define MOST_COMPARISON 65536
+answer reference_compare(uint32_t bandwidth1, const uint8_t *cc1, size_t cc1_length, const uint8_t *cc2, size_t cc2_length,
+                         uint32_t bandwidth2, const uint8_t *other1, size_t other1_length, const uint8_t *other2,
+                         size_t other2_length, uint8_t *text, size_t room);
+size_t reference_compare_program(const uint8_t *text, size_t length, char out[MOST_COMPARISON]);
+
 /* trigger.c: the EHT variant User Info of a Trigger frame (02, T-02). */
 answer reference_trigger_read(uint32_t bandwidth, const uint8_t *entry, size_t length, uint8_t *bytes, size_t room);
 answer reference_trigger_write(uint32_t bandwidth, const uint8_t *bytes, size_t length, uint8_t *entry, size_t room);

@@ -254,7 +254,8 @@ static void example(void)
               sizeof expected - 1, "a listing's buffer too short");
 }
 
-/* A frame with the given row and stations, its checks right, built for the checks below. */
+/* A frame with the given row and stations, its checks right, built for the checks below. A station's number may have
+ * the other eleven bits of its User field above it. */
 static size_t frame(unsigned bandwidth, const unsigned *row, const uint32_t *stations, uint8_t cc[2][512])
 {
     static layout l;
@@ -272,7 +273,7 @@ static size_t frame(unsigned bandwidth, const unsigned *row, const uint32_t *sta
             put_field(cc[c], 512, first + 10 + covered, 4, check_of(cc[c], 512, first + 10, covered));
         }
         for (unsigned j = 0; j < l.fields[c]; j++, s++)
-            put_field(cc[c], 512, user_field_at(bandwidth, j), 11, stations == NULL ? 0 : stations[s]);
+            put_field(cc[c], 512, user_field_at(bandwidth, j), 22, stations == NULL ? 0 : stations[s]);
         for (unsigned j = 0; j < l.fields[c]; j += 2) {
             unsigned at = user_field_at(bandwidth, j), covered = j + 1 < l.fields[c] ? 44 : 22;
             put_field(cc[c], 512, at + covered, 4, check_of(cc[c], 512, at, covered));
@@ -873,6 +874,250 @@ static void trigger_lists(void)
     expect(pairs[0] == 0xA5, "a refused list writes nothing");
 }
 
+/* 02, T-06: one frame of a comparison, its User fields given as numbers of 22 bits. */
+typedef struct {
+    unsigned bandwidth, overflow, row[16];
+    uint32_t fields[9];
+    uint8_t cc[2][512];
+    size_t length[2];
+} one_frame;
+
+static void build(one_frame *x)
+{
+    unsigned first = x->bandwidth < 2 ? 26 : 35;
+    x->length[0] = x->length[1] = frame(x->bandwidth, x->row, x->fields, x->cc);
+    if (x->bandwidth == 0)
+        x->length[1] = 0;
+    for (unsigned c = 0; c < 2; c++) {
+        put_field(x->cc[c], 512, 0, 17, x->overflow);
+        put_field(x->cc[c], 512, first, 4, check_of(x->cc[c], 512, 0, first));
+    }
+}
+
+static answer compared(const one_frame *x, const one_frame *y, uint8_t *text, size_t room)
+{
+    return reference_compare(x->bandwidth, x->cc[0], x->length[0], x->cc[1], x->length[1], y->bandwidth, y->cc[0],
+                             y->length[0], y->cc[1], y->length[1], text, room);
+}
+
+/* The comparison is this text, in just enough room; and 23 in less, nothing written. */
+static void difference_is(const one_frame *x, const one_frame *y, const char *printed, const char *what)
+{
+    uint8_t text[4000];
+    size_t n = strlen(printed);
+    memset(text, 0xA5, sizeof text);
+    if (n != 0)
+        answer_is(compared(x, y, text, n - 1), 23, 0, n, what);
+    expect(text[0] == 0xA5, what);
+    answer_is(compared(x, y, text, n), 0, 0, n, what);
+    expect(memcmp(text, printed, n) == 0 && text[n] == 0xA5, what);
+}
+
+static void frames_differ(one_frame x, one_frame y, const char *printed, const char *what)
+{
+    build(&x);
+    build(&y);
+    difference_is(&x, &y, printed, what);
+    difference_is(&x, &x, "", what);
+    difference_is(&y, &y, "", what);
+}
+
+/* "Equal readings give no line"; "padding doesn't count". "If one or both are refused, say which and its answer, first
+ * frame first, and compare nothing." "a differing bandwidth, and then nothing more". */
+static void compared_whole(void)
+{
+    one_frame good = {3, 0, {0}, {0}, {{0}}, {23, 23}}, padded, bad, other = {0, 0, {64}, {11}, {{0}}, {0}};
+    memcpy(good.cc[0], channel_1_mended, 23);
+    memcpy(good.cc[1], channel_2, 23);
+    bad = good;
+    memcpy(bad.cc[0], channel_1_printed, 23);
+    build(&other);
+    difference_is(&good, &good, "", "004 beside itself");
+    difference_is(&good, &bad, "frame=2 answer=10 channel=1 place=95\n", "004 beside its printed form");
+    difference_is(&bad, &good, "frame=1 answer=10 channel=1 place=95\n", "and the other way round");
+    difference_is(&bad, &bad, "frame=1 answer=10 channel=1 place=95\nframe=2 answer=10 channel=1 place=95\n", "both refused");
+    padded = good;
+    padded.length[0] = 14; /* 004's channel 1 ends at bit 105, its channel 2 at bit 181 */
+    padded.length[1] = 512;
+    put_field(padded.cc[0], 512, 105, 7, 0x55);
+    memset(padded.cc[1] + 23, 0xFF, 489);
+    put_field(padded.cc[1], 512, 181, 3, 7);
+    difference_is(&good, &padded, "", "another padding");
+    difference_is(&padded, &good, "", "another padding, the other way round");
+    difference_is(&good, &other, "frame=1 bw=3\nframe=2 bw=0\n", "another bandwidth, and then nothing more");
+    difference_is(&other, &good, "frame=1 bw=0\nframe=2 bw=3\n", "another bandwidth, the other way round");
+    difference_is(&bad, &other, "frame=1 answer=10 channel=1 place=95\n", "a refusal comes before the bandwidth");
+    other.bandwidth = 7;
+    difference_is(&good, &other, "frame=2 answer=1 channel=0 place=0\n", "a bandwidth that is none is a refusal");
+    other.bandwidth = 1;
+    difference_is(&other, &bad, "frame=1 answer=3 channel=2 place=0\nframe=2 answer=10 channel=1 place=95\n", "two refusals");
+}
+
+/* "overflow fields by name", raw bits, in sending order: each by itself, and all. */
+static void compared_overflow(void)
+{
+    static const struct {
+        unsigned overflow;
+        const char *printed;
+    } one[] = {{1, "frame=1 spatial-reuse=0\nframe=2 spatial-reuse=1\n"}, {1 << 4, "frame=1 gi-ltf=0\nframe=2 gi-ltf=1\n"},
+               {4 << 6, "frame=1 ltf-symbols=0\nframe=2 ltf-symbols=4\n"}, {1 << 9, "frame=1 ldpc-extra=0\nframe=2 ldpc-extra=1\n"},
+               {2 << 10, "frame=1 pre-fec=0\nframe=2 pre-fec=2\n"},
+               {1 << 12, "frame=1 pe-disambiguity=0\nframe=2 pe-disambiguity=1\n"},
+               {12 << 13, "frame=1 disregard=0\nframe=2 disregard=12\n"}};
+    one_frame x = {0, 0, {64}, {11}, {{0}}, {0}}, y = x;
+    for (unsigned bandwidth = 0; bandwidth <= 4; bandwidth += 2) {
+        x.bandwidth = y.bandwidth = bandwidth;
+        for (unsigned p = 1; p < 16; p++)
+            x.row[p] = y.row[p] = 26;
+        for (unsigned k = 0; k < sizeof one / sizeof one[0]; k++) {
+            y.overflow = one[k].overflow;
+            frames_differ(x, y, one[k].printed, "one overflow field");
+        }
+        y.overflow = 0x1FFFF - (3 << 6);
+        frames_differ(x, y,
+                      "frame=1 spatial-reuse=0\nframe=2 spatial-reuse=15\nframe=1 gi-ltf=0\nframe=2 gi-ltf=3\n"
+                      "frame=1 ltf-symbols=0\nframe=2 ltf-symbols=4\nframe=1 ldpc-extra=0\nframe=2 ldpc-extra=1\n"
+                      "frame=1 pre-fec=0\nframe=2 pre-fec=3\nframe=1 pe-disambiguity=0\nframe=2 pe-disambiguity=1\n"
+                      "frame=1 disregard=0\nframe=2 disregard=15\n", "every overflow field");
+    }
+}
+
+/* "RU Allocation values by position, resources only in one": "The same resource is one of the same size, index and segment
+ * .., however many fields it has". */
+static void compared_values(void)
+{
+    one_frame x = {1, 0, {50, 26}, {11, 12}, {{0}}, {0}}, y = x;
+    y.row[1] = 27;
+    frames_differ(x, y, "frame=1 position=1 value=26\nframe=2 position=1 value=27\n", "a value that has no resource");
+    y.row[1] = 28;
+    frames_differ(x, y,
+                  "frame=1 position=1 value=26\nframe=2 position=1 value=28\n"
+                  "frame=2 ru=242 index=2 segment=0 users=0 tones=3:244\n", "a resource without fields, only in frame 2");
+    frames_differ(y, x,
+                  "frame=1 position=1 value=28\nframe=2 position=1 value=26\n"
+                  "frame=1 ru=242 index=2 segment=0 users=0 tones=3:244\n", "a resource only in frame 1");
+    x.row[0] = 64;
+    y.row[0] = 65;
+    y.row[1] = 26;
+    frames_differ(x, y,
+                  "frame=1 position=0 value=64\nframe=2 position=0 value=65\n"
+                  "frame=2 user=2 sta=12 bits=00000C ru=242 index=1 segment=0\n", "one more field on the same resource");
+    frames_differ(y, x,
+                  "frame=1 position=0 value=65\nframe=2 position=0 value=64\n"
+                  "frame=1 user=2 sta=12 bits=00000C ru=242 index=1 segment=0\n", "one less");
+    x.row[0] = y.row[1] = 72;
+    x.row[1] = y.row[0] = 29;
+    frames_differ(x, y,
+                  "frame=1 position=0 value=72\nframe=2 position=0 value=29\n"
+                  "frame=1 position=1 value=29\nframe=2 position=1 value=72\n", "a 484's field told in the other channel");
+    x.row[0] = x.row[1] = 26;
+    y.row[0] = y.row[1] = 27;
+    frames_differ(x, y,
+                  "frame=1 position=0 value=26\nframe=2 position=0 value=27\n"
+                  "frame=1 position=1 value=26\nframe=2 position=1 value=27\n", "no fields at all");
+}
+
+/* "User fields whose bits or resource differ or that only one has, matched by their place among the User words". */
+static void compared_users(void)
+{
+    one_frame x = {1, 0, {50, 26}, {11, 12}, {{0}}, {0}}, y = x;
+    y.fields[1] |= 0x200000;
+    frames_differ(x, y,
+                  "frame=1 user=2 sta=12 bits=00000C ru=106+26 index=2 segment=0\n"
+                  "frame=2 user=2 sta=12 bits=20000C ru=106+26 index=2 segment=0\n", "bits alone");
+    y.fields[0] = 0x3FFFFE;
+    frames_differ(x, y,
+                  "frame=1 user=1 sta=11 bits=00000B ru=106 index=1 segment=0\n"
+                  "frame=2 user=1 sta=none bits=3FFFFE ru=106 index=1 segment=0\n"
+                  "frame=1 user=2 sta=12 bits=00000C ru=106+26 index=2 segment=0\n"
+                  "frame=2 user=2 sta=12 bits=20000C ru=106+26 index=2 segment=0\n", "a field that is nobody's");
+    y = x;
+    y.row[0] = 48;
+    frames_differ(y, x,
+                  "frame=1 position=0 value=48\nframe=2 position=0 value=50\n"
+                  "frame=1 ru=106+26 index=1 segment=0 users=1 tones=-243:-138,-136:-111\n"
+                  "frame=1 ru=106 index=2 segment=0 users=1 tones=-109:-4\n"
+                  "frame=2 ru=106 index=1 segment=0 users=1 tones=-243:-138\n"
+                  "frame=2 ru=106+26 index=2 segment=0 users=1 tones=-136:-111,-109:-4\n"
+                  "frame=1 user=1 sta=11 bits=00000B ru=106+26 index=1 segment=0\n"
+                  "frame=2 user=1 sta=11 bits=00000B ru=106 index=1 segment=0\n"
+                  "frame=1 user=2 sta=12 bits=00000C ru=106 index=2 segment=0\n"
+                  "frame=2 user=2 sta=12 bits=00000C ru=106+26 index=2 segment=0\n", "the resource alone: 48 beside 50");
+    x.row[0] = y.row[1] = 65;
+    x.row[1] = y.row[0] = 64;
+    x.fields[2] = y.fields[2] = 13;
+    frames_differ(x, y,
+                  "frame=1 position=0 value=65\nframe=2 position=0 value=64\n"
+                  "frame=1 position=1 value=64\nframe=2 position=1 value=65\n"
+                  "frame=1 user=2 sta=12 bits=00000C ru=242 index=1 segment=0\n"
+                  "frame=2 user=2 sta=12 bits=00000C ru=242 index=2 segment=0\n", "channel 1's fields are counted first");
+    x.row[1] = 26;
+    frames_differ(x, y,
+                  "frame=1 position=0 value=65\nframe=2 position=0 value=64\n"
+                  "frame=1 position=1 value=26\nframe=2 position=1 value=65\n"
+                  "frame=2 ru=242 index=2 segment=0 users=2 tones=3:244\n"
+                  "frame=1 user=2 sta=12 bits=00000C ru=242 index=1 segment=0\n"
+                  "frame=2 user=2 sta=12 bits=00000C ru=242 index=2 segment=0\n"
+                  "frame=2 user=3 sta=13 bits=00000D ru=242 index=2 segment=0\n", "fields past the shorter frame");
+}
+
+/* 004's frame, and the same with a 484+242 made a 484 that the same two have, its third 242 left empty. */
+static void compared_example(void)
+{
+    one_frame x = {3, 0x1E6BF, {26, 97, 29, 29, 120, 29, 28, 50}, {0x31C5A3, 0x04D5A1, 0x04A5A2, 0x10A5A4, 0x10BDA5}, {{0}}, {0}},
+              y = {3, 0x1E6BF, {26, 28, 72, 72, 120, 29, 28, 50}, {0x04D5A1, 0x31C5A3, 0x04A5A2, 0x10A5A4, 0x10BDA5}, {{0}}, {0}};
+    frames_differ(x, y,
+                  "frame=1 position=1 value=97\nframe=2 position=1 value=28\n"
+                  "frame=1 position=2 value=29\nframe=2 position=2 value=72\n"
+                  "frame=1 position=3 value=29\nframe=2 position=3 value=72\n"
+                  "frame=1 ru=484+242 index=1 segment=0 users=2 tones=-765:-524,-500:-259,-253:-12\n"
+                  "frame=2 ru=242 index=2 segment=0 users=0 tones=-765:-524\n"
+                  "frame=2 ru=484 index=2 segment=0 users=2 tones=-500:-259,-253:-12\n"
+                  "frame=1 user=1 sta=1443 bits=31C5A3 ru=484+242 index=4 segment=1\n"
+                  "frame=2 user=1 sta=1441 bits=04D5A1 ru=484 index=2 segment=0\n"
+                  "frame=1 user=2 sta=1441 bits=04D5A1 ru=484+242 index=1 segment=0\n"
+                  "frame=2 user=2 sta=1443 bits=31C5A3 ru=484+242 index=4 segment=1\n"
+                  "frame=1 user=3 sta=1442 bits=04A5A2 ru=484+242 index=1 segment=0\n"
+                  "frame=2 user=3 sta=1442 bits=04A5A2 ru=484 index=2 segment=0\n", "a 484+242 beside a 242 and a 484");
+    build(&x);
+    expect(memcmp(x.cc[0], channel_1_mended, 23) == 0 && memcmp(x.cc[1], channel_2, 23) == 0, "004's channels, from its fields");
+}
+
+static void pair_of_texts_is(const char *text, const char *expected)
+{
+    static char out[MOST_COMPARISON];
+    size_t n = reference_compare_program((const uint8_t *)text, strlen(text), out);
+    expect(n == strlen(expected) && memcmp(out, expected, n) == 0, text);
+}
+
+/* 22 of two captures: six lines, in each the first wrong one; and 16,384 bytes in all. */
+static void compared_texts(void)
+{
+    static char out[MOST_COMPARISON];
+    static uint8_t longest[16385];
+    pair_of_texts_is("", "answer=22\nchannel=0\nplace=1\n");
+    pair_of_texts_is("bw=1\ncc1=ab\ncc2=\n", "answer=22\nchannel=0\nplace=2\n");
+    pair_of_texts_is("bw=1\ncc1=\ncc2=", "answer=22\nchannel=0\nplace=3\n");
+    pair_of_texts_is("bw=1\ncc1=\ncc2=bw=1\ncc1=\ncc2=\n", "answer=22\nchannel=0\nplace=3\n");
+    pair_of_texts_is("bw=1\ncc1=\ncc2=\n", "answer=22\nchannel=0\nplace=4\n");
+    pair_of_texts_is("bw=1\ncc1=\ncc2=\n\n", "answer=22\nchannel=0\nplace=4\n");
+    pair_of_texts_is("bw=1\ncc1=\ncc2=\ncc1=\nbw=1\ncc2=\n", "answer=22\nchannel=0\nplace=4\n");
+    pair_of_texts_is("bw=1\ncc1=\ncc2=\nbw=1\ncc1=A\ncc2=\n", "answer=22\nchannel=0\nplace=5\n");
+    pair_of_texts_is("bw=1\ncc1=\ncc2=\nbw=1\ncc1=\ncc2=", "answer=22\nchannel=0\nplace=6\n");
+    pair_of_texts_is("bw=1\ncc1=\ncc2=\nbw=1\ncc1=\ncc2=\nbw=1\n", "answer=22\nchannel=0\nplace=7\n");
+    pair_of_texts_is("bw=1\ncc1=\ncc2=\nbw=1\ncc1=\ncc2=\nx", "answer=22\nchannel=0\nplace=7\n");
+    pair_of_texts_is("bw=1\ncc1=\ncc2=\nbw=9\ncc1=\ncc2=\n",
+                     "frame=1 answer=3 channel=1 place=0\nframe=2 answer=1 channel=0 place=0\n");
+    memcpy(longest, "bw=1\ncc1=", 9);
+    memset(longest + 9, '0', 16376);
+    memcpy(longest + 16384 - 21, "\ncc2=\nbw=5\ncc1=\ncc2=\n", 21);
+    expect(reference_compare_program(longest, 16384, out) == 70
+        && memcmp(out, "frame=1 answer=2 channel=1 place=0\nframe=2 answer=1 channel=0 place=0\n", 70) == 0,
+           "16,384 bytes are read, nearly all of them the first capture's");
+    expect(reference_compare_program(longest, 16385, out) == 28 && memcmp(out, "answer=22\nchannel=0\nplace=0\n", 28) == 0,
+           "16,385 bytes are too many");
+}
+
 int self_test(void)
 {
     bits_and_fields();
@@ -895,6 +1140,12 @@ int self_test(void)
     trigger_writer();
     trigger_overlaps();
     trigger_lists();
+    compared_whole();
+    compared_overflow();
+    compared_values();
+    compared_users();
+    compared_example();
+    compared_texts();
     printf("reference: held to the papers\n%d passed, %d failed\n", passed, failed);
     return failed != 0;
 }
