@@ -2,15 +2,17 @@
  * bench --calls ENTRY BANDWIDTH KIND SIDE TIMES: only makes so many calls on one such frame, for counting what they
  * execute.
  * bench --trigger-calls KIND SIDE TIMES: the same of a Trigger's entries (triggers.c).
+ * bench --compare-calls KIND SIDE TIMES: the same of two frames (compares.c).
  *
  * For each kind of frame the library and the baseline are timed in turn, round by round, in one process: nanoseconds
  * per frame in the best round of each, and the library's ratio to the baseline, the median over the rounds. Before
  * that both are held to the reference on every frame. The frames: of each bandwidth with few User fields, drawn at
- * random, and all 0, with the geometric mean of their ratios and the worst of them; and of each refusal. Then a
- * Trigger's entries (triggers.c), and the check alone (check.c).
+ * random, and all 0, with the geometric mean of their ratios and the worst of them; and of each refusal. Then two frames
+ * compared (compares.c), a Trigger's entries (triggers.c), and the check alone (check.c).
  */
 #include "cases/cases.h"
 #include "check.h"
+#include "compares.h"
 #include "fast.h"
 #include "reference/reference.h"
 #include "rounds.h"
@@ -253,6 +255,10 @@ int main(int argc, char **argv)
         call_triggers((unsigned)atoi(argv[2]), atoi(argv[3]), atoi(argv[4]));
         return 0;
     }
+    if (argc == 5 && strcmp(argv[1], "--compare-calls") == 0) {
+        call_comparisons((unsigned)atoi(argv[2]), atoi(argv[3]), atoi(argv[4]));
+        return 0;
+    }
     if (argc == 2)
         round_ns = 1e6 * atof(argv[1]);
     entry = READ;
@@ -265,6 +271,7 @@ int main(int argc, char **argv)
     entry = LIST;
     print_accepted(&c, "listing");
     print_refusals(&c, 23, 23);
+    print_comparisons();
     print_triggers();
     print_check_alone();
     return 0;

@@ -1,9 +1,10 @@
-/* A fast reader, writer and lister in C, the baseline that the proved ones are timed against.
+/* A fast reader, writer, lister and comparer in C, the baseline that the proved ones are timed against.
  *
  * A channel is read through windows of 64 bits, of which a block's 54 are one. The check is worked out a
  * byte at a time, the bytes' shares looked up side by side. Each value has a mask of the owners it fits at
  * each position, so that a segment's plan is found by a few ANDs. Repeated stations are found in a bitmap.
- * The writer judges the words as they stand, with no reading back. A Trigger's resource is looked up by its value, with
+ * The writer judges the words as they stand, with no reading back. Two frames' resources are compared position by position:
+ * a larger one by the owners, the others by sets of pieces. A Trigger's resource is looked up by its value, with
  * the 26s that it covers as a mask: two that overlap share one.
  *
  * Compiled with AS_LIBRARY, the functions have the library's names.
@@ -920,6 +921,232 @@ brachymel_answer NAME(list)(uint32_t bandwidth, const uint8_t *cc1, size_t cc1_l
     if (text_len < length)
         return say(23, 0, length);
     if (start == own)
+        memcpy(text, own, length);
+    return say(0, 0, length);
+}
+
+/* ---- two frames compared */
+
+/* The pieces of a value, one bit for each size and place; a 242 is bit 40. */
+static uint64_t piece_set[128];
+
+static inline int is_242(unsigned v)
+{
+    return v == 28 || v >= 64;
+}
+
+__attribute__((constructor)) static void prepare_pieces(void)
+{
+    for (unsigned v = 0; v < 128; v++) {
+        uint8_t size[9], place[9];
+        unsigned n = pieces(v, size, place);
+        piece_set[v] = is_242(v) ? UINT64_C(1) << 40 : 0;
+        for (unsigned k = 0; k < n; k++)
+            piece_set[v] |= UINT64_C(1) << (10 * size[k] + place[k]);
+    }
+}
+
+static char *put_frame(char *t, int side)
+{
+    memcpy(t, "frame=1 ", 8);
+    t[6] = (char)('1' + side);
+    return t + 8;
+}
+
+static char *put_refused(char *t, int side, brachymel_answer a)
+{
+    if (a.number == 0)
+        return t;
+    t = put_number(PUT(put_frame(t, side), "answer="), a.number);
+    t = put_number(PUT(t, " channel="), a.channel);
+    t = put_number(PUT(t, " place="), (unsigned)a.place);
+    *t++ = '\n';
+    return t;
+}
+
+/* Lines of both sides, each a name and a number. */
+static char *put_both(char *t, const char *name, size_t length, unsigned first, unsigned second)
+{
+    for (int side = 0; side < 2; side++) {
+        t = put_number(put_text(put_frame(t, side), name, length), side == 0 ? first : second);
+        *t++ = '\n';
+    }
+    return t;
+}
+
+static char *put_overflows(char *t, uint64_t x, uint64_t y)
+{
+    static const struct {
+        char name[17];
+        uint8_t length, at, bits;
+    } field[7] = {{"spatial-reuse=", 14, 0, 4}, {"gi-ltf=", 7, 4, 2}, {"ltf-symbols=", 12, 6, 3}, {"ldpc-extra=", 11, 9, 1},
+                  {"pre-fec=", 8, 10, 2}, {"pe-disambiguity=", 16, 12, 1}, {"disregard=", 10, 13, 4}};
+    for (unsigned k = 0; k < 7; k++)
+        if (low((x ^ y) >> field[k].at, field[k].bits) != 0)
+            t = put_both(t, field[k].name, field[k].length, (unsigned)low(x >> field[k].at, field[k].bits),
+                         (unsigned)low(y >> field[k].at, field[k].bits));
+    return t;
+}
+
+static char *put_values(char *t, const plan *x, const plan *y)
+{
+    for (unsigned p = 0; p < x->positions; p++)
+        if (x->v[p] != y->v[p])
+            for (int side = 0; side < 2; side++) {
+                t = put_number(PUT(put_frame(t, side), "position="), p);
+                t = put_number(PUT(t, " value="), side == 0 ? x->v[p] : y->v[p]);
+                *t++ = '\n';
+            }
+    return t;
+}
+
+/* Whether p is the lowest place of a larger resource. */
+static inline int begins(unsigned owner, unsigned p)
+{
+    return owner == PAIR ? p % 2 == 0 : p % 4 == (owner == BUT_FIRST);
+}
+
+/* The resources that x has and y has not. */
+static char *put_only(char *t, int side, const plan *x, const plan *y)
+{
+    for (unsigned p = 0; p < x->positions; p++) {
+        unsigned v = x->v[p], owner = x->owner[p];
+        if (owner != SELF) {
+            if (owner != y->owner[p] && begins(owner, p)) {
+                t = put_larger(put_frame(t, side), x, p);
+                *t++ = '\n';
+            }
+        } else {
+            uint64_t others = y->owner[p] == SELF ? piece_set[y->v[p]] : 0;
+            uint8_t size[9], place[9];
+            unsigned n;
+            if ((piece_set[v] & ~others) == 0)
+                continue;
+            if (is_242(v)) {
+                t = put_242(RESOURCE(put_frame(t, side), "242", p % 4 + 1, p / 4, fields_of[v]), p, x->positions);
+                *t++ = '\n';
+                continue;
+            }
+            n = pieces(v, size, place);
+            for (unsigned k = 0; k < n; k++)
+                if (!(others >> (10 * size[k] + place[k]) & 1)) {
+                    t = put_piece(put_frame(t, side), size[k], place[k], p, x->positions);
+                    *t++ = '\n';
+                }
+        }
+    }
+    return t;
+}
+
+/* A resource as a number: size, index, segment. */
+enum { OF_26, OF_52, OF_106, OF_106_26, OF_242, OF_484, OF_996, OF_484_242 };
+
+static inline uint16_t naming(unsigned size, unsigned index, unsigned seg)
+{
+    return (uint16_t)(size << 8 | index << 2 | seg);
+}
+
+/* Of each User field, in the order of the words, its resource. */
+static void name_owners(const plan *l, uint16_t *of)
+{
+    static const uint8_t each[4] = {9, 4, 2, 2};
+    unsigned at[2] = {0, l->n[0]};
+    for (unsigned p = 0; p < l->positions; p++) {
+        unsigned v = l->v[p], owner = l->owner[p], n = fields_of[v], q = p % 4;
+        uint16_t *mine = of + at[p % 2];
+        uint8_t size[9], place[9];
+        at[p % 2] += n;
+        if (n == 0)
+            continue;
+        if (owner == SELF && !is_242(v)) {
+            pieces(v, size, place);
+            for (unsigned k = 0; k < n; k++)
+                mine[k] = naming(size[k], each[size[k]] * q + place[k] + (size[k] == 0 && q >= 2), p / 4);
+        } else {
+            uint16_t one = naming(OF_242, q + 1, p / 4);
+            if (owner == PAIR)
+                one = naming(OF_484, q / 2 + 1, p / 4);
+            else if (owner == WHOLE)
+                one = naming(OF_996, 1, p / 4);
+            else if (owner != SELF)
+                one = naming(OF_484_242, (unsigned)__builtin_ctz(owner / BUT_FIRST) + 1, p / 4);
+            for (unsigned k = 0; k < n; k++)
+                mine[k] = one;
+        }
+    }
+}
+
+static char *put_user(char *t, int side, unsigned k, uint32_t bits, uint16_t of)
+{
+    static const char digit[] = "0123456789ABCDEF";
+    static const struct {
+        char name[12];
+        uint8_t length;
+    } size[8] = {{" ru=26", 6}, {" ru=52", 6}, {" ru=106", 7}, {" ru=106+26", 10}, {" ru=242", 7}, {" ru=484", 7}, {" ru=996", 7},
+                 {" ru=484+242", 11}};
+    t = put_number(PUT(put_frame(t, side), "user="), k + 1);
+    *t++ = ' ';
+    t = PUT(put_station(t, bits & 0x7FF), " bits=");
+    for (int shift = 20; shift >= 0; shift -= 4)
+        *t++ = digit[bits >> shift & 15];
+    t = put_text(t, size[of >> 8].name, size[of >> 8].length);
+    t = put_number(PUT(t, " index="), of >> 2 & 63);
+    t = put_number(PUT(t, " segment="), of & 3);
+    *t++ = '\n';
+    return t;
+}
+
+static char *put_users(char *t, const parsed *x, const parsed *y)
+{
+    uint16_t of_x[144], of_y[144];
+    unsigned both = x->total < y->total ? x->total : y->total;
+    name_owners(&x->plan, of_x);
+    name_owners(&y->plan, of_y);
+    for (unsigned k = 0; k < both; k++)
+        if (x->field[k] != y->field[k] || of_x[k] != of_y[k]) {
+            t = put_user(t, 0, k, x->field[k], of_x[k]);
+            t = put_user(t, 1, k, y->field[k], of_y[k]);
+        }
+    for (unsigned k = both; k < x->total; k++)
+        t = put_user(t, 0, k, x->field[k], of_x[k]);
+    for (unsigned k = both; k < y->total; k++)
+        t = put_user(t, 1, k, y->field[k], of_y[k]);
+    return t;
+}
+
+static char *put_differences(char *t, const parsed *x, const parsed *y)
+{
+    int same_row = memcmp(x->plan.v, y->plan.v, x->plan.positions) == 0;
+    t = put_overflows(t, x->head, y->head);
+    if (!same_row) {
+        t = put_values(t, &x->plan, &y->plan);
+        t = put_only(t, 0, &x->plan, &y->plan);
+        t = put_only(t, 1, &y->plan, &x->plan);
+    }
+    if (!same_row || memcmp(x->field, y->field, x->total * sizeof x->field[0]) != 0)
+        t = put_users(t, x, y);
+    return t;
+}
+
+brachymel_answer NAME(compare)(uint32_t bandwidth1, const uint8_t *cc1, size_t cc1_len, const uint8_t *cc2, size_t cc2_len,
+                               uint32_t bandwidth2, const uint8_t *other1, size_t other1_len, const uint8_t *other2,
+                               size_t other2_len, uint8_t *text, size_t text_len)
+{
+    char own[BRACHYMEL_COMPARE_SIZE], *start = text_len >= BRACHYMEL_COMPARE_SIZE ? (char *)text : own, *t = start;
+    parsed x, y;
+    size_t length;
+    brachymel_answer a = parse(bandwidth1, cc1, cc1_len, cc2, cc2_len, &x);
+    brachymel_answer b = parse(bandwidth2, other1, other1_len, other2, other2_len, &y);
+    if (a.number != 0 || b.number != 0)
+        t = put_refused(put_refused(t, 0, a), 1, b);
+    else if (bandwidth1 != bandwidth2)
+        t = put_both(t, "bw=", 3, bandwidth1, bandwidth2);
+    else
+        t = put_differences(t, &x, &y);
+    length = (size_t)(t - start);
+    if (text_len < length)
+        return say(23, 0, length);
+    if (start == own && length != 0)
         memcpy(text, own, length);
     return say(0, 0, length);
 }

@@ -11,6 +11,10 @@ brachymel_answer fast_write(uint32_t bandwidth, const uint8_t *words, size_t wor
 brachymel_answer fast_list(uint32_t bandwidth, const uint8_t *cc1, size_t cc1_len, const uint8_t *cc2, size_t cc2_len,
                            uint8_t *text, size_t text_len);
 
+brachymel_answer fast_compare(uint32_t bandwidth1, const uint8_t *cc1, size_t cc1_len, const uint8_t *cc2, size_t cc2_len,
+                              uint32_t bandwidth2, const uint8_t *other1, size_t other1_len, const uint8_t *other2,
+                              size_t other2_len, uint8_t *text, size_t text_len);
+
 brachymel_answer fast_trigger_read(uint32_t bandwidth, const uint8_t *entry, size_t entry_len, uint8_t *record,
                                    size_t record_len);
 brachymel_answer fast_trigger_write(uint32_t bandwidth, const uint8_t *record, size_t record_len, uint8_t *entry,

@@ -1,6 +1,6 @@
 /* brachymel.h: the EHT-SIG field of a downlink OFDMA EHT MU PPDU (Wi-Fi 7, IEEE 802.11be), read into the
- * radiotap EHT words, written from them, and listed as text; and the EHT variant User Info of Trigger frames, read,
- * written, and searched for overlaps.
+ * radiotap EHT words, written from them, listed as text, and compared with another; and the EHT variant User Info of
+ * Trigger frames, read, written, and searched for overlaps.
  *
  * Link with libbrachymel.a, which is built for x86-64 Linux. C99; usable from C++.
  *
@@ -14,7 +14,8 @@
  *   than 0 is a refusal, and a refused call writes nothing. Bytes past what an accepted call writes keep what
  *   they held.
  * - A length is that of the memory lent, in bytes. An empty buffer may be lent as NULL, 0. Buffers that one
- *   call writes must not overlap each other, nor those that it reads.
+ *   call writes must not overlap each other, nor those that it reads. Those that it only reads may: a frame may be
+ *   compared with itself in the same memory.
  * - The functions keep no state and allocate nothing: any number of threads may call them at once, each with
  *   buffers of its own.
  */
@@ -59,21 +60,22 @@ enum {
     BRACHYMEL_ENTRY_LENGTH = 15,     /* trigger_read: not five bytes; trigger_overlaps: not whole entries: 0, 0 */
     BRACHYMEL_ENTRY_BITS = 16,       /* PS160 or B0 of the RU Allocation is set: 0, 0 (of a list 0, the entry from 1) */
     BRACHYMEL_ENTRY_VALUE = 17,      /* value not named or too wide: 0, 0 (of a list 0, the entry); trigger_write: no five bytes read to this record: 0, 0 */
-    BRACHYMEL_TEXT = 22,             /* the program's input text is not its three lines: 0, first wrong line (0: too long); no call here gives it */
-    BRACHYMEL_LISTING_ROOM = 23,     /* list, trigger_read, trigger_write: the buffer is too short: 0, bytes needed */
+    BRACHYMEL_TEXT = 22,             /* a program's input text is not its lines: 0, first wrong line (0: too long); no call here gives it */
+    BRACHYMEL_LISTING_ROOM = 23,     /* list, compare, trigger_read, trigger_write: the buffer is too short: 0, bytes needed */
     BRACHYMEL_SPECIAL = 24,          /* AID12 is 2007, which has a layout of its own: 0, 0 (of a list 0, the entry from 1) */
     BRACHYMEL_TOO_MANY_ENTRIES = 25, /* trigger_overlaps: over 32 entries: 0, 0 */
     BRACHYMEL_PAIRS_ROOM = 26        /* trigger_overlaps: room for fewer pairs than there are: 0, 0 */
 };
 
-/* Sizes, in bytes, that always suffice. No smaller one does: 320 MHz with all values 0 needs each of the last three,
- * the listing where every STA-ID has four digits, at most 44 of them 2046. A call with too little room is refused with
- * what it needs. */
+/* Sizes, in bytes, that always suffice. No smaller one does of words, channel and listing: 320 MHz with all values 0
+ * needs each, the listing where every STA-ID has four digits, at most 44 of them 2046. A call with too little room is
+ * refused with what it needs. */
 enum {
     BRACHYMEL_CHANNEL_LIMIT = 512,   /* a longer channel is refused */
     BRACHYMEL_WORDS_SIZE = 616,      /* 154 words: 10, and 144 User fields */
     BRACHYMEL_CHANNEL_SIZE = 257,    /* a channel that is written */
-    BRACHYMEL_LISTING_SIZE = 10131   /* a listing: proved to be the longest */
+    BRACHYMEL_LISTING_SIZE = 10131,  /* a listing: proved to be the longest */
+    BRACHYMEL_COMPARE_SIZE = 29466   /* a comparison: proved to suffice; the longest known has 27,148 */
 };
 
 /* The STA-ID (bits 8 to 18) of a User word whose resource nobody has. Such a field is read and written as any other, though
@@ -95,6 +97,20 @@ brachymel_answer brachymel_write(uint32_t bandwidth, const uint8_t *words, size_
  * none for its number, and its resource. Refusals 1 to 11, then 23. */
 brachymel_answer brachymel_list(uint32_t bandwidth, const uint8_t *cc1, size_t cc1_len, const uint8_t *cc2, size_t cc2_len,
                                 uint8_t *text, size_t text_len);
+
+/* Compares two frames and writes their differences as text: lines that each begin with frame=1 or frame=2, say what that
+ * frame has, and end with a line feed; no terminating zero. Accepted, with the text's bytes as place: 0, no line, where
+ * both frames are accepted, have the same bandwidth and read to the same words, and only there. Padding does not count.
+ * A refused frame does not refuse the call: it has a line of the text with its answer, channel and place, which are those
+ * of reading, 1 to 11; where one or both are refused, nothing is compared. Otherwise, in this order, frame 1's line before
+ * frame 2's: a differing bandwidth, and then nothing more; overflow fields, as the raw bits; RU Allocation values, their
+ * positions from 0; resources that only one has, as the listing's lines, those of frame 1 first, the same resource being
+ * one of the same size, index and segment; User fields whose bits or resource differ, or that only one has, matched by
+ * their place among the User words, from 1, bits= being the 22 bits as a number, first sent bit lowest, in hex digits.
+ * Refusal 23. */
+brachymel_answer brachymel_compare(uint32_t bandwidth1, const uint8_t *cc1, size_t cc1_len, const uint8_t *cc2, size_t cc2_len,
+                                   uint32_t bandwidth2, const uint8_t *other1, size_t other1_len, const uint8_t *other2, size_t other2_len,
+                                   uint8_t *text, size_t text_len);
 
 /* Trigger frames: the EHT variant User Info of 20, 40 and 80 MHz. An entry is five bytes, 40 bits, lowest bit first:
  * AID12 12 bits, RU Allocation 8 (its lowest bit is B0), coding 1, MCS 4, reserved 1, SS allocation 6, target receive
