@@ -26,7 +26,8 @@ use Rattle.records.specs.Records.{lead, resourceColumn, larger, listAt, records
 use Rattle.records.proofs.Listing.{same-records}
 use Rattle.trigger_values.specs.Values.{named, resourceOf, reaches, taken}
 use Rattle.trigger_values.proofs.Back.{named-low, taken-named}
-use Rattle.trigger_values.proofs.OneToOne.{same, same-resource}
+use Rattle.resource.proofs.Names.{same-named}
+use Rattle.trigger_values.proofs.OneToOne.{same}
 use Rattle.claims.specs.Trigger.{HeldBySome}
 
 -- the value at position p of a row whose plan holds the resource of value v: all positions alike, but for a 106+26 and a 484+242
@@ -51,7 +52,7 @@ has r (x ∷ xs) = same (x .resource) r || has r xs
 
 same-is : (r s : Resource) → T (same r s) → r ≡ s
 same-is r s t =
-    same-resource r s (eqb→eq (nameOf r) (nameOf s) (both-left (eqb (nameOf r) (nameOf s)) (eqb (numberOf r) (numberOf s)) t))
+    same-named r s (eqb→eq (nameOf r) (nameOf s) (both-left (eqb (nameOf r) (nameOf s)) (eqb (numberOf r) (numberOf s)) t))
     (eqb→eq (numberOf r) (numberOf s) (both-right (eqb (nameOf r) (nameOf s)) (eqb (numberOf r) (numberOf s)) t))
 
 abbrev HasAt : Resource → List Record → Type 0

@@ -13,11 +13,8 @@ use Rattle.answer.specs.declared.Outcome.the-variants.{Pass}
 use Rattle.answer.proofs.Lists.{getD-filled}
 use Rattle.bits.specs.Bits.{field}
 use Rattle.bits.proofs.Fields.{field-lt}
-use Rattle.resource.specs.declared.Size.the-variants.{S26, S52, S106, S242, S484, S996}
-use Rattle.resource.specs.declared.Pairing.the-variants.{P106And26, P484And242}
-use Rattle.resource.specs.declared.Resource.{Resource}
-use Rattle.resource.specs.declared.Resource.the-variants.{Single, Joined}
 use Rattle.resource.specs.Names.{nameOf, numberOf}
+use Rattle.resource.proofs.Names.{named-back}
 use Rattle.plan.specs.Worked.{thePlan}
 use Rattle.plan.specs.Signals.{Signals}
 use Rattle.records.specs.declared.Record.{Record}
@@ -37,7 +34,7 @@ use Rattle.user_codes.proofs.Fields.{planCodes, owned-code, owner-index, owner-
 use Rattle.compared.specs.Reading.{user-is, userBits, readingOf, sameResource}
 use Rattle.compared.specs.Differences.{by}
 use Rattle.compared.specs.Text.{sideText, userLine, itemLine, differenceLine}
-use Rattle.difference_lines.specs.Engine.{resourceNamed, bitsPart, codeLine}
+use Rattle.difference_lines.specs.Engine.{bitsPart, codeLine}
 use Rattle.compare.specs.Engine.{codeIn72, codeAt, channelCodes, frameCode}
 
 -- ---- each part has its room
@@ -79,17 +76,6 @@ code-same f g x y h k l m =
     ∙ ap (λ (z : Bool). eqb (nameOf r) (nameOf t) && z) (index-apart (numberOf r) (numberOf t) (x .segment) (y .segment) l m))
 
 -- ---- the line that is made of a number
-named : (r : Resource) → resourceNamed (nameOf r) (numberOf r) ≡ r
-unfolding resourceNamed
-named (Single S26 i) = refl
-named (Single S52 i) = refl
-named (Single S106 i) = refl
-named (Single S242 i) = refl
-named (Single S484 i) = refl
-named (Single S996 i) = refl
-named (Joined P106And26 i) = refl
-named (Joined P484And242 i) = refl
-
 -- the parts of a number, back
 module _ (f n i g : ℕ) (h : f < 4194304) (k : n < 4096) (l : i ≤ 255) (m : g ≤ 255) where
   abbrev code : ℕ
@@ -127,7 +113,7 @@ coded n s i f z h l m =
       size-back f (nameOf r) (numberOf r) (z .segment) h k l m,
       index-back f (nameOf r) (numberOf r) (z .segment) h k l m,
       segment-back f (nameOf r) (numberOf r) (z .segment) h k l m,
-      named r,
+      named-back r,
     )
     (joined (sideText s) (bitsPart i f) _ _)
 

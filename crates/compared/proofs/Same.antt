@@ -1,17 +1,14 @@
 -- "The same resource is one of the same size, index and segment (so of the same subcarriers), however many fields it has" (02, T-06).
 use mathlib.Core.Path.{_≡_, refl, sym, _∙_, ap, ap₂}
-use mathlib.Core.Bool.{Bool, true, false, cond, _&&_, _||_, false≢true}
+use mathlib.Core.Bool.{Bool, true, false, _&&_, _||_, false≢true}
 use mathlib.Core.List.{List, [], _∷_, List·Memᴰ, List·Memᴰ·head, List·Memᴰ·tail}
 use Prim.Native.Nat.{ℕ}
 use lib.Dec.{eqb}
 use borrow.Author.Tests.{eq-eqb, eqb-true}
 use Rattle.answer.specs.Decides.{Decides}
-use Rattle.resource.specs.declared.Size.the-variants.{S26, S52, S106, S242, S484, S996}
-use Rattle.resource.specs.declared.Pairing.the-variants.{P106And26, P484And242}
-use Rattle.resource.specs.declared.Resource.{Resource}
-use Rattle.resource.specs.declared.Resource.the-variants.{Single, Joined}
 use Rattle.resource.specs.Names.{nameOf, numberOf}
 use Rattle.resource.specs.Tones.{tonesOf}
+use Rattle.resource.proofs.Names.{same-named}
 use Rattle.records.specs.declared.Record.{Record}
 use Rattle.compared.specs.Reading.{sameResource, hasSame}
 
@@ -22,30 +19,6 @@ of-both false t e = absurd (false≢true e)
 
 pub both : (s t : Bool) → s ≡ true → t ≡ true → s && t ≡ true
 both s t p q = rw (p, q)
-
--- ---- a resource is known by its size and its index
-abbrev called : ℕ → ℕ → Resource
-called s i =
-    cond (eqb s 26) (Single S26 i)
-    (cond (eqb s 52) (Single S52 i)
-    (cond (eqb s 106) (Single S106 i)
-    (cond (eqb s 242) (Single S242 i)
-    (cond (eqb s 484) (Single S484 i)
-    (cond (eqb s 996) (Single S996 i)
-    (cond (eqb s 132) (Joined P106And26 i) (Joined P484And242 i)))))))
-
-called-back : (r : Resource) → called (nameOf r) (numberOf r) ≡ r
-called-back (Single S26 i) = refl
-called-back (Single S52 i) = refl
-called-back (Single S106 i) = refl
-called-back (Single S242 i) = refl
-called-back (Single S484 i) = refl
-called-back (Single S996 i) = refl
-called-back (Joined P106And26 i) = refl
-called-back (Joined P484And242 i) = refl
-
-named-same : (r s : Resource) → nameOf r ≡ nameOf s → numberOf r ≡ numberOf s → r ≡ s
-named-same r s e f = sym (called-back r) ∙ ap₂ called e f ∙ called-back s
 
 -- ---- what the test says
 module _ (y z : Record) where
@@ -60,7 +33,7 @@ module _ (y z : Record) where
   same-says e =
       let p = of-both (eqb (nameOf (y .resource)) (nameOf (z .resource))) _ e in
       let q = of-both (eqb (numberOf (y .resource)) (numberOf (z .resource))) (eqb (y .segment) (z .segment)) (p .1) in
-      (named-same (y .resource) (z .resource) (eqb-true _ _ (p .0)) (eqb-true _ _ (q .0)), eqb-true _ _ (q .1))
+      (same-named (y .resource) (z .resource) (eqb-true _ _ (p .0)) (eqb-true _ _ (q .0)), eqb-true _ _ (q .1))
 
   -- the test decides whether it is the same resource of the same segment ..
   pub same-resource : Decides (sameResource y z) ((y .resource ≡ z .resource) × (y .segment ≡ z .segment))

@@ -11,7 +11,8 @@ ghost use Rattle.input.specs.Form.{hexDigit};
 ghost use Rattle.compared.specs.Reading.{refused-with, bandwidth-is, overflow-is, value-is};
 ghost use Rattle.compared.specs.Differences.{by};
 ghost use Rattle.compared.specs.Text.{overflowName, bitsText, sideText, differenceLine};
-ghost use Rattle.difference_lines.specs.Engine.{resourceNamed, bitsPart, codeLine};
+ghost use Rattle.difference_lines.specs.Engine.{bitsPart, codeLine};
+ghost use Rattle.resource.specs.Engine.{resourceNamed};
 
 // Which frame has the line: 1 or 2.
 pub fn put_side(out: &mut [u8], at: usize, side: u8) -> usize

@@ -10,3 +10,4 @@ pub mod Starts
 pub mod Held
 pub mod Few
 pub mod Pieces
+pub mod Names

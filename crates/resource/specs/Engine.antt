@@ -171,3 +171,14 @@ noRun = run 0 0
 
 unfoldable pub held : List Run → Tones
 held rs = record { count = length rs; runs = take 3 (rs ++ (noRun ∷ noRun ∷ noRun ∷ [])) }
+
+-- ---- back from a name: the resource of so many subcarriers with this index
+unfoldable pub resourceNamed : ℕ → ℕ → Resource
+resourceNamed n i =
+    cond (eqb n 26) (Single S26 i)
+    (cond (eqb n 52) (Single S52 i)
+    (cond (eqb n 106) (Single S106 i)
+    (cond (eqb n 242) (Single S242 i)
+    (cond (eqb n 484) (Single S484 i)
+    (cond (eqb n 996) (Single S996 i)
+    (cond (eqb n 132) (Joined P106And26 i) (Joined P484And242 i)))))))

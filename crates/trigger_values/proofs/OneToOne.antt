@@ -1,13 +1,11 @@
 -- Values and resources of 20, 40 and 80 MHz are one-to-one.
-use mathlib.Core.Path.{_≡_, refl, sym, _∙_, ap, ap₂, subst}
+use mathlib.Core.Path.{_≡_, sym, _∙_, ap, subst}
 use mathlib.Core.Logic.{_⊎_, inl, inr, ⊎-elim}
 use mathlib.Core.Bool.{Bool, true, false, cond, _&&_}
 use Prim.Native.Nat.{ℕ, zero, suc, _+_, _-_, _*_, _/_, _%_, _^_, _≤_, _<_}
 use native.Mathlib.Omega.{arith}
 use native.Mathlib.Nat.{add-zero}
 use lib.Dec.{T, ltb, ltb→lt, leb, leb→le, le→leb, eqb, eqb→eq}
-use Rattle.resource.specs.declared.Size.the-variants.{S26, S52, S106, S242, S484, S996}
-use Rattle.resource.specs.declared.Pairing.the-variants.{P106And26, P484And242}
 use Rattle.resource.specs.declared.Piece.{Piece}
 use Rattle.resource.specs.declared.Piece.the-variants.{Part, With26}
 use Rattle.resource.specs.declared.Resource.{Resource}
@@ -15,35 +13,12 @@ use Rattle.resource.specs.declared.Resource.the-variants.{Single, Joined}
 use Rattle.resource.specs.Names.{nameOf, numberOf}
 use Rattle.resource.specs.Values.{smallerAt}
 use Rattle.resource.specs.Index.{indexOf, positionOf, placeOf, fromPositions, isPiece, exists, resourceAt, leavingOut}
+use Rattle.resource.proofs.Names.{same-named}
 use Rattle.resource.proofs.Test.{below-or, both-left, both-right, wherever, met, below, every-below}
 use Rattle.resource.proofs.Everywhere.{every-piece, at-piece}
 use Rattle.trigger_values.specs.Values.{named, resourceOf, reaches, taken, allowedAt, ResourceOf, piece, leaving, rank, Before, OneToOne}
 use Rattle.trigger_values.specs.Engine.{nthOf, valueFor}
 use Rattle.trigger_values.proofs.Back.{named-low, taken-named, value-back, back-value}
-
--- ---- a resource is known by its size and its index
-abbrev called : ℕ → ℕ → Resource
-called s i =
-    cond (eqb s 26) (Single S26 i)
-    (cond (eqb s 52) (Single S52 i)
-    (cond (eqb s 106) (Single S106 i)
-    (cond (eqb s 242) (Single S242 i)
-    (cond (eqb s 484) (Single S484 i)
-    (cond (eqb s 996) (Single S996 i)
-    (cond (eqb s 132) (Joined P106And26 i) (Joined P484And242 i)))))))
-
-called-back : (r : Resource) → called (nameOf r) (numberOf r) ≡ r
-called-back (Single S26 i) = refl
-called-back (Single S52 i) = refl
-called-back (Single S106 i) = refl
-called-back (Single S242 i) = refl
-called-back (Single S484 i) = refl
-called-back (Single S996 i) = refl
-called-back (Joined P106And26 i) = refl
-called-back (Joined P484And242 i) = refl
-
-pub same-resource : (r s : Resource) → nameOf r ≡ nameOf s → numberOf r ≡ numberOf s → r ≡ s
-same-resource r s e f = sym (called-back r) ∙ ap₂ called e f ∙ called-back s
 
 -- ---- what a value names is there
 -- the position and the piece of a resource that is no 484+242
@@ -71,7 +46,7 @@ as-same : (n : ℕ) (r s : Resource) → ResourceOf n r → T (same r s) → Res
 as-same n r s h t =
     let e = eqb→eq (nameOf r) (nameOf s) (both-left (eqb (nameOf r) (nameOf s)) (eqb (numberOf r) (numberOf s)) t) in
     let f = eqb→eq (numberOf r) (numberOf s) (both-right (eqb (nameOf r) (nameOf s)) (eqb (numberOf r) (numberOf s)) t) in
-    subst (ResourceOf n) (same-resource r s e f) h
+    subst (ResourceOf n) (same-named r s e f) h
 
 pub there-is : (n : ℕ) (r : Resource) → T (there n r) → ResourceOf n r
 there-is n r = go (eqb (nameOf r) 726)
@@ -182,7 +157,7 @@ in-order v w n m l =
 module _ (bw : ℕ) (b : bw ≤ 2) where
   of-value : (r : Resource) → T (taken bw (valueOf r)) → (v : ℕ) × T (taken bw v) × (resourceOf v ≡ r)
   of-value r t =
-      let e = back-value bw (nameOf r) (numberOf r) t in (valueOf r, t, same-resource (resourceOf (valueOf r)) r (e .0) (e .1))
+      let e = back-value bw (nameOf r) (numberOf r) t in (valueOf r, t, same-named (resourceOf (valueOf r)) r (e .0) (e .1))
 
   names-one : (v : ℕ) → T (taken bw v) → ResourceOf (2 ^ bw) (resourceOf v)
   names-one v t =

@@ -1,5 +1,5 @@
 use borrow.Author.Tests.{ne-eqb}
-use Rattle.difference_lines.specs.Engine.{resourceNamed}
+use Rattle.resource.specs.Engine.{resourceNamed}
 use Rattle.difference_lines.proofs.resource_named.Statement.{statement}
 use Rattle.difference_lines.proofs.resource_named.Tie as tie
 use Rattle.difference_lines.proofs.resource_named.Reads as reads
