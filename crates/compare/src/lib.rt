@@ -1,4 +1,4 @@
-// Two frames compared (02, T-06): what one says and the row2 does not, as lines of text.
+// Two frames compared (02, T-06): what one says and the other does not, as lines of text.
 use answer::Answer;
 use answer::Outcome;
 use difference_lines::put_bandwidth;
@@ -175,7 +175,7 @@ fn longer_of(m: usize, n: usize) -> usize
     if m < n { n } else { m }
 }
 
-// Of m fields of one frame, m1 of them channel 1's, and n of the row2, n1 of them channel 1's.
+// Of m fields of one frame, m1 of them channel 1's, and n of the other, n1 of them channel 1's.
 fn put_users(
     out: &mut [u8],
     at: usize,
