@@ -6,8 +6,6 @@ use Rattle.bits.proofs.byte_at.Reads as byte-at
 use Rattle.bits.proofs.bit_at.Reads as bit-at
 use Rattle.bits.proofs.field_at.Reads as field-at
 use Rattle.bits.proofs.wide_from.Reads as wide-from
-use Rattle.bits.proofs.lacks_at.Reads as lacks-at
-use Rattle.bits.proofs.first_diff.Reads as first-diff
 use Rattle.bits.proofs.put_field.Reads as put-field
 
 pub byte-at-agrees : Agrees byte-at.Post
@@ -21,12 +19,6 @@ field-at-agrees κs a r r' s s' p q = p ∙ sym q
 
 pub wide-from-agrees : Agrees wide-from.Post
 wide-from-agrees κs a r r' s s' p q = p ∙ sym q
-
-pub lacks-at-agrees : Agrees lacks-at.Post
-lacks-at-agrees κs a r r' s s' p q = p ∙ sym q
-
-pub first-diff-agrees : Agrees first-diff.Post
-first-diff-agrees κs a r r' s s' p q = p ∙ sym q
 
 pub put-field-agrees : (κs : _) (a : _) (r r' : _) (s s' : _) → put-field.Post κs a r s → put-field.Post κs a r' s' → now (s .0) ≡ now (s' .0)
 put-field-agrees κs a r r' s s' p q = p ∙ sym q

@@ -1,10 +1,9 @@
-// Bits and fields of a byte slice, lowest bit first: read, compared, written. Past the end every bit reads as 0, and a
+// Bits and fields of a byte slice, lowest bit first: read, written. Past the end every bit reads as 0, and a
 // bit written there is dropped, so no function here asks that a range lies in its slice.
 ghost use mathlib.Core.Path.{_≡_};
 ghost use Prim.Native.Nat.{_+_, _-_, _*_, _%_, _^_, _≤_, _<_, min};
 ghost use lib.ListN.{getD, length};
-ghost use Rattle.answer.specs.Least.{least};
-ghost use Rattle.bits.specs.Bits.{bit, field, lacks, differs, put};
+ghost use Rattle.bits.specs.Bits.{bit, field, put};
 ghost use Rattle.bits.specs.Bits.{Small};
 ghost use Rattle.bits.specs.Engine.{merge};
 
@@ -107,38 +106,6 @@ pub fn wide_from(s: &[u8], at: usize) -> u64
         return eight(s, i) >> (at % 8);
     }
     eight_past(s, i) >> (at % 8)
-}
-
-// How many of the n bits from `at` lie past the end.
-pub fn lacks_at(s: &[u8], at: usize, n: usize) -> usize
-    ensures { λ r. ⌜ r ≡ lacks (now (s .entry)) at n ⌝ }
-{
-    let first = at / 8;
-    if s.len() <= first {
-        return n;
-    }
-    let after = s.len() - first - 1;
-    if n / 8 < after {
-        return 0;
-    }
-    let rest = n - 8 * after;
-    let here = 8 - at % 8;
-    if rest <= here { 0 } else { rest - here }
-}
-
-// The lowest k below n for which s and t differ in bit at + k; n where there is none.
-pub fn first_diff(s: &[u8], t: &[u8], at: usize, n: usize) -> usize
-    requires { ⌜ at + n < 2 ^ 64 ⌝ }
-    ensures { λ r. ⌜ r ≡ least (λ k. differs (now (s .entry)) (now (t .entry)) (at + k)) n ⌝ }
-{
-    let mut k: usize = 0;
-    while k < n {
-        if bit_at(s, at + k) != bit_at(t, at + k) {
-            return k;
-        }
-        k += 1;
-    }
-    k
 }
 
 // x with the m bits from a made the lowest of w.

@@ -1,4 +1,3 @@
-pub mod Agree
 pub mod Passing
 pub mod Padding
 pub mod RanOut

@@ -16,7 +16,7 @@ fn first_checks(bw: u32, a: &[u8], b: &[u8]) -> Outcome
 {
     answer::or_else(
         answer::refuse_if(4 < bw, 1, 0, 0),
-        answer::or_else(faults::too_long(bw, 1, a), faults::too_long(bw, 2, b)),
+        answer::or_else(lengths::too_long(bw, 1, a), lengths::too_long(bw, 2, b)),
     )
 }
 
@@ -25,11 +25,11 @@ fn cut_common(bw: u32, a: &[u8], b: &[u8]) -> Outcome
     requires { ⌜ AtMost512 (now a) (now b) ⌝ }
     ensures { λ r. ⌜ r ≡ check3 bw (now (a .entry)) (now (b .entry)) ⌝ }
 {
-    let short = faults::is_short_common(bw, 1, a) | faults::is_short_common(bw, 2, b);
+    let short = lengths::is_short_common(bw, 1, a) | lengths::is_short_common(bw, 2, b);
     if !short {
         return Outcome::Pass;
     }
-    answer::or_else(faults::cut_common(bw, 1, a), faults::cut_common(bw, 2, b))
+    answer::or_else(lengths::cut_common(bw, 1, a), lengths::cut_common(bw, 2, b))
 }
 
 fn then_cut_common(prev: Outcome, bw: u32, a: &[u8], b: &[u8]) -> Outcome
@@ -53,8 +53,8 @@ fn then_wrong_common(prev: Outcome, bw: u32, a: &[u8], b: &[u8], sealed: bool) -
         return prev;
     }
     answer::or_else(
-        faults::wrong_common(bw, 1, a),
-        faults::wrong_common(bw, 2, b),
+        wrong_blocks::wrong_common(bw, 1, a),
+        wrong_blocks::wrong_common(bw, 2, b),
     )
 }
 
@@ -64,7 +64,7 @@ fn then_overflow(prev: Outcome, bw: u32, a: &[u8], b: &[u8]) -> Outcome
     if let Outcome::Refuse(_) = prev {
         return prev;
     }
-    faults::overflow_differs(bw, a, b)
+    common_field::overflow_differs(bw, a, b)
 }
 
 // 1 to 5.
@@ -101,7 +101,10 @@ fn not_carried(bw: u32, a: &[u8], b: &[u8], values: &[u16]) -> Outcome
     if all_carried(values) {
         return Outcome::Pass;
     }
-    answer::or_else(faults::not_carried(bw, 1, a), faults::not_carried(bw, 2, b))
+    answer::or_else(
+        common_field::not_carried(bw, 1, a),
+        common_field::not_carried(bw, 2, b),
+    )
 }
 
 // What the first half tells of a frame: the outcome of 1 to 8 and, where it passes, its row, 0 past it, and the row's plan.
@@ -162,13 +165,13 @@ fn cut_users(bw: u32, a: &[u8], b: &[u8], n: usize, m: usize) -> Outcome
     requires { ⌜ AtMost512 (now a) (now b) × (n ≤ 72) × (m ≤ 72) × (n ≡ count bw 1 (now a)) × (m ≡ count bw 2 (now b)) ⌝ }
     ensures { λ r. ⌜ r ≡ check9 bw (now (a .entry)) (now (b .entry)) ⌝ }
 {
-    let short = faults::is_short_users(bw, a, n) | faults::is_short_users(bw, b, m);
+    let short = lengths::is_short_users(bw, a, n) | lengths::is_short_users(bw, b, m);
     if !short {
         return Outcome::Pass;
     }
     answer::or_else(
-        faults::cut_users(bw, 1, a, n),
-        faults::cut_users(bw, 2, b, m),
+        lengths::cut_users(bw, 1, a, n),
+        lengths::cut_users(bw, 2, b, m),
     )
 }
 
@@ -191,8 +194,8 @@ fn then_wrong_users(
         return prev;
     }
     answer::or_else(
-        faults::wrong_users(bw, 1, a, n),
-        faults::wrong_users(bw, 2, b, m),
+        wrong_blocks::wrong_users(bw, 1, a, n),
+        wrong_blocks::wrong_users(bw, 2, b, m),
     )
 }
 

@@ -44,7 +44,7 @@ pub fn read_at(s: &[u8], at: usize, n: usize) -> Field
     requires { ⌜ (n ≤ 25) × (at + n < 2 ^ 64) ⌝ }
     ensures { λ r. ⌜ r ≡ readAt (now (s .entry)) at n ⌝ }
 {
-    let lacking = bits::lacks_at(s, at, n);
+    let lacking = lengths::lacks_at(s, at, n);
     if lacking == 0 {
         Field::Value(bits::field_at(s, at, n), at + n)
     } else {
@@ -147,7 +147,7 @@ pub fn blocks_at(s: &[u8], at: usize, c: CommonField) -> Channel
     ensures { λ r. ⌜ r ≡ blocksAt (now (s .entry)) at c ⌝ }
 {
     let u = users_at(s, at, c.count);
-    let lacking = first_lacking(bits::lacks_at(s, 0, at), bits::lacks_at(s, 0, u.next));
+    let lacking = first_lacking(lengths::lacks_at(s, 0, at), lengths::lacks_at(s, 0, u.next));
     let values = c.values;
     let users = u.users;
     Channel {

@@ -47,7 +47,7 @@ fn lacks(line: &[u8]) {
     let n = string(line, 1, &mut space);
     let at = number(line, 2);
     let width = number(line, 3);
-    print_number(bits::lacks_at(&space[..n], at, width) as u64);
+    print_number(lengths::lacks_at(&space[..n], at, width) as u64);
 }
 
 // d S T at n: the first difference, counted from `at`.
@@ -58,7 +58,7 @@ fn difference(line: &[u8]) {
     let m = string(line, 2, &mut other);
     let at = number(line, 3);
     let width = number(line, 4);
-    print_number(bits::first_diff(&space[..n], &other[..m], at, width) as u64);
+    print_number(common_field::first_diff(&space[..n], &other[..m], at, width) as u64);
 }
 
 // The bytes lent, after the field that a line says is put into them.

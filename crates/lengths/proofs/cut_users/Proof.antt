@@ -1,0 +1,34 @@
+-- `lengths::cut_users` meets its contract.
+use Prim.Native.Nat.{ℕ}
+use mathlib.Core.Path.{sym, _∙_, ap}
+use mathlib.Core.Bool.{true, false}
+use borrow.Author.Tests.{not-true, not-false}
+use Rattle.answer.specs.Answer.{no}
+use Rattle.answer.specs.declared.Outcome.the-variants.{Refuse}
+use Rattle.faults.proofs.Passing.{cutUsers-tested}
+use borrow.Author.Needs.{needs}
+use Rattle.lengths.proofs.cut_users.Statement.{statement}
+use Rattle.lengths.proofs.cut_users.Tie as tie
+
+is-short-users-requires : tie.Need-is-short-users-requires
+is-short-users-requires c κs = search needs
+
+returns : tie.Need-returns
+returns c =
+    let s = c .before .before .before in
+    let a = s .args in
+    sym (cutUsers-tested (a .bw) (a .channel) (a .s .now) (a .n) false (s .pre .2) (sym (c .before .is-short-users .ensures) ∙ not-true _ (c .if1 .taken)))
+
+ran-out-at-requires : tie.Need-ran-out-at-requires
+ran-out-at-requires c κs = search needs
+
+returns-2 : tie.Need-returns-2
+returns-2 c =
+    let b = c .before in
+    let s = b .before .before .before in
+    let a = s .args in
+    ap (λ (p : ℕ). Refuse (no 9 (a .channel) p)) (c .ran-out-at .ensures)
+    ∙ sym (cutUsers-tested (a .bw) (a .channel) (a .s .now) (a .n) true (s .pre .2) (sym (b .before .is-short-users .ensures) ∙ not-false _ (b .if1 .left)))
+
+pub cut-users-spec : {M : Type 1} → statement M
+cut-users-spec = tie.close (tie.spec is-short-users-requires returns ran-out-at-requires returns-2)
