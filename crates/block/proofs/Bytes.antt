@@ -1,32 +1,17 @@
 -- The register a byte at a time.
-use Prim.Native.Nat.{ℕ, zero, suc, _+_, _*_, _/_, _%_, _^_, _<_}
+use Prim.Native.Nat.{ℕ, zero, suc, _+_, _*_, _/_, _%_, _<_}
 use mathlib.Core.Path.{_≡_, refl, sym, _∙_, ap}
 use mathlib.Core.List.{List}
 use native.Mathlib.Omega.{arith}
 use lib.Bits.{bitXor, xor-lt}
-use Rattle.answer.specs.Least.{least}
 use Rattle.bits.specs.Bits.{field}
 use Rattle.bits.proofs.Fields.{field-lt}
 use Rattle.block.specs.Check.{register}
 use Rattle.block.proofs.Checks.{register-lt}
-use Rattle.block.specs.Engine.{shift, shifts}
-use Rattle.answer.proofs.Least.{equal-below}
+use Rattle.register.proofs.Bytes.{byte, eight-places}
 use Rattle.block.proofs.Mirror.{steps, steps-lt, register-part, mirror, mirror-lt, mirror-twice, all-out}
 
--- ---- eight places of the mirrored register
-
--- the eight bits that leave, and what p times them leaves behind
-unfoldable pub leaving : ℕ → ℕ
-leaving x = bitXor (bitXor x (x * 2 ^ 6)) (x * 2 ^ 7) % 256
-
-unfoldable pub byte : ℕ → ℕ
-byte x = bitXor (bitXor (leaving x) (leaving x / 2)) (leaving x / 4)
-
-pub eight-places : (x : ℕ) → x < 256 → byte x ≡ shifts x 8
-unfolding byte leaving shift shifts least
-eight-places = equal-below byte (λ x. shifts x 8) 256 refl
-
--- ---- the same of the register itself
+-- ---- eight places at a time, of the register itself
 
 -- the register r after the eight bits of x
 unfoldable pub byteStep : ℕ → ℕ → ℕ

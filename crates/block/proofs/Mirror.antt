@@ -13,8 +13,8 @@ use Rattle.bits.specs.Bits.{bit, field}
 use Rattle.bits.proofs.Fields.{field-bit, field-lt}
 use Rattle.block.specs.Check.{step, register, sent}
 use Rattle.block.proofs.Checks.{step-lt, register-lt}
-use Rattle.block.specs.Engine.{shift, shifts}
-use Rattle.block.proofs.Xor.{xor-odd, xor-half, xor-assoc}
+use Rattle.register.specs.Engine.{shift, shifts}
+use Rattle.register.proofs.Xor.{xor-odd, xor-half, xor-assoc}
 
 -- ---- the register by parts of its block
 

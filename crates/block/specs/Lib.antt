@@ -1,2 +1,1 @@
 pub mod Check
-pub mod Engine

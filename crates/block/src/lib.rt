@@ -1,52 +1,7 @@
 // The four-bit check and the tail of one block of bits.
 ghost use mathlib.Core.Path.{_≡_};
-ghost use Prim.Native.Nat.{_+_, _%_, _^_, _≤_, _<_};
+ghost use Prim.Native.Nat.{_+_, _^_, _<_};
 ghost use Rattle.block.specs.Check.{check, right};
-ghost use Rattle.block.specs.Engine.{shifts, product, times, checkFrom, rightOf};
-
-// Here the register is held mirrored, so that it moves the way the bits come, and x^8 + x^2 + x + 1 is
-// p = 1 + t^6 + t^7 + t^8 = 1 + t^6 (1 + t (1 + t)). This is z times p with t^i for t, as far as 64 bits see.
-fn times(z: u64, i: u32) -> u64
-    requires { ⌜ i ≤ 8 ⌝ }
-    ensures { λ r. ⌜ r ≡ times z i ⌝ }
-{
-    z ^ ((z ^ ((z ^ (z << i)) << i)) << (6 * i))
-}
-
-// z divided by p, the lowest bit first: the bits that leave the register, one for each place that it moves. A square has
-// each place doubled, so these factors are p, p^2, p^4 and p^8, and with p itself p^16, which is 1 as far as 64 bits see.
-fn quotient(z: u64) -> u64
-    ensures { λ r. ⌜ product r % 2 ^ 64 ≡ z ⌝ }
-{
-    times(times(times(times(z, 1), 2), 4), 8)
-}
-
-// The check of a register r after the n lowest bits of w. The four bits that would leave the register next are its
-// lowest; what stands in w above its n bits is added to them, and taken away again.
-fn check_of(r: u64, w: u64, n: usize) -> u32
-    requires { ⌜ n ≤ 60 ⌝ }
-    ensures { λ c. ⌜ c ≡ checkFrom r w n ⌝ }
-{
-    15 - (((quotient(r ^ w) ^ w) >> n) % 16) as u32
-}
-
-// Whether the n lowest bits of w are followed by their check and a tail of zeros. The check, inverted, is what would
-// leave the register, so the two together are four ones.
-fn right_of(w: u64, n: usize) -> bool
-    requires { ⌜ n ≤ 54 ⌝ }
-    ensures { λ r. ⌜ r ≡ rightOf w n ⌝ }
-{
-    ((quotient(255 ^ w) >> n) % 16 == 15) & ((w >> (n + 4)) % 64 == 0)
-}
-
-// The register after eight bits more, which were added to it: q is what leaves, and p times q what it leaves behind.
-fn byte_step(x: u64) -> u64
-    requires { ⌜ x < 256 ⌝ }
-    ensures { λ r. ⌜ r ≡ shifts x 8 ⌝ }
-{
-    let q = (x ^ (x << 6) ^ (x << 7)) % 256;
-    q ^ (q >> 1) ^ (q >> 2)
-}
 
 // The check of the n bits from `at`, a byte at a time until one window holds the rest.
 fn check_long(s: &[u8], at: usize, n: usize) -> u32
@@ -56,10 +11,10 @@ fn check_long(s: &[u8], at: usize, n: usize) -> u32
     let mut r: u64 = 255;
     let mut k: usize = 0;
     while 57 < n - k {
-        r = byte_step(r ^ bits::field_at(s, at + k, 8) as u64);
+        r = register::byte_step(r ^ bits::field_at(s, at + k, 8) as u64);
         k += 8;
     }
-    check_of(r, bits::wide_from(s, at + k), n - k)
+    register::check_of(r, bits::wide_from(s, at + k), n - k)
 }
 
 // The check of the n bits from `at`, first sent bit lowest.
@@ -68,7 +23,7 @@ pub fn check_at(s: &[u8], at: usize, n: usize) -> u32
     ensures { λ r. ⌜ r ≡ check (now (s .entry)) at n ⌝ }
 {
     if n <= 57 {
-        return check_of(255, bits::wide_from(s, at), n);
+        return register::check_of(255, bits::wide_from(s, at), n);
     }
     check_long(s, at, n)
 }
@@ -80,7 +35,7 @@ pub fn block_right(s: &[u8], at: usize, n: usize) -> bool
     ensures { λ r. ⌜ r ≡ right (now (s .entry)) at n ⌝ }
 {
     if n <= 47 {
-        return right_of(bits::wide_from(s, at), n);
+        return register::right_of(bits::wide_from(s, at), n);
     }
     bits::field_at(s, at + n, 10) == check_at(s, at, n)
 }

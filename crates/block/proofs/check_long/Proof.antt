@@ -7,7 +7,7 @@ use borrow.Author.Needs.{needs}
 use Rattle.bits.proofs.Fields.{field-lt}
 use Rattle.bits.proofs.Windows.{window-low}
 use Rattle.block.specs.Check.{register, check}
-use Rattle.block.specs.Engine.{shifts, checkFrom}
+use Rattle.register.specs.Engine.{shifts, checkFrom}
 use Rattle.block.proofs.Mirror.{mirror, mirror-lt, mirror-start, mirror-part}
 use Rattle.block.proofs.Word.{check-from}
 use Rattle.block.proofs.check_long.Statement.{statement}

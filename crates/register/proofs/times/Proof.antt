@@ -1,9 +1,9 @@
--- `block::times` meets its contract.
+-- `register::times` meets its contract.
 use mathlib.Core.Path.{refl}
-use Rattle.block.specs.Engine.{times}
+use Rattle.register.specs.Engine.{times}
 use borrow.Author.Needs.{needs}
-use Rattle.block.proofs.times.Statement.{statement}
-use Rattle.block.proofs.times.Tie as tie
+use Rattle.register.proofs.times.Statement.{statement}
+use Rattle.register.proofs.times.Tie as tie
 
 shl-result : tie.Need-shl-result
 shl-result c = search needs

@@ -12,7 +12,7 @@ use lib.Pow as P
 use borrow.Author.Tests.{eqb-true, not-false}
 use Rattle.answer.specs.Least.{least}
 use Rattle.answer.proofs.Least.{least-all}
-use Rattle.block.proofs.Xor.{xor-swap, xor-shl, xor-split}
+use Rattle.register.proofs.Xor.{xor-swap, xor-shl, xor-split}
 
 pub record Linear (f : ℕ → ℕ) : Type 0 where
   pub adds : (x y : ℕ) → f (bitXor x y) ≡ bitXor (f x) (f y)

@@ -1,9 +1,9 @@
--- `block::right_of` meets its contract.
+-- `register::right_of` meets its contract.
 use native.Mathlib.Omega.{arith}
-use Rattle.block.proofs.Word.{right-quotient}
+use Rattle.register.proofs.Word.{right-quotient}
 use borrow.Author.Needs.{needs}
-use Rattle.block.proofs.right_of.Statement.{statement}
-use Rattle.block.proofs.right_of.Tie as tie
+use Rattle.register.proofs.right_of.Statement.{statement}
+use Rattle.register.proofs.right_of.Tie as tie
 
 quotient-requires : tie.Need-quotient-requires
 quotient-requires c κs = search needs

@@ -1,9 +1,9 @@
--- `block::check_of` meets its contract.
+-- `register::check_of` meets its contract.
 use native.Mathlib.Omega.{arith}
-use Rattle.block.proofs.Word.{check-quotient}
+use Rattle.register.proofs.Word.{check-quotient}
 use borrow.Author.Needs.{needs}
-use Rattle.block.proofs.check_of.Statement.{statement}
-use Rattle.block.proofs.check_of.Tie as tie
+use Rattle.register.proofs.check_of.Statement.{statement}
+use Rattle.register.proofs.check_of.Tie as tie
 
 quotient-requires : tie.Need-quotient-requires
 quotient-requires c κs = search needs

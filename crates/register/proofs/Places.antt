@@ -5,9 +5,9 @@ use native.Mathlib.Nat.{add-zero, mul-one, mul-assoc, mul-comm, pow-suc}
 use native.Mathlib.Omega.{arith}
 use lib.Bits.{bitXor, xor-mod, xor-comm, xor-zero-l, xor-zero-r}
 use lib.Pow as P
-use Rattle.block.specs.Engine.{shift, shifts}
-use Rattle.block.proofs.Xor.{xor-odd, xor-half, xor-assoc, xor-swap, xor-split}
-use Rattle.block.proofs.Linear.{Linear}
+use Rattle.register.specs.Engine.{shift, shifts}
+use Rattle.register.proofs.Xor.{xor-odd, xor-half, xor-assoc, xor-swap, xor-split}
+use Rattle.register.proofs.Linear.{Linear}
 
 -- ---- moving down is linear
 

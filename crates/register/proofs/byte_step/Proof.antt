@@ -1,12 +1,12 @@
--- `block::byte_step` meets its contract.
+-- `register::byte_step` meets its contract.
 use Prim.Native.Nat.{ℕ, _/_, _%_}
 use mathlib.Core.Path.{_∙_, ap₂}
 use native.Mathlib.Omega.{arith}
 use lib.Bits.{bitXor}
 use lib.Pow as P
-use Rattle.block.proofs.Bytes.{leaving, byte, eight-places}
-use Rattle.block.proofs.byte_step.Statement.{statement}
-use Rattle.block.proofs.byte_step.Tie as tie
+use Rattle.register.proofs.Bytes.{leaving, byte, eight-places}
+use Rattle.register.proofs.byte_step.Statement.{statement}
+use Rattle.register.proofs.byte_step.Tie as tie
 
 returns : tie.Need-returns
 unfolding byte leaving

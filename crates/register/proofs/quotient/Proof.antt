@@ -1,12 +1,12 @@
--- `block::quotient` meets its contract.
+-- `register::quotient` meets its contract.
 use Prim.Native.Nat.{ℕ, _%_, _^_}
 use mathlib.Core.Path.{_∙_, ap}
 use native.Mathlib.Omega.{arith}
-use Rattle.block.specs.Engine.{product, times}
-use Rattle.block.proofs.Series.{four-factors}
+use Rattle.register.specs.Engine.{product, times}
+use Rattle.register.proofs.Series.{four-factors}
 use borrow.Author.Needs.{needs}
-use Rattle.block.proofs.quotient.Statement.{statement}
-use Rattle.block.proofs.quotient.Tie as tie
+use Rattle.register.proofs.quotient.Statement.{statement}
+use Rattle.register.proofs.quotient.Tie as tie
 
 times-requires : tie.Need-times-requires
 times-requires c κs = search needs

@@ -1,5 +1,5 @@
--- How the code works the check out: an engine, which the contracts of its private functions cite. What `check_at` and
--- `block_right` promise is Check.antt's alone.
+-- Engine: how the code works the check out. The contracts of the code cite it; nobody has to believe it: what `block` promises is
+-- `block/specs/Check.antt`'s alone, and `block/proofs/Word.antt` shows that this is it.
 --
 -- The register is held mirrored, so that the bit that leaves next is the lowest, with the bits that are to come in added
 -- to it. Numbers stand for polynomials in t with coefficients 0 and 1, bit k for t^k.

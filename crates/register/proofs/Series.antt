@@ -11,10 +11,10 @@ use lib.Bits.{bitXor, xor-mod, xor-zero-r}
 use lib.Pow as P
 use Rattle.answer.specs.Least.{least}
 use Rattle.bits.proofs.Windows.{low-low}
-use Rattle.block.specs.Engine.{shift, shifts, product, times}
-use Rattle.block.proofs.Xor.{xor-shl, xor-split}
-use Rattle.block.proofs.Linear.{Linear, itself, ups, lows, both, next, agree-tested}
-use Rattle.block.proofs.Places.{shift-linear, shift-even, below}
+use Rattle.register.specs.Engine.{shift, shifts, product, times}
+use Rattle.register.proofs.Xor.{xor-shl, xor-split}
+use Rattle.register.proofs.Linear.{Linear, itself, ups, lows, both, next, agree-tested}
+use Rattle.register.proofs.Places.{shift-linear, shift-even, below}
 
 -- ---- p times a number
 

@@ -1,0 +1,7 @@
+pub mod Agree
+pub mod Xor
+pub mod Linear
+pub mod Places
+pub mod Series
+pub mod Bytes
+pub mod Word
