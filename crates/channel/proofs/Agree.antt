@@ -3,6 +3,8 @@ use mathlib.Core.Path.{sym, _∙_}
 use Rattle.answer.proofs.Agree.{Agrees}
 use Rattle.channel.proofs.is_present.Reads as is-present
 use Rattle.channel.proofs.positions_of.Reads as positions-of
+use Rattle.channel.proofs.firsts_of.Reads as firsts-of
+use Rattle.channel.proofs.seconds_of.Reads as seconds-of
 use Rattle.channel.proofs.first_bits.Reads as first-bits
 use Rattle.channel.proofs.second_bits.Reads as second-bits
 use Rattle.channel.proofs.second_at.Reads as second-at
@@ -17,14 +19,18 @@ use Rattle.channel.proofs.user_bit.Reads as user-bit
 use Rattle.channel.proofs.block_bit.Reads as block-bit
 use Rattle.channel.proofs.covered_bits.Reads as covered-bits
 use Rattle.channel.proofs.end_bit.Reads as end-bit
-use Rattle.channel.proofs.named_fields.Reads as named-fields
-use Rattle.channel.proofs.named_width.Reads as named-width
 
 pub is-present-agrees : Agrees is-present.Post
 is-present-agrees κs a r r' s s' p q = p ∙ sym q
 
 pub positions-of-agrees : Agrees positions-of.Post
 positions-of-agrees κs a r r' s s' p q = p .0 ∙ sym (q .0)
+
+pub firsts-of-agrees : Agrees firsts-of.Post
+firsts-of-agrees κs a r r' s s' p q = p .0 ∙ sym (q .0)
+
+pub seconds-of-agrees : Agrees seconds-of.Post
+seconds-of-agrees κs a r r' s s' p q = p .0 ∙ sym (q .0)
 
 pub first-bits-agrees : Agrees first-bits.Post
 first-bits-agrees κs a r r' s s' p q = p .0 ∙ sym (q .0)
@@ -67,9 +73,3 @@ covered-bits-agrees κs a r r' s s' p q = p .0 ∙ sym (q .0)
 
 pub end-bit-agrees : Agrees end-bit.Post
 end-bit-agrees κs a r r' s s' p q = p .0 ∙ sym (q .0)
-
-pub named-fields-agrees : Agrees named-fields.Post
-named-fields-agrees κs a r r' s s' p q = p .0 ∙ sym (q .0)
-
-pub named-width-agrees : Agrees named-width.Post
-named-width-agrees κs a r r' s s' p q = p .0 ∙ sym (q .0)

@@ -41,11 +41,11 @@ fn ran_out_at(bw: u32, s: &[u8], n: usize) -> usize
     requires { ⌜ n ≤ 72 ⌝ }
     ensures { λ r. ⌜ r ≡ ranOutAt (now (s .entry)) (namedFields bw n) ⌝ }
 {
-    let m = channel::named_fields(bw, n);
+    let m = named_fields::named_fields(bw, n);
     let mut at: usize = 0;
     let mut k: usize = 0;
     while k < m {
-        let w = channel::named_width(bw, n, k);
+        let w = named_fields::named_width(bw, n, k);
         if 0 < lacks_at(s, at, w) {
             return at;
         }

@@ -1,12 +1,12 @@
--- `channel::second_fields` meets its contract.
+-- `named_fields::second_fields` meets its contract.
 use native.Mathlib.Omega.{arith}
 use mathlib.Core.Path.{_≡_, sym, _∙_}
 use mathlib.Core.Bool.{true, false}
 use Rattle.channel.specs.Layout.{hasSecond, seconds}
 use Rattle.channel.proofs.Widths.{second-there, second-none, checked-length}
 use borrow.Author.Needs.{needs}
-use Rattle.channel.proofs.second_fields.Statement.{statement}
-use Rattle.channel.proofs.second_fields.Tie as tie
+use Rattle.named_fields.proofs.second_fields.Statement.{statement}
+use Rattle.named_fields.proofs.second_fields.Tie as tie
 
 has-second-requires : tie.Need-has-second-requires
 has-second-requires c κs = search needs

@@ -1,11 +1,11 @@
--- `channel::second_width` meets its contract.
+-- `named_fields::second_width` meets its contract.
 use mathlib.Core.Path.{_≡_, sym, _∙_}
 use mathlib.Core.Bool.{true, false}
 use Rattle.channel.specs.Layout.{hasSecond}
 use Rattle.channel.proofs.Widths.{second-there, second-none}
 use borrow.Author.Needs.{needs}
-use Rattle.channel.proofs.second_width.Statement.{statement}
-use Rattle.channel.proofs.second_width.Tie as tie
+use Rattle.named_fields.proofs.second_width.Statement.{statement}
+use Rattle.named_fields.proofs.second_width.Tie as tie
 
 has-second-requires : tie.Need-has-second-requires
 has-second-requires c κs = search needs

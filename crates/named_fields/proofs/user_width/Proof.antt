@@ -1,10 +1,10 @@
--- `channel::user_width` meets its contract.
+-- `named_fields::user_width` meets its contract.
 use mathlib.Core.Path.{sym, _∙_}
 use native.Mathlib.Omega.{arith}
 use Rattle.channel.proofs.Widths.{users-none, users-two, users-one}
 use borrow.Author.Needs.{needs}
-use Rattle.channel.proofs.user_width.Statement.{statement}
-use Rattle.channel.proofs.user_width.Tie as tie
+use Rattle.named_fields.proofs.user_width.Statement.{statement}
+use Rattle.named_fields.proofs.user_width.Tie as tie
 
 mul-first : tie.Need-mul-first
 mul-first c = search needs

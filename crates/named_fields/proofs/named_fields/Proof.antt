@@ -1,9 +1,9 @@
--- `channel::named_fields` meets its contract.
+-- `named_fields::named_fields` meets its contract.
 use native.Mathlib.Omega.{arith}
 use Rattle.channel.proofs.Widths.{widths-length}
 use borrow.Author.Needs.{needs}
-use Rattle.channel.proofs.named_fields.Statement.{statement}
-use Rattle.channel.proofs.named_fields.Tie as tie
+use Rattle.named_fields.proofs.named_fields.Statement.{statement}
+use Rattle.named_fields.proofs.named_fields.Tie as tie
 
 firsts-of-requires : tie.Need-firsts-of-requires
 firsts-of-requires c κs = search needs

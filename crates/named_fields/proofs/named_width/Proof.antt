@@ -1,15 +1,15 @@
--- `channel::named_width` meets its contract.
+-- `named_fields::named_width` meets its contract.
 use mathlib.Core.Path.{_≡_, sym, _∙_, ap}
 use Prim.Native.Nat.{ℕ, _+_, _-_}
 use native.Mathlib.Omega.{arith}
 use lib.ListN.{length}
 use Rattle.answer.specs.Lists.{at}
 use Rattle.channel.specs.Layout.{firsts}
 use Rattle.channel.specs.Fields.{checkedWidths, secondWidths, userWidths}
 use Rattle.channel.proofs.Widths.{whole-overflow, whole-first, whole-second, whole-users, as-wide}
 use borrow.Author.Needs.{needs}
-use Rattle.channel.proofs.named_width.Statement.{statement}
-use Rattle.channel.proofs.named_width.Tie as tie
+use Rattle.named_fields.proofs.named_width.Statement.{statement}
+use Rattle.named_fields.proofs.named_width.Tie as tie
 
 overflow-width-requires : tie.Need-overflow-width-requires
 overflow-width-requires c κs = search needs

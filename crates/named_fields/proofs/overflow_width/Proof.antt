@@ -1,9 +1,9 @@
--- `channel::overflow_width` meets its contract.
+-- `named_fields::overflow_width` meets its contract.
 use native.Mathlib.Omega.{arith}
 use mathlib.Core.Path.{_≡_}
 use borrow.Author.Needs.{needs}
-use Rattle.channel.proofs.overflow_width.Statement.{statement}
-use Rattle.channel.proofs.overflow_width.Tie as tie
+use Rattle.named_fields.proofs.overflow_width.Statement.{statement}
+use Rattle.named_fields.proofs.overflow_width.Tie as tie
 
 returns : tie.Need-returns
 returns c = search needs

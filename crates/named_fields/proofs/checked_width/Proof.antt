@@ -1,10 +1,10 @@
--- `channel::checked_width` meets its contract.
+-- `named_fields::checked_width` meets its contract.
 use native.Mathlib.Omega.{arith}
 use mathlib.Core.Path.{sym}
 use Rattle.channel.proofs.Widths.{checked-fields, checked-at-check, checked-at-tail, checked-past}
 use borrow.Author.Needs.{needs}
-use Rattle.channel.proofs.checked_width.Statement.{statement}
-use Rattle.channel.proofs.checked_width.Tie as tie
+use Rattle.named_fields.proofs.checked_width.Statement.{statement}
+use Rattle.named_fields.proofs.checked_width.Tie as tie
 
 returns : tie.Need-returns
 returns c = let a = c .before .args in sym (checked-fields (a .w) (a .n) (a .k) (omega arith))
