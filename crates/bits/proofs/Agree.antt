@@ -1,12 +1,11 @@
 -- Any two results that a public function's contract allows for one input agree: each contract is an equation.
-use mathlib.Core.Path.{_≡_, sym, _∙_}
-use denote.Ref.{now}
+use mathlib.Core.Path.{sym, _∙_}
 use Rattle.answer.proofs.Agree.{Agrees}
 use Rattle.bits.proofs.byte_at.Reads as byte-at
 use Rattle.bits.proofs.bit_at.Reads as bit-at
+use Rattle.bits.proofs.window.Reads as window
 use Rattle.bits.proofs.field_at.Reads as field-at
 use Rattle.bits.proofs.wide_from.Reads as wide-from
-use Rattle.bits.proofs.put_field.Reads as put-field
 
 pub byte-at-agrees : Agrees byte-at.Post
 byte-at-agrees κs a r r' s s' p q = p ∙ sym q
@@ -14,11 +13,11 @@ byte-at-agrees κs a r r' s s' p q = p ∙ sym q
 pub bit-at-agrees : Agrees bit-at.Post
 bit-at-agrees κs a r r' s s' p q = p ∙ sym q
 
+pub window-agrees : Agrees window.Post
+window-agrees κs a r r' s s' p q = p ∙ sym q
+
 pub field-at-agrees : Agrees field-at.Post
 field-at-agrees κs a r r' s s' p q = p ∙ sym q
 
 pub wide-from-agrees : Agrees wide-from.Post
 wide-from-agrees κs a r r' s s' p q = p ∙ sym q
-
-pub put-field-agrees : (κs : _) (a : _) (r r' : _) (s s' : _) → put-field.Post κs a r s → put-field.Post κs a r' s' → now (s .0) ≡ now (s' .0)
-put-field-agrees κs a r r' s s' p q = p ∙ sym q

@@ -4,5 +4,4 @@ pub mod Writes
 pub mod Fields
 pub mod Differs
 pub mod Bytes
-pub mod Stores
 pub mod Pack

@@ -49,7 +49,7 @@ fn put_values(d: &mut [u8], bw: u32, words: &[u32], channel: u32)
     let n = channel::subfields_of(bw, channel);
     let mut k: usize = 0;
     while k < n {
-        bits::put_field(
+        put_bits::put_field(
             d,
             channel::value_bit(bw, k),
             9,
@@ -67,7 +67,7 @@ fn put_users(d: &mut [u8], bw: u32, words: &[u32], first: usize, n: usize)
     let mut i: usize = 0;
     while i < n {
         let f = words::user_field(word_at(words, first + i));
-        bits::put_field(d, channel::user_bit(bw, i), 22, f);
+        put_bits::put_field(d, channel::user_bit(bw, i), 22, f);
         i += 1;
     }
 }
@@ -78,7 +78,7 @@ fn put_check(d: &mut [u8], at: usize, n: usize)
     ensures { λ _. ⌜ now (d .exit) ≡ seal at n (now (d .entry)) ⌝ }
 {
     let c = block::check_at(d, at, n);
-    bits::put_field(d, at + n, 4, c);
+    put_bits::put_field(d, at + n, 4, c);
 }
 
 fn put_second_check(d: &mut [u8], bw: u32)
@@ -106,7 +106,7 @@ fn fill_bytes(d: &mut [u8], bw: u32, words: &[u32], channel: u32, first: usize, 
     requires { ⌜ (1 ≤ channel) × (channel ≤ 2) × (first ≤ 82) × (n ≤ 72) × (first ≡ firstIn bw (now words) channel) × (n ≡ countIn bw (now words) channel) ⌝ }
     ensures { λ _. ⌜ now (d .exit) ≡ channelIn bw (now (words .entry)) channel (now (d .entry)) ⌝ }
 {
-    bits::put_field(d, 0, 17, words::overflow_of(word_at(words, 1)));
+    put_bits::put_field(d, 0, 17, words::overflow_of(word_at(words, 1)));
     put_values(d, bw, words, channel);
     put_users(d, bw, words, first, n);
     put_check(d, 0, channel::first_bits(bw));

@@ -70,7 +70,7 @@ fn put_in(s: &mut [u8], line: &[u8]) {
         no_case();
         return;
     }
-    bits::put_field(s, at, width, value);
+    put_bits::put_field(s, at, width, value);
     bytes(s);
 }
 

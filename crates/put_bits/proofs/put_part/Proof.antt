@@ -1,13 +1,13 @@
--- `bits::put_part` meets its contract.
+-- `put_bits::put_part` meets its contract.
 use Prim.Native.Nat.{ℕ, _/_, _%_}
 use mathlib.Core.Path.{ap, _∙_}
 use native.Mathlib.Omega.{arith}
 use lib.ListN.{getD, set}
-use Rattle.bits.proofs.Stores.{merge-lt, put-byte}
+use Rattle.put_bits.proofs.Stores.{merge-lt, put-byte}
 use Rattle.bits.proofs.Writes.{put-past}
 use borrow.Author.Needs.{needs}
-use Rattle.bits.proofs.put_part.Statement.{statement}
-use Rattle.bits.proofs.put_part.Tie as tie
+use Rattle.put_bits.proofs.put_part.Statement.{statement}
+use Rattle.put_bits.proofs.put_part.Tie as tie
 
 slice-read-merged : tie.Need-slice-read-merged
 slice-read-merged c = search needs

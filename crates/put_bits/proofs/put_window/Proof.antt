@@ -1,11 +1,11 @@
--- `bits::put_window` meets its contract.
+-- `put_bits::put_window` meets its contract.
 use Prim.Native.Nat.{_+_, _/_, _%_}
 use native.Mathlib.Omega.{arith}
 use lib.ListN.{set, length-set}
-use Rattle.bits.proofs.Stores.{set-four}
+use Rattle.put_bits.proofs.Stores.{set-four}
 use borrow.Author.Needs.{needs}
-use Rattle.bits.proofs.put_window.Statement.{statement}
-use Rattle.bits.proofs.put_window.Tie as tie
+use Rattle.put_bits.proofs.put_window.Statement.{statement}
+use Rattle.put_bits.proofs.put_window.Tie as tie
 
 cast-d : tie.Need-cast-d
 cast-d c = search needs

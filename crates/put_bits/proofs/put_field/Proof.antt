@@ -1,4 +1,4 @@
--- `bits::put_field` meets its contract.
+-- `put_bits::put_field` meets its contract.
 use Prim.Native.Nat.{ℕ, _+_, _*_, _/_, _%_, _≤_, _<_}
 use mathlib.Core.Path.{_≡_, refl, _∙_, ap}
 use mathlib.Core.Bool.{Bool, true, false, _&&_}
@@ -6,12 +6,12 @@ use native.Mathlib.Omega.{arith}
 use lib.Dec.{leb, ltb}
 use lib.ListN.{length}
 use borrow.Author.Tests.{leb-true, ltb-true}
 use Rattle.bits.specs.Bits.{put}
-use Rattle.bits.specs.Engine.{merge}
-use Rattle.bits.proofs.Stores.{put-merged}
+use Rattle.put_bits.specs.Engine.{merge}
+use Rattle.put_bits.proofs.Stores.{put-merged}
 use borrow.Author.Needs.{needs}
-use Rattle.bits.proofs.put_field.Statement.{statement}
-use Rattle.bits.proofs.put_field.Tie as tie
+use Rattle.put_bits.proofs.put_field.Statement.{statement}
+use Rattle.put_bits.proofs.put_field.Tie as tie
 
 both : (s t : Bool) → (s && t) ≡ true → (s ≡ true) × (t ≡ true)
 both true t e = (refl, e)

@@ -1,14 +1,14 @@
--- `bits::put_parts` meets its contract.
+-- `put_bits::put_parts` meets its contract.
 use Prim.Native.Nat.{ℕ, _+_, _-_, _/_, _^_, _≤_}
 use mathlib.Core.Path.{_≡_, refl, ap, _∙_}
 use mathlib.Core.List.{List}
 use native.Mathlib.Omega.{arith}
 use lib.ListN.{length}
 use Rattle.bits.specs.Bits.{put}
 use Rattle.bits.proofs.Writes.{put-none, put-more, put-length}
 use borrow.Author.Needs.{needs}
-use Rattle.bits.proofs.put_parts.Statement.{statement}
-use Rattle.bits.proofs.put_parts.Tie as tie
+use Rattle.put_bits.proofs.put_parts.Statement.{statement}
+use Rattle.put_bits.proofs.put_parts.Tie as tie
 
 abbrev Inv-loop : tie.InvT-loop
 Inv-loop d₀ at n v k₀ d k = (k ≤ n) × (d ≡ put d₀ at k v) × (length d ≡ length d₀)

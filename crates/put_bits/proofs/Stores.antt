@@ -9,10 +9,10 @@ use lib.Arith.{digits-lt}
 use lib.ListN.{getD, length, set, length-set}
 use lib.Seq.{getD-set-same, getD-set-other}
 use lib.Pow as P
 use Rattle.bits.specs.Bits.{bit, field, put, Small}
 use Rattle.bits.proofs.Fields.{inner, bit-end, field-bit}
-use Rattle.bits.specs.Engine.{merge}
+use Rattle.put_bits.specs.Engine.{merge}
 use Rattle.bits.proofs.Writes.{put-length, put-small, put-in, put-before, put-after, is-put, put-more}
 
 module _ (x a m w : ℕ) where
   merge-high : merge x a m w / 2 ^ a ≡ x / 2 ^ (a + m) * 2 ^ m + w % 2 ^ m

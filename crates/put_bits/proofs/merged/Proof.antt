@@ -1,14 +1,14 @@
--- `bits::merged` meets its contract.
+-- `put_bits::merged` meets its contract.
 use Prim.Native.Nat.{ℕ, _+_, _*_, _/_, _%_, _^_, _≤_}
 use mathlib.Core.Path.{_≡_, _∙_, ap}
 use native.Mathlib.Nat.{mod-lt, add-mul}
 use native.Mathlib.Omega.{arith}
 use lib.Pow.{pow-pos, shl-exact, split}
 use Rattle.bits.proofs.Fields.{shl-one}
-use Rattle.bits.proofs.Stores.{merge-lt, merge-change}
+use Rattle.put_bits.proofs.Stores.{merge-lt, merge-change}
 use borrow.Author.Needs.{needs}
-use Rattle.bits.proofs.merged.Statement.{statement}
-use Rattle.bits.proofs.merged.Tie as tie
+use Rattle.put_bits.proofs.merged.Statement.{statement}
+use Rattle.put_bits.proofs.merged.Tie as tie
 
 -- all that the needs want: no shift loses a bit, the bits that go were there, and the sum is as wide as x
 module _ (c : tie.Start) where
