@@ -8,14 +8,14 @@ ghost use Rattle.both_halves.specs.Engine.{acceptedPlan};
 pub fn plan_accepted(bw: u32, a: &[u8], b: &[u8]) -> Planned
     ensures { λ r. ⌜ r ≡ acceptedPlan bw (now (a .entry)) (now (b .entry)) ⌝ }
 {
-    let plan = halves::plan_frame(bw, a, b, false);
+    let plan = first_half::plan_frame(bw, a, b, false);
     let planned = plan.outcome;
     if let Outcome::Refuse(_) = planned {
         return plan;
     }
     let m = plan.fields1;
     let k = plan.fields2;
-    let outcome = halves::then_users(planned, bw, a, b, m, k, false);
+    let outcome = second_half::then_users(planned, bw, a, b, m, k, false);
     let row = plan.row;
     let kinds = plan.kinds;
     Planned {

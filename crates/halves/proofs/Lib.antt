@@ -2,6 +2,5 @@ pub mod Rows
 pub mod Counts
 pub mod Carried
 pub mod Half
-pub mod Agree
 pub mod Exactly
 pub mod Stages

@@ -31,7 +31,7 @@ fn check_users(
         × (m ≡ count bw 2 (now b)) ⌝ }
     ensures { λ r. ⌜ r ≡ (outcome9to11 bw (now (a .entry)) (now (b .entry)) or check12 bw (now (a .entry)) (now (b .entry)) room) ⌝ }
 {
-    let seen = halves::then_users(Outcome::Pass, bw, a, b, n, m, sealed);
+    let seen = second_half::then_users(Outcome::Pass, bw, a, b, n, m, sealed);
     let need = 10 + (n + m);
     then_room(seen, need, room)
 }
@@ -42,7 +42,7 @@ fn read_as(bandwidth: u32, cc1: &[u8], cc2: &[u8], words: &mut [u32], sealed: bo
     ensures { λ r. ⌜ r ≡ readAnswer bandwidth (now (cc1 .entry)) (now (cc2 .entry)) (length (now (words .entry))) ⌝ }
     ensures { λ _. ⌜ now (words .exit) ≡ wordsAfter bandwidth (now (cc1 .entry)) (now (cc2 .entry)) (now (words .entry)) ⌝ }
 {
-    let plan = halves::plan_frame(bandwidth, cc1, cc2, sealed);
+    let plan = first_half::plan_frame(bandwidth, cc1, cc2, sealed);
     let planned = plan.outcome;
     if let Outcome::Refuse(x) = planned {
         return x;

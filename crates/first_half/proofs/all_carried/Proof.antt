@@ -1,0 +1,64 @@
+-- `first_half::all_carried` meets its contract.
+use Prim.Native.Nat.{_-_, _≤_}
+use mathlib.Core.Path.{_≡_, refl, _∙_, ap}
+use native.Mathlib.Omega.{arith}
+use lib.ListN.{length}
+use Rattle.resource.specs.Values.{carried}
+use Rattle.answer.specs.Lists.{at}
+use Rattle.halves.specs.Engine.{every, allCarried}
+use Rattle.halves.proofs.Carried.{every-next}
+use borrow.Author.Needs.{needs}
+use Rattle.first_half.proofs.all_carried.Statement.{statement}
+use Rattle.first_half.proofs.all_carried.Tie as tie
+
+abbrev Inv-loop : tie.InvT-loop
+Inv-loop row all₀ p₀ all p = (p ≤ length row) × (all ≡ every (λ q. carried (at row q)) p)
+
+abbrev μ-loop : tie.MeasureT-loop
+μ-loop row all₀ p₀ all p = length row - p
+
+loop-holds : tie.Need-loop-holds Inv-loop μ-loop
+loop-holds c = (omega arith, refl)
+
+mul-is-carried : tie.Need-mul-is-carried Inv-loop μ-loop
+mul-is-carried c = search needs
+
+shared-slice-read-is-carried : tie.Need-shared-slice-read-is-carried Inv-loop μ-loop
+shared-slice-read-is-carried c = search needs
+
+is-carried-requires : tie.Need-is-carried-requires Inv-loop μ-loop
+is-carried-requires c κs = search needs
+
+add-p : tie.Need-add-p Inv-loop μ-loop
+add-p c = search needs
+
+loop-less : tie.Need-loop-less Inv-loop μ-loop
+loop-less c = search needs
+
+loop-again : tie.Need-loop-again Inv-loop μ-loop
+loop-again c =
+    let row = c .before .before .before .before .before .args .row .now in
+    let l = c .before .before .before .loop in
+    (omega arith, rw (l .inv .1, c .is-carried .ensures) (every-next (λ q. carried (at row q)) (l .p)))
+
+returns : tie.Need-returns Inv-loop μ-loop
+unfolding allCarried
+returns c =
+    let row = c .before .before .before .args .row .now in
+    let e : c .before .loop .p ≡ length row = omega arith in
+    c .before .loop .inv .1 ∙ ap (every (λ q. carried (at row q))) e
+
+pub all-carried-spec : {M : Type 1} → statement M
+all-carried-spec =
+    tie.close
+    (tie.spec
+    Inv-loop
+    μ-loop
+    loop-holds
+    mul-is-carried
+    shared-slice-read-is-carried
+    is-carried-requires
+    add-p
+    loop-less
+    loop-again
+    returns)
