@@ -14,7 +14,8 @@ use Rattle.answer.proofs.Least.{least-is, least-below}
 use Rattle.resource.specs.Values.{fieldsOf}
 use Rattle.channel.specs.Layout.{subfieldsIn, value, total, count}
 use Rattle.channel.proofs.Laws.{total-next, count-le}
-use Rattle.frame_words.specs.Engine.{Holds, Formats, runWord}
+use Rattle.user_words.specs.Engine.{runWord}
+use Rattle.frame_words.specs.Engine.{Holds, Formats}
 use Rattle.frame_words.specs.Words.{before, giver, sharedAt, positionIn, userWordAt}
 
 total-rises : (f : ℕ → ℕ) (m n : ℕ) → m ≤ n → total f m ≤ total f n

@@ -1,15 +1,12 @@
 -- Engine: what the words of a frame are made from beside its bytes, its row and the formats of its positions. The contracts of the code cite
 -- it; nobody has to believe it.
 use mathlib.Core.Path.{_≡_}
-use mathlib.Core.Bool.{Bool}
 use mathlib.Core.List.{List}
-use Prim.Native.Nat.{ℕ, _/_, _%_, _^_, _<_, _+_}
+use Prim.Native.Nat.{ℕ, _/_, _%_, _^_, _<_}
 use lib.Dec.{eqb}
 use lib.ListN.{length, getD}
-use Rattle.bits.specs.Bits.{field}
 use Rattle.plan.specs.Fields.{shared}
-use Rattle.channel.specs.Layout.{subfieldsIn, value, userAt}
-use Rattle.words.specs.Words.{userWord}
+use Rattle.channel.specs.Layout.{subfieldsIn, value}
 use Rattle.frame_words.specs.Words.{positionIn, sharedAt}
 
 -- the row r has channel c's values, of bytes s, at the channel's positions
@@ -20,7 +17,3 @@ pub record Holds (bw c : ℕ) (s r : List ℕ) : Type 0 where
 -- bit p of x is set where the fields of position p share their resource
 pub record Formats (r : List ℕ) (x : ℕ) : Type 0 where
   pub format : (p : ℕ) → p < length r → eqb (x / 2 ^ p % 2) 1 ≡ sharedAt r p
-
--- the word of the i-th User field from field j on, in one format
-abbrev pub runWord : ℕ → List ℕ → ℕ → Bool → ℕ → ℕ
-runWord bw s j shared i = userWord shared (field s (userAt bw (j + i)) 22)

@@ -6,30 +6,17 @@ ghost use lib.ListN.{length, drop};
 ghost use Rattle.answer.specs.Lists.{filled};
 ghost use Rattle.channel.specs.Layout.{count};
 ghost use Rattle.channel.specs.Layout as R;
-ghost use Rattle.frame_words.specs.Engine.{runWord};
+ghost use Rattle.user_words.specs.Engine.{runWord};
 ghost use Rattle.frame_words.specs.Words.{userWordAt, headerOf, wordsOfRow, wordCount};
 ghost use Rattle.frame_words.specs.Engine.{Holds, Formats};
 
-// The words of m User fields of one format, from field j on.
-fn put_run(out: &mut [u32], bw: u32, s: &[u8], j: usize, m: usize, shared: bool)
-    requires { ⌜ (m ≤ length (now out)) × (j + m ≤ 72) ⌝ }
-    ensures { λ _. ⌜ now (out .exit) ≡ filled (runWord bw (now (s .entry)) j shared) m (now (out .entry)) ⌝ }
-{
-    let mut i = 0;
-    while i < m {
-        let f = bits::field_at(s, channel::user_bit(bw, j + i), 22);
-        out[i] = words::user_word(shared, f);
-        i += 1;
-    }
-}
-
-// The same; most places of a larger resource give no field.
+// The words of m User fields of one format, from field j on; most places of a larger resource give no field.
 fn put_value(out: &mut [u32], bw: u32, s: &[u8], j: usize, m: usize, shared: bool)
     requires { ⌜ (m ≤ length (now out)) × (j + m ≤ 72) ⌝ }
     ensures { λ _. ⌜ now (out .exit) ≡ filled (runWord bw (now (s .entry)) j shared) m (now (out .entry)) ⌝ }
 {
     if 0 < m {
-        put_run(out, bw, s, j, m, shared);
+        user_words::put_run(out, bw, s, j, m, shared);
     }
 }
 
@@ -58,7 +45,7 @@ fn put_users(out: &mut [u32], bw: u32, c: u32, s: &[u8], row: &[u16], shared: u3
     ensures { λ _. ⌜ now (out .exit) ≡ filled (userWordAt bw (now (row .entry)) c (now (s .entry))) (count bw c (now (s .entry))) (now (out .entry)) ⌝ }
 {
     if shared == 0 {
-        put_run(out, bw, s, 0, n, false);
+        user_words::put_run(out, bw, s, 0, n, false);
     } else {
         put_formats(out, bw, c, s, row, shared);
     }

@@ -8,7 +8,7 @@ use Rattle.answer.proofs.Lists.{filled-length, filled-start}
 use Rattle.answer.specs.Lists.{filled}
 use Rattle.channel.specs.Layout.{subfieldsIn, count}
 use Rattle.frame_words.specs.Words.{positionIn, before, userWordAt}
-use Rattle.frame_words.specs.Engine.{runWord}
+use Rattle.user_words.specs.Engine.{runWord}
 use Rattle.frame_words.proofs.Givers.{Turn, turn, count-before, before-none, run-words}
 use Rattle.frame_words.proofs.Grow.{part-tail, grown}
 use borrow.Author.Needs.{needs}

@@ -7,7 +7,7 @@ use Rattle.answer.specs.Lists.{filled}
 use Rattle.answer.proofs.Lists.{filled-cong}
 use Rattle.channel.specs.Layout.{count}
 use Rattle.channel.proofs.Laws.{count-le}
-use Rattle.frame_words.specs.Engine.{runWord}
+use Rattle.user_words.specs.Engine.{runWord}
 use Rattle.frame_words.specs.Words.{userWordAt}
 use Rattle.frame_words.proofs.Givers.{lone-words}
 use borrow.Author.Needs.{needs}

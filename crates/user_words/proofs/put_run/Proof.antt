@@ -1,5 +1,5 @@
--- `frame_words::put_run` meets its contract.
-use Rattle.frame_words.specs.Engine.{runWord}
+-- `user_words::put_run` meets its contract.
+use Rattle.user_words.specs.Engine.{runWord}
 use Rattle.answer.specs.Lists.{filled}
 use Rattle.answer.proofs.Lists.{filled-start, filled-step}
 use lib.ListN.{length, set, length-set}
@@ -7,8 +7,8 @@ use Prim.Native.Nat.{_+_, _-_, _≤_}
 use mathlib.Core.Path.{_≡_, refl, _∙_}
 use native.Mathlib.Omega.{arith}
 use borrow.Author.Needs.{needs}
-use Rattle.frame_words.proofs.put_run.Statement.{statement}
-use Rattle.frame_words.proofs.put_run.Tie as tie
+use Rattle.user_words.proofs.put_run.Statement.{statement}
+use Rattle.user_words.proofs.put_run.Tie as tie
 
 abbrev Inv-loop : tie.InvT-loop
 Inv-loop out₀ bw s j m shared i₀ out i = (i ≤ m) × (out ≡ filled (runWord bw s j shared) i out₀) × (length out ≡ length out₀)
