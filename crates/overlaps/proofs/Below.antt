@@ -7,7 +7,7 @@ use lib.Dec.{ltb}
 use borrow.Author.Tests.{ltb-true}
 use Rattle.answer.specs.Tally.{tally}
 use Rattle.answer.proofs.Tally.{tally-cong}
-use Rattle.overlaps.specs.Engine.{meet, hit, pairsTo}
+use Rattle.masks.specs.Engine.{meet, hit, pairsTo}
 
 module _ (m o : ℕ → ℕ) (n : ℕ) (h : (k : ℕ) → k < n → m k ≡ o k) where
   hit-below : (q : ℕ) → hit m n q ≡ hit o n q

@@ -29,7 +29,7 @@ use Rattle.resource.proofs.Agree.{AgreesAt, agrees-test, tested-agrees}
 use Rattle.trigger_values.specs.Values.{named, resourceOf, reaches, taken}
 use Rattle.trigger_values.proofs.Back.{named-low, taken-named}
 use Rattle.overlaps.specs.Overlaps.{Share}
-use Rattle.overlaps.specs.Engine.{maskOf}
+use Rattle.masks.specs.Engine.{maskOf}
 
 -- ---- bits
 abbrev bit : ℕ → ℕ → ℕ

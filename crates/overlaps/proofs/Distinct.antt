@@ -9,7 +9,7 @@ use Rattle.resource.proofs.Test.{wherever, met, below, every-below}
 use Rattle.trigger_values.specs.Values.{named, resourceOf, taken}
 use Rattle.trigger_values.specs.Engine.{valueFor}
 use Rattle.trigger_values.proofs.Back.{named-low, taken-named, value-back}
-use Rattle.overlaps.specs.Engine.{maskOf}
+use Rattle.masks.specs.Engine.{maskOf}
 
 abbrev both-named : ℕ → ℕ → Bool
 both-named v w = wherever (named v) (wherever (named w) (eqb v w))

@@ -19,7 +19,8 @@ use Rattle.bits.proofs.Fields.{field-ext}
 use Rattle.trigger_values.specs.UserInfo.{part}
 use Rattle.trigger.specs.Reading.{infoOutcome}
 use Rattle.overlaps.specs.Overlaps.{infoAt}
-use Rattle.overlaps.specs.Engine.{maskOf, maskAt}
+use Rattle.masks.specs.Engine.{maskOf}
+use Rattle.overlaps.specs.Engine.{maskAt}
 use Rattle.overlaps.specs.Result.{placed, entriesOutcome}
 
 pub info-field : (es : List ℕ) (i : ℕ) → infoAt es i ≡ field es (40 * i) 40

@@ -2,9 +2,6 @@ pub mod Cells
 pub mod Distinct
 pub mod Reported
 pub mod Worked
-pub mod Rows
-pub mod Written
-pub mod Apart
 pub mod Below
 pub mod Entries
 pub mod Stages

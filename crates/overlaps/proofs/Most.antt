@@ -16,7 +16,7 @@ use Rattle.overlaps.specs.Overlaps.{entriesIn}
 use Rattle.overlaps.specs.Engine.{maskAt}
 use Rattle.overlaps.specs.Worked.{pairCount}
 use Rattle.overlaps.specs.Result.{entriesOutcome, noPairRoom, overlapsOutcome, overlapsAnswer}
-use Rattle.overlaps.proofs.Rows.{tally-most}
+use Rattle.masks.proofs.Rows.{tally-most}
 use Rattle.overlaps.proofs.Judged.{Other, judgedSoFar, never-before, few, list-judged}
 
 pub pairs-most : (es : List ℕ) → entriesIn es ≤ 32 → pairCount es ≤ 496

@@ -13,7 +13,7 @@ use Rattle.answer.specs.Tally.{tally}
 use Rattle.answer.proofs.Tally.{tally-mono}
 use Rattle.resource.proofs.Test.{below-or}
 use Rattle.overlaps.specs.Overlaps.{earlier, later}
-use Rattle.overlaps.specs.Engine.{hit, pairsTo}
+use Rattle.masks.specs.Engine.{hit, pairsTo}
 
 -- ---- how many pass below a bound grows past each that passes
 counted : (t : Bool) → T t → cond {A = ℕ} t 1 0 ≡ 1

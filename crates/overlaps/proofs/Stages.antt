@@ -17,7 +17,8 @@ use Rattle.answer.proofs.Lists.{getD-filled}
 use Rattle.answer.proofs.Order.{pass-right, pass-if, or-refuse, or-next, or-pass}
 use Rattle.trigger.specs.Reading.{above2}
 use Rattle.overlaps.specs.Overlaps.{entriesIn}
-use Rattle.overlaps.specs.Engine.{maskAt, hit, pairsTo}
+use Rattle.masks.specs.Engine.{hit, pairsTo}
+use Rattle.overlaps.specs.Engine.{maskAt}
 use Rattle.overlaps.specs.Worked.{pairCount, pairBytes}
 use Rattle.overlaps.specs.Result.{notWhole, over32, entriesOutcome, noPairRoom, overlapsOutcome, overlapsAnswer, pairsAfter}
 use Rattle.overlaps.proofs.Below.{tally-below, pairs-below}

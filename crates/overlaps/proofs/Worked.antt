@@ -13,7 +13,8 @@ use Rattle.resource.proofs.Test.{below-or}
 use Rattle.trigger_values.specs.UserInfo.{valueIn}
 use Rattle.trigger_values.specs.Values.{resourceOf, taken}
 use Rattle.overlaps.specs.Overlaps.{entriesIn, infoAt, entryResource, Overlap, earlier, later}
-use Rattle.overlaps.specs.Engine.{maskOf, maskAt, meet, hit}
+use Rattle.masks.specs.Engine.{maskOf, meet, hit}
+use Rattle.overlaps.specs.Engine.{maskAt}
 use Rattle.overlaps.specs.Worked.{pairCount, pairBytes, Worked}
 use Rattle.overlaps.proofs.Cells.{meeting-share, share-meeting}
 use Rattle.overlaps.proofs.Distinct.{same-mask, one-mask}

@@ -9,7 +9,8 @@ use Rattle.answer.specs.Tally.{tally}
 use Rattle.trigger_values.specs.UserInfo.{valueIn}
 use Rattle.trigger_values.specs.Values.{taken}
 use Rattle.overlaps.specs.Overlaps.{entriesIn, infoAt, Reported}
-use Rattle.overlaps.specs.Engine.{maskAt, hit, pairsTo}
+use Rattle.masks.specs.Engine.{hit, pairsTo}
+use Rattle.overlaps.specs.Engine.{maskAt}
 
 unfoldable pub pairCount : List ℕ → ℕ
 pairCount es = tally (hit (maskAt es) (entriesIn es)) (32 * entriesIn es)

@@ -7,7 +7,7 @@ use borrow.Author.Needs.{needs}
 use lib.ListN.{length, drop, length-set}
 use Rattle.answer.specs.Lists.{at, filled}
 use Rattle.answer.proofs.Lists.{filled-start, filled-step}
-use Rattle.overlaps.proofs.Written.{front-built}
+use Rattle.masks.proofs.Written.{front-built}
 use Rattle.overlaps.proofs.copy_front.Statement.{statement}
 use Rattle.overlaps.proofs.copy_front.Tie as tie
 

@@ -9,9 +9,9 @@ use lib.ListN.{length, drop}
 use Rattle.answer.specs.Answer.{no}
 use Rattle.answer.specs.Lists.{at}
 use Rattle.answer.specs.Tally.{tally}
-use Rattle.overlaps.specs.Engine.{apartTo, hit, pairsTo}
-use Rattle.overlaps.proofs.Apart.{none-counted, none-written}
-use Rattle.overlaps.proofs.Rows.{tally-most}
+use Rattle.masks.specs.Engine.{apartTo, hit, pairsTo}
+use Rattle.masks.proofs.Apart.{none-counted, none-written}
+use Rattle.masks.proofs.Rows.{tally-most}
 use borrow.Author.Needs.{needs}
 use Rattle.overlaps.proofs.report.Statement.{statement}
 use Rattle.overlaps.proofs.report.Tie as tie

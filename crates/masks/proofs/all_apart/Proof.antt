@@ -1,13 +1,13 @@
--- `overlaps::all_apart` meets its contract.
+-- `masks::all_apart` meets its contract.
 use mathlib.Core.Path.{_≡_, refl, _∙_, ap}
 use Prim.Native.Nat.{_-_, _≤_}
 use native.Mathlib.Omega.{arith}
 use native.Mathlib.Numerals.{add-one}
 use borrow.Author.Needs.{needs}
 use Rattle.answer.specs.Lists.{at}
-use Rattle.overlaps.specs.Engine.{unionTo, apartTo}
-use Rattle.overlaps.proofs.all_apart.Statement.{statement}
-use Rattle.overlaps.proofs.all_apart.Tie as tie
+use Rattle.masks.specs.Engine.{unionTo, apartTo}
+use Rattle.masks.proofs.all_apart.Statement.{statement}
+use Rattle.masks.proofs.all_apart.Tie as tie
 
 abbrev Inv-loop : tie.InvT-loop
 Inv-loop masks n apart₀ seen₀ i₀ apart seen i = (i ≤ n) × (apart ≡ apartTo (at masks) i) × (seen ≡ unionTo (at masks) i)

@@ -11,8 +11,8 @@ use lib.Seq.{take-set-le, take-suc-set, length-take-le, getD-take}
 use Rattle.answer.specs.Lists.{at, build}
 use Rattle.answer.specs.Tally.{tally}
 use Rattle.answer.proofs.Lists.{build-is}
-use Rattle.overlaps.specs.Engine.{meet, hit, pairsTo}
-use Rattle.overlaps.proofs.Rows.{hit-within, tally-most}
+use Rattle.masks.specs.Engine.{meet, hit, pairsTo}
+use Rattle.masks.proofs.Rows.{hit-within, tally-most}
 
 -- two bytes stored past the first t
 two-more : (d : List ℕ) (t x y : ℕ) → t + 2 ≤ length d → take (t + 2) (set (set d t x) (t + 1) y) ≡ take t d ++ (x ∷ y ∷ [])

@@ -13,8 +13,8 @@ use borrow.Author.Tests.{ltb-true}
 use mir.Facts.{and-yes}
 use Rattle.answer.specs.Tally.{tally}
 use Rattle.answer.proofs.Tally.{tally-none}
-use Rattle.overlaps.specs.Engine.{unionTo, apartTo, meet, hit, pairsTo}
-use Rattle.overlaps.proofs.Rows.{pairs-skip}
+use Rattle.masks.specs.Engine.{unionTo, apartTo, meet, hit, pairsTo}
+use Rattle.masks.proofs.Rows.{pairs-skip}
 
 -- what has no bit of a union has none of either part
 or-apart : (a b c : ℕ) → bitAnd (bitOr a b) c ≡ 0 → (bitAnd a c ≡ 0) × (bitAnd b c ≡ 0)

@@ -1,4 +1,4 @@
--- `overlaps::mask_of` meets its contract: each arm is computed at all of its values.
+-- `masks::mask_of` meets its contract: each arm is computed at all of its values.
 use mathlib.Core.Path.{_≡_}
 use Prim.Native.Nat.{ℕ, _+_, _-_, _*_, _/_, _%_, _^_, _≤_, _<_}
 use native.Mathlib.Omega.{arith}
@@ -6,9 +6,9 @@ use borrow.Author.Needs.{needs}
 use borrow.Author.Tests.{lt-leb}
 use lib.Dec.{T, leb, eqb, eqb→eq, leb→le}
 use Rattle.resource.proofs.Test.{wherever, below, every-between}
-use Rattle.overlaps.specs.Engine.{maskOf}
-use Rattle.overlaps.proofs.mask_of.Statement.{statement}
-use Rattle.overlaps.proofs.mask_of.Tie as tie
+use Rattle.masks.specs.Engine.{maskOf}
+use Rattle.masks.proofs.mask_of.Statement.{statement}
+use Rattle.masks.proofs.mask_of.Tie as tie
 
 as-mask : (f : ℕ → ℕ) (a b v : ℕ) → T (below (λ v. wherever (leb a v) (eqb (f v) (maskOf v))) b) → a ≤ v → v < b → f v ≡ maskOf v
 as-mask f a b v t h l = eqb→eq (f v) (maskOf v) (every-between (λ v. eqb (f v) (maskOf v)) a b v t h l)

@@ -1,4 +1,4 @@
--- `overlaps::find_row` meets its contract.
+-- `masks::find_row` meets its contract.
 use mathlib.Core.Path.{_≡_, _∙_, ap}
 use Prim.Native.Nat.{ℕ, _+_, _-_, _*_, _≤_, _<_}
 use native.Mathlib.Omega.{arith}
@@ -6,11 +6,11 @@ use borrow.Author.Needs.{needs}
 use lib.ListN.{length, take, length-set}
 use Rattle.answer.specs.Lists.{at}
 use Rattle.answer.specs.Tally.{tally}
-use Rattle.overlaps.specs.Engine.{hit, pairsTo}
-use Rattle.overlaps.proofs.Rows.{tally-most, byte-le, tally-row-start, tally-row-end, pairs-row-start, pairs-row-end}
-use Rattle.overlaps.proofs.Written.{end-found, pairs-found}
-use Rattle.overlaps.proofs.find_row.Statement.{statement}
-use Rattle.overlaps.proofs.find_row.Tie as tie
+use Rattle.masks.specs.Engine.{hit, pairsTo}
+use Rattle.masks.proofs.Rows.{tally-most, byte-le, tally-row-start, tally-row-end, pairs-row-start, pairs-row-end}
+use Rattle.masks.proofs.Written.{end-found, pairs-found}
+use Rattle.masks.proofs.find_row.Statement.{statement}
+use Rattle.masks.proofs.find_row.Tie as tie
 
 abbrev Inv-loop : tie.InvT-loop
 Inv-loop found₀ to masks n i a end₀ j₀ found end j =

@@ -10,8 +10,7 @@ use lib.Dec.{ltb}
 use borrow.Author.Tests.{lt-ltb, le-ltb}
 use Rattle.answer.specs.Tally.{tally}
 use Rattle.answer.proofs.Tally.{tally-split, tally-none, tally-mono, tally-under}
-use Rattle.trigger.proofs.Stages.{both-true}
-use Rattle.overlaps.specs.Engine.{meet, hit, pairsTo}
+use Rattle.masks.specs.Engine.{meet, hit, pairsTo}
 
 pub hit-at : (m : ℕ → ℕ) (n i j : ℕ) → j < 32 → hit m n (32 * i + j) ≡ ((ltb i j && ltb j n) && meet (m i) (m j))
 unfolding hit
@@ -89,7 +88,11 @@ unfolding hit rising
 hit-rising m n q e =
     let a = ltb (q / 32) (q % 32) in
     let b = ltb (q % 32) n in
-    both-true a b (both-true (a && b) (meet (m (q / 32)) (m (q % 32))) e .0) .0
+    left-true a b (left-true (a && b) (meet (m (q / 32)) (m (q % 32))) e)
+  where
+    left-true : (a b : Bool) → a && b ≡ true → a ≡ true
+    left-true true b e = refl
+    left-true false b e = e
 
 pub tally-most : (m : ℕ → ℕ) (n q : ℕ) → q ≤ 1024 → tally (hit m n) q ≤ 496
 tally-most m n q h =

@@ -1,4 +1,4 @@
--- `overlaps::find_pairs` meets its contract.
+-- `masks::find_pairs` meets its contract.
 use mathlib.Core.Path.{_≡_, refl, _∙_, ap}
 use Prim.Native.Nat.{ℕ, _-_, _*_, _≤_}
 use native.Mathlib.Omega.{arith}
@@ -6,9 +6,9 @@ use borrow.Author.Needs.{needs}
 use lib.ListN.{length, take}
 use Rattle.answer.specs.Lists.{at}
 use Rattle.answer.specs.Tally.{tally}
-use Rattle.overlaps.specs.Engine.{hit, pairsTo}
-use Rattle.overlaps.proofs.find_pairs.Statement.{statement}
-use Rattle.overlaps.proofs.find_pairs.Tie as tie
+use Rattle.masks.specs.Engine.{hit, pairsTo}
+use Rattle.masks.proofs.find_pairs.Statement.{statement}
+use Rattle.masks.proofs.find_pairs.Tie as tie
 
 abbrev Inv-loop : tie.InvT-loop
 Inv-loop found₀ masks n end₀ i₀ found end i =

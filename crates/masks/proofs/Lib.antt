@@ -1,0 +1,4 @@
+pub mod Rows
+pub mod Written
+pub mod Apart
+pub mod Agree
