@@ -22,7 +22,7 @@ use Rattle.writer.specs.Worked.{someRead}
 use Rattle.writer.specs.Result.{check13, check14, writeOutcome}
 use Rattle.word_bytes.specs.Bytes.{wordAt, wordsIn}
 use Rattle.brachymel.specs.Bytes.{ragged, bytesOutcome}
-use Rattle.brachymel.specs.Engine.{early}
+use Rattle.whole_words.specs.Engine.{early}
 
 -- more words than any frame has are read by no channels
 not-so-many : (bw : ℕ) (a b w : List ℕ) → 154 < length w → readsTo bw a b w ≡ false

@@ -2,11 +2,10 @@
 use answer::Answer;
 use answer::Outcome;
 ghost use mathlib.Core.Path.{_≡_};
-ghost use Prim.Native.Nat.{_/_, _%_, _≤_, _<_};
+ghost use Prim.Native.Nat.{_/_, _≤_};
 ghost use lib.ListN.{length};
 ghost use Rattle.word_bytes.specs.Bytes.{wordsIn};
 ghost use Rattle.brachymel.specs.Bytes.{bytesReadAnswer, readBytes, bytesWriteAnswer, writeChannel};
-ghost use Rattle.brachymel.specs.Engine.{early};
 ghost use Rattle.writer.specs.Result.{writeAnswer, channelAfter};
 ghost use Rattle.listed.specs.Listing.{listAnswer, listAfter};
 ghost use Rattle.compared.specs.Text.{compareAnswer, compareAfter};
@@ -78,25 +77,12 @@ pub extern "C" fn brachymel_write(
         ≡ writeChannel bandwidth (now (words .entry)) (length (now (cc1 .entry))) (length (now (cc2 .entry))) 2 (now (cc2 .entry)) ⌝ }
 {
     let n = words.len() / 4;
-    let early = refused_early(bandwidth, words.len(), n);
+    let early = whole_words::refused_early(bandwidth, words.len(), n);
     if let Outcome::Refuse(x) = early {
         return x;
     }
     let mut local = [0u32; 154];
     write_through(bandwidth, words, n, cc1, cc2, &mut local)
-}
-
-// 1, and the 13 of a text that is not whole words or has more than any frame.
-fn refused_early(bandwidth: u32, bytes: usize, n: usize) -> Outcome
-    ensures { λ r. ⌜ r ≡ early bandwidth bytes n ⌝ }
-{
-    answer::or_else(
-        answer::refuse_if(4 < bandwidth, 1, 0, 0),
-        answer::or_else(
-            answer::refuse_if(bytes % 4 != 0, 13, 0, 0),
-            answer::refuse_if(154 < n, 13, 0, 0),
-        ),
-    )
 }
 
 #[no_mangle]

@@ -1,9 +1,9 @@
--- `brachymel::refused_early` meets its contract.
-use Rattle.brachymel.specs.Engine.{early}
+-- `whole_words::refused_early` meets its contract.
+use Rattle.whole_words.specs.Engine.{early}
 use mathlib.Core.Path.{refl, _∙_}
 use borrow.Author.Needs.{needs}
-use Rattle.brachymel.proofs.refused_early.Statement.{statement}
-use Rattle.brachymel.proofs.refused_early.Tie as tie
+use Rattle.whole_words.proofs.refused_early.Statement.{statement}
+use Rattle.whole_words.proofs.refused_early.Tie as tie
 
 refuse-if-requires : tie.Need-refuse-if-requires
 refuse-if-requires c κs = search needs

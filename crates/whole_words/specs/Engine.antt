@@ -1,4 +1,5 @@
--- Engine: what can be refused before the words are looked at. The contracts of the code cite it; nobody has to believe it: `proofs/Early.antt`.
+-- Engine: what can be refused before the words are looked at. The contracts of the code cite it; nobody has to believe it:
+-- `brachymel/proofs/Early.antt`.
 use mathlib.Core.Bool.{not}
 use Prim.Native.Nat.{ℕ, _%_}
 use lib.Dec.{ltb, eqb}
