@@ -9,7 +9,7 @@ use Rattle.answer.specs.declared.Answer.{Answer}
 use Rattle.reader.proofs.read.Reads as read
 use Rattle.writer.proofs.write.Reads as write
 use Rattle.listing.proofs.list.Reads as list
-use Rattle.listing.proofs.respond.Reads as respond
+use Rattle.responding.proofs.respond.Reads as respond
 use Rattle.brachymel.proofs.brachymel_read.Reads as c-read
 use Rattle.brachymel.proofs.brachymel_write.Reads as c-write
 use Rattle.brachymel.proofs.brachymel_list.Reads as c-list
@@ -109,7 +109,7 @@ pub data Writes : WriteCall → Type 0 where
   writes : (κs : _) (a : _) (r : _) (s : _) → write.Post κs a r s
       → Writes (write-call (a .0) (now (a .1 .0)) (now (a .1 .1 .0)) (now (a .1 .1 .1 .0)) r (now (s .1 .1 .0)) (now (s .1 .1 .1 .0)))
 
--- `listing::respond`, with lent bytes
+-- `responding::respond`, with lent bytes
 pub data Responds : TextCall → Type 0 where
   responds : (κs : _) (a : _) (r : _) (s : _) → respond.Post κs a r s
       → Responds (record { text = now (a .0); lent = now (a .1 .0); bytes = r; after = now (s .1 .0) })

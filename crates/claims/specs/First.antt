@@ -17,7 +17,7 @@ use Rattle.writer.specs.Result.{writeNumbers, writeChecks}
 use Rattle.writer.proofs.write.Reads as write
 use Rattle.listed.specs.Listing.{listing, listNumbers, listChecks}
 use Rattle.listing.proofs.list.Reads as list
-use Rattle.listing.proofs.respond.Reads as respond
+use Rattle.responding.proofs.respond.Reads as respond
 use Rattle.word_bytes.specs.Bytes.{wordsIn}
 use Rattle.brachymel.specs.Bytes.{bytesChecks}
 use Rattle.brachymel.proofs.brachymel_read.Reads as c-read

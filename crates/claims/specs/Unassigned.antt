@@ -1,7 +1,7 @@
 -- 02, T-01: "STA-ID 2046 marks a resource that nobody has. .. It keeps its User field, its word and its share of the eight, but stations=
 -- leaves it out and its line has none for the number, resource= staying."
 --
--- Calls of `listing::list`, `brachymel_list` and `listing::respond` are `Calls.antt`'s: all that their contracts allow. That the field, its word
+-- Calls of `listing::list`, `brachymel_list` and `responding::respond` are `Calls.antt`'s: all that their contracts allow. That the field, its word
 -- and its share are kept is the second and the third demand, which know no STA-ID apart from the others.
 use mathlib.Core.Path.{_≡_}
 use mathlib.Core.List.{List, _++_}

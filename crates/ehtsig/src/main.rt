@@ -9,7 +9,7 @@ fn run(text: &mut [u8], out: &mut [u8])
     requires { ⌜ 10131 ≤ length (now out) ⌝ }
 {
     let n = io::read_full(STDIN_FILENO, text);
-    let m = listing::respond(&text[..n], out);
+    let m = responding::respond(&text[..n], out);
     io::write_all(STDOUT_FILENO, &out[..m]);
 }
 

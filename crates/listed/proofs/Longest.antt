@@ -176,6 +176,6 @@ program-most s = go (said s)
     go (wrong k) = omega (arith, refusal-short 22 0 k)
     go (frame bw a b) = frame-most bw a b
 
--- which is how many bytes `listing::respond` says it wrote
+-- which is how many bytes `responding::respond` says it wrote
 pub respond-most : {d e : List ℕ} {r : ℕ} (s : List ℕ) → Wrote d 0 (programText s) e r → r ≤ 10131
 respond-most s w = omega (arith, written w, program-most s)

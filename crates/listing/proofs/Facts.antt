@@ -3,13 +3,12 @@ use mathlib.Core.Path.{_≡_, refl, sym, ap, _∙_}
 use mathlib.Core.Bool.{Bool, true, false}
 use mathlib.Core.List.{List, _++_}
 use mathlib.Core.Logic.{_⊎_, inl, inr}
-use Prim.Native.Nat.{ℕ, _+_, _<_}
-use native.Mathlib.Omega.{arith}
-use borrow.Author.Tests.{lt-ltb, le-ltb, ltb-true, ltb-false}
+use Prim.Native.Nat.{ℕ, _+_}
+use borrow.Author.Tests.{le-ltb}
 use denote.Ref.{now}
 use lib.Dec.{ltb}
 use lib.ListN.{length, take, drop, getD}
-use lib.Seq.{take-all, length-take-le, take-append-seam}
+use lib.Seq.{take-append-seam}
 use Rattle.answer.specs.Answer.{_or_}
 use Rattle.answer.proofs.Order.{after-kept}
 use Rattle.answer.specs.declared.Answer.{Answer}
@@ -23,22 +22,15 @@ use Rattle.reader.specs.Table.{check12, noRoom}
 use Rattle.frame_words.proofs.Counted.{word-count-le}
 use Rattle.reader.proofs.Stages.{readOutcome-stages}
 use Rattle.reader.specs.Result.{readAnswer}
-use Rattle.input.specs.Engine.{parsed}
-use Rattle.input.specs.Worked.{said}
 use Rattle.lines.specs.Lines.{headText}
 use Rattle.listed.specs.Listing.{recordLine, resources, ruLines, staLineAt, staLines, stationsIn, listingOf, listing}
-use Rattle.listed.specs.Listing.{check23, listOutcome, listAnswer, listAfter, programText}
+use Rattle.listed.specs.Listing.{check23, listOutcome, listAnswer, listAfter}
 use Rattle.listing.proofs.list.Reads as list
-use Rattle.listing.proofs.respond.Reads as respond
 
 -- ---- any two results that a contract allows for one input agree
 pub list-agrees : (κs : _) (a : _) (r r' : _) (s s' : _) → list.Post κs a r s → list.Post κs a r' s'
     → (r ≡ r') × (now (s .1 .1 .1 .0) ≡ now (s' .1 .1 .1 .0))
 list-agrees κs a r r' s s' p q = (p .0 ∙ sym (q .0), p .1 ∙ sym (q .1))
-
-pub respond-agrees : (κs : _) (a : _) (r r' : _) (s s' : _) → respond.Post κs a r s → respond.Post κs a r' s'
-    → (r ≡ r') × (now (s .1 .0) ≡ now (s' .1 .0))
-respond-agrees κs a r r' s s' p q = (p .next ∙ sym (q .next), p .bytes ∙ sym (q .bytes))
 
 -- ---- "Every refusal writes nothing"
 pub list-kept : (bw : ℕ) (a b d : List ℕ) → (listAnswer bw a b (length d) .number ≡ 0 → ⊥) → listAfter bw a b d ≡ d
@@ -82,15 +74,3 @@ pub listing-lines : (bw : ℕ) (a b : List ℕ)
     ++ upto (staLineAt bw (row bw a b) a b (count bw 1 a)) (count bw 1 a + count bw 2 b)
 unfolding listing listingOf ruLines staLines
 listing-lines bw a b = refl
-
--- ---- the program hands over at most 8,193 bytes, and that suffices to tell
-pub enough : (s : List ℕ) → programText (take 8193 s) ≡ programText s
-unfolding programText said parsed
-enough s = go (ltb 8193 (length s)) refl
-  where
-    go : (t : Bool) → ltb 8193 (length s) ≡ t → programText (take 8193 s) ≡ programText s
-    go true e =
-        let l : 8193 < length s = ltb-true 8193 (length s) e in
-        let k : length (take 8193 s) ≡ 8193 = length-take-le 8193 s (omega arith) in
-        rw (k, lt-ltb 8192 (length s) (omega arith))
-    go false e = ap programText (take-all 8193 s (ltb-false 8193 (length s) e))

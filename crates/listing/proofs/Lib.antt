@@ -1,6 +1,3 @@
-pub mod Held
-pub mod Shown
-pub mod Channels
 pub mod Outcome
 pub mod Facts
 pub mod Judged

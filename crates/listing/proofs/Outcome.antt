@@ -4,10 +4,8 @@ use mathlib.Core.List.{List, [], _++_}
 use Prim.Native.Nat.{ℕ, _≤_, _<_}
 use native.Mathlib.Omega.{arith}
 use borrow.Author.Tests.{lt-ltb, le-ltb}
-use lib.ListN.{length, take}
+use lib.ListN.{length}
 use Rattle.answer.specs.Answer.{no, _or_}
-use Rattle.answer.specs.Lists.{build, filled}
-use Rattle.answer.proofs.Lists.{take-filled}
 use Rattle.answer.specs.declared.Answer.{Answer}
 use Rattle.answer.specs.declared.Outcome.the-variants.{Pass, Refuse}
 use Rattle.text.specs.Text.{Wrote}
@@ -45,7 +43,3 @@ module _ (bw : ℕ) (a b d : List ℕ) where
       let h′ : n ≤ length d = rw z at h in
       let v′ : Wrote d 0 (listing bw a b) f r = rw z at v in
       at-once p v′ (omega (arith, count w, count v′))
-
--- the bytes at the front of a channel's buffer
-pub front-of : {r : List ℕ} (f : ℕ → ℕ) (n : ℕ) (w : List ℕ) → r ≡ filled f n w → take n r ≡ build f n
-front-of f n w e = rw e (take-filled f n w)

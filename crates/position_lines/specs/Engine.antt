@@ -1,5 +1,5 @@
 -- Engine: the lines of resources with the subcarriers that the code finds. The contracts of the code cite it; nobody has to believe
--- it: `listing/proofs/Shown.antt`.
+-- it: `listing_lines/proofs/Shown.antt`.
 use mathlib.Core.List.{List, map}
 use Prim.Native.Nat.{ℕ, _+_}
 use lib.ListN.{length, getD}

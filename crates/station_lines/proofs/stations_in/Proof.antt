@@ -1,0 +1,89 @@
+-- `station_lines::stations_in` meets its contract.
+use borrow.Author.Needs.{needs}
+use native.Mathlib.Omega.{arith}
+use mathlib.Core.Path.{_≡_, refl, ap, _∙_}
+use mathlib.Core.Bool.{Bool, true, false, cond}
+use Prim.Native.Nat.{ℕ, _+_, _-_, _≤_}
+use mir.Val.{boolByte}
+use Rattle.answer.specs.Tally.{tally}
+use Rattle.answer.proofs.Tally.{tally-step}
+use Rattle.bits.specs.Bits.{field}
+use Rattle.stations.specs.Stations.{stationAt}
+use Rattle.lines.specs.Lines.{assigned}
+use Rattle.station_lines.proofs.stations_in.Statement.{statement}
+use Rattle.station_lines.proofs.stations_in.Tie as tie
+
+as-number : (t : Bool) → boolByte t ≡ cond t 1 0
+as-number true = refl
+as-number false = refl
+
+one-most : (t : Bool) → boolByte t ≤ 1
+one-most true = omega arith
+one-most false = omega arith
+
+abbrev Inv-loop : tie.InvT-loop
+Inv-loop bw s n stations₀ i₀ stations i = (i ≤ n) × (stations ≤ i) × (stations ≡ tally (λ j. assigned (stationAt bw s j)) i)
+
+abbrev μ-loop : tie.MeasureT-loop
+μ-loop bw s n stations₀ i₀ stations i = n - i
+
+loop-holds : tie.Need-loop-holds Inv-loop μ-loop
+loop-holds c = (search needs, omega arith, refl)
+
+user-bit-requires : tie.Need-user-bit-requires Inv-loop μ-loop
+user-bit-requires c κs = search needs
+
+field-at-requires : tie.Need-field-at-requires Inv-loop μ-loop
+field-at-requires c κs = search needs
+
+is-assigned-requires : tie.Need-is-assigned-requires Inv-loop μ-loop
+is-assigned-requires c κs = search needs
+
+cast-stations : tie.Need-cast-stations Inv-loop μ-loop
+cast-stations c = search needs
+
+add-stations : tie.Need-add-stations Inv-loop μ-loop
+add-stations c = let h = one-most (c .is-assigned .result) in search needs
+
+add-i : tie.Need-add-i Inv-loop μ-loop
+add-i c = search needs
+
+loop-less : tie.Need-loop-less Inv-loop μ-loop
+loop-less c = search needs
+
+loop-again : tie.Need-loop-again Inv-loop μ-loop
+loop-again c =
+    let s = c .before .before .before .before .before .before .args in
+    let l = c .before .before .before .before .loop in
+    let read = c .before in
+    let id : read .field-at .result ≡ stationAt (s .bw) (s .s .now) (l .i) =
+    read .field-at .ensures ∙ ap (λ (x : ℕ). field (s .s .now) x 11) (read .before .user-bit .ensures) in
+    let t : c .is-assigned .result ≡ assigned (stationAt (s .bw) (s .s .now) (l .i)) = c .is-assigned .ensures ∙ ap assigned id in
+    let h = one-most (c .is-assigned .result) in (
+      omega arith,
+      omega arith,
+      ap (λ (x : ℕ). l .stations + x) (as-number (c .is-assigned .result) ∙ ap (λ (b : Bool). cond b 1 0) t)
+          ∙ tally-step (λ j. assigned (stationAt (s .bw) (s .s .now) j)) (l .i) (l .stations) (l .inv .2),
+    )
+
+returns : tie.Need-returns Inv-loop μ-loop
+returns c =
+    let e : c .before .loop .i ≡ c .before .before .before .args .n = omega arith in
+    (rw e at (c .before .loop .inv .2), omega arith)
+
+pub stations-in-spec : {M : Type 1} → statement M
+stations-in-spec =
+    tie.close
+    (tie.spec
+    Inv-loop
+    μ-loop
+    loop-holds
+    user-bit-requires
+    field-at-requires
+    is-assigned-requires
+    cast-stations
+    add-stations
+    add-i
+    loop-less
+    loop-again
+    returns)
