@@ -36,7 +36,8 @@ use Rattle.candidate.specs.Length.{bytesFor}
 use Rattle.candidate.proofs.Contents.{determined}
 use Rattle.candidate.proofs.Held.{needed-1, needed-2, needed-le, present-length, absent-length, Holds, ContentsSaid}
 use Rattle.candidate.proofs.Held.{all-subfields, candidate-carries, candidate-zero, holds-1, holds-2}
-use Rattle.writer.specs.Engine.{unlike, sameWords, readsTo}
+use Rattle.same_words.specs.Engine.{unlike, sameWords}
+use Rattle.read_back.specs.Engine.{readsTo}
 use Rattle.writer.specs.Worked.{ReadsTo}
 
 -- ---- channels that the words speak of

@@ -1,4 +1,3 @@
-pub mod Back
 pub mod Exactly
 pub mod Agree
 pub mod Inverse

@@ -1,60 +1,34 @@
--- The steps of judging and writing, for the code.
+-- The steps of writing, for the code.
 use mathlib.Core.Path.{_≡_, refl, sym, _∙_, ap}
-use mathlib.Core.Bool.{Bool, true, false, cond, not, _&&_}
+use mathlib.Core.Bool.{Bool, true, false, cond, _&&_}
 use mathlib.Core.List.{List, _∷_, _++_}
 use Prim.Native.Nat.{ℕ, zero, suc, _≤_}
 use native.Mathlib.Omega.{arith}
 use lib.Dec.{ltb}
 use lib.ListN.{length, take, drop, replicate, length-replicate}
-use lib.Seq.{take-at}
-use borrow.Author.Tests.{eq-eqb, ne-eqb, ltb-false}
+use borrow.Author.Tests.{ltb-false}
 use Rattle.answer.specs.Answer as A
 use Rattle.answer.specs.Answer.{refuseIf, _or_}
-use Rattle.answer.specs.declared.Answer.{Answer}
 use Rattle.answer.specs.declared.Outcome.{Outcome}
-use Rattle.answer.specs.declared.Outcome.the-variants.{Pass, Refuse}
+use Rattle.answer.specs.declared.Outcome.the-variants.{Pass}
 use Rattle.answer.specs.Lists.{filled, at}
 use Rattle.answer.proofs.Order.{pass-left, pass-right, pass-if}
 use Rattle.answer.proofs.Lists.{build-is}
 use Rattle.channel.specs.Layout.{present}
 use Rattle.channel.proofs.Laws.{present-1}
-use Rattle.halves.specs.Table.{check1, outcome11}
-use Rattle.frame_words.specs.Words.{wordCount, wordsOf}
-use Rattle.frame_words.proofs.Determine.{words-length}
+use Rattle.halves.specs.Table.{check1}
 use Rattle.candidate.specs.Engine.{countIn, needed, bytesIn, channelIn, candidate}
 use Rattle.candidate.specs.Length.{bytesFor}
 use Rattle.candidate.proofs.Held.{present-length, absent-length}
 use Rattle.writer.specs.Worked.{someRead}
-use Rattle.writer.specs.Engine.{unlike, sameWords, readsTo, notRead}
-use Rattle.writer.specs.Result.{check13, noChannelRoom, check14, writeOutcome, front}
+use Rattle.read_back.specs.Engine.{notRead}
+use Rattle.writer.specs.Result.{check13, check14, writeOutcome, front}
+use Rattle.read_back.specs.Room.{noChannelRoom}
 
 -- a channel's bytes at the front of the lent ones, one by one
 pub front-filled : (s d : List ℕ) → filled (at s) (length s) d ≡ front s d
 unfolding front filled
 front-filled s d = ap (λ (t : List ℕ). t ++ drop (length s) d) (sym (build-is (at s) 0 s (length s) refl (λ i l. refl)))
-
--- the test of one place of two lists of words
-pub unlike-yes : (v w : List ℕ) (i : ℕ) → (at v i ≡ at w i → ⊥) → unlike v w i ≡ true
-unfolding unlike
-unlike-yes v w i d = ap not (ne-eqb (at v i) (at w i) d)
-
-pub unlike-no : (v w : List ℕ) (i : ℕ) → at v i ≡ at w i → unlike v w i ≡ false
-unfolding unlike
-unlike-no v w i e = ap not (eq-eqb (at v i) (at w i) e)
-
--- ---- the read-back
-
-pub reads-no : (bw : ℕ) (a b w : List ℕ) (o : Outcome) (x : Answer) → o ≡ outcome11 bw a b → o ≡ Refuse x → false ≡ readsTo bw a b w
-unfolding readsTo
-reads-no bw a b w o x e f = let g : outcome11 bw a b ≡ Refuse x = sym e ∙ f in rw g
-
-pub reads-yes : (bw : ℕ) (a b w v : List ℕ) (o : Outcome) (r : Bool) → o ≡ outcome11 bw a b → o ≡ Pass → v ≡ wordsOf bw a b → r ≡ sameWords v w
-    → r ≡ readsTo bw a b w
-unfolding readsTo
-reads-yes bw a b w v o r e f g h = let p : outcome11 bw a b ≡ Pass = sym e ∙ f in rw p (rw g at h)
-
-pub words-front : (bw : ℕ) (a b : List ℕ) (n : ℕ) (s t : List ℕ) → n ≡ wordCount bw a b → s ≡ wordsOf bw a b ++ t → take n s ≡ wordsOf bw a b
-words-front bw a b n s t e f = rw f (take-at (wordsOf bw a b) t n (words-length bw a b ∙ sym e))
 
 -- ---- the outcome
 

@@ -1,4 +1,3 @@
-pub mod Engine
 pub mod Worked
 pub mod Result
 pub mod Inverse

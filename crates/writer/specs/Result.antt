@@ -1,25 +1,20 @@
 -- What a call of the writer gives: its answer, and both lent channels afterwards.
-use mathlib.Core.Bool.{not, _&&_}
+use mathlib.Core.Bool.{not}
 use mathlib.Core.List.{List, _++_, [], _∷_}
 use Prim.Native.Nat.{ℕ}
-use lib.Dec.{ltb}
 use lib.ListN.{length, drop}
 use Rattle.answer.specs.Answer.{no, refuseIf, _or_, answerAt, after}
 use Rattle.answer.specs.declared.Answer.{Answer}
 use Rattle.answer.specs.declared.Outcome.{Outcome}
-use Rattle.channel.specs.Layout.{present}
 use Rattle.halves.specs.Table.{check1}
+use Rattle.read_back.specs.Room.{noChannelRoom}
 use Rattle.writer.specs.Worked.{theChannel, theBytes, someRead}
 
 -- 13: "no accepted channels read to exactly these words | 0, 0"
 unfoldable pub check13 : ℕ → List ℕ → Outcome
 check13 bw w = refuseIf (not (someRead bw w)) (no 13 0 0)
 
--- 14: "a channel buffer is too short | channel, bytes needed"; "at 20 MHz it neither measures nor touches channel 2".
--- n and m are the bytes lent.
-unfoldable pub noChannelRoom : ℕ → ℕ → ℕ → ℕ → Outcome
-noChannelRoom bw need n m = refuseIf (ltb n need) (no 14 1 need) or refuseIf (present bw 2 && ltb m need) (no 14 2 need)
-
+-- 14, where the bytes of the words are needed
 unfoldable pub check14 : ℕ → List ℕ → ℕ → ℕ → Outcome
 check14 bw w n m = noChannelRoom bw (theBytes bw w) n m
 

@@ -1,82 +1,14 @@
 // The writer: words to channels, the inverse of the reader. What the words could only come from is built in room of the
-// writer's own, read back and compared; only then is anything written to the caller.
+// writer's own, read back and compared (`read_back`); only then is anything written to the caller.
 use answer::Answer;
 use answer::Outcome;
 ghost use mathlib.Core.Path.{_≡_};
-ghost use Prim.Native.Nat.{_+_, _<_, _≤_};
-ghost use lib.ListN.{length, replicate};
-ghost use Rattle.answer.specs.Answer.{_or_};
-ghost use Rattle.answer.specs.Least.{least};
 ghost use mathlib.Core.Bool.{cond};
+ghost use Prim.Native.Nat.{_≤_};
+ghost use lib.ListN.{length, replicate};
 ghost use Rattle.channel.specs.Layout.{present};
-ghost use Rattle.halves.specs.Table.{check1};
-ghost use Rattle.halves.specs.Engine.{Sealed};
 ghost use Rattle.candidate.specs.Engine.{countIn, needed, bytesIn};
-ghost use Rattle.writer.specs.Engine.{unlike, sameWords, readsTo, notRead};
-ghost use Rattle.writer.specs.Result.{noChannelRoom, front, writeAnswer, channelAfter};
-
-// ---- whether the channels that were built read back
-
-// The first place where two equally long lists of words differ.
-fn first_unlike(v: &[u32], w: &[u32]) -> usize
-    requires { ⌜ length (now v) ≡ length (now w) ⌝ }
-    ensures { λ r. ⌜ r ≡ least (unlike (now (v .entry)) (now (w .entry))) (length (now (v .entry))) ⌝ }
-{
-    let mut i: usize = 0;
-    while i < v.len() {
-        if v[i] != w[i] {
-            return i;
-        }
-        i += 1;
-    }
-    i
-}
-
-fn same_words(v: &[u32], w: &[u32]) -> bool
-    ensures { λ r. ⌜ r ≡ sameWords (now (v .entry)) (now (w .entry)) ⌝ }
-{
-    if v.len() != w.len() {
-        return false;
-    }
-    first_unlike(v, w) == v.len()
-}
-
-// Whether channels that were sealed are accepted and read to exactly these words.
-fn reads_to(bw: u32, a: &[u8], b: &[u8], words: &[u32]) -> bool
-    requires { ⌜ Sealed bw (now a) (now b) ⌝ }
-    ensures { λ r. ⌜ r ≡ readsTo bw (now (a .entry)) (now (b .entry)) (now (words .entry)) ⌝ }
-{
-    let mut back = [0u32; 154];
-    let x = reader::read_sealed(bw, a, b, &mut back);
-    if x.number != 0 {
-        return false;
-    }
-    same_words(&back[..x.place], words)
-}
-
-// ---- the answers
-
-// 13 for these channels, where nothing earlier applies.
-fn then_not_read(prev: Outcome, bw: u32, a: &[u8], b: &[u8], words: &[u32]) -> Outcome
-    requires { ⌜ Sealed bw (now a) (now b) ⌝ }
-    ensures { λ r. ⌜ r ≡ (prev or notRead bw (now (a .entry)) (now (b .entry)) (now (words .entry))) ⌝ }
-{
-    if let Outcome::Refuse(_) = prev {
-        return prev;
-    }
-    answer::refuse_if(!reads_to(bw, a, b, words), 13, 0, 0)
-}
-
-// 14, where so many bytes are needed and n and m lent.
-fn no_channel_room(bw: u32, need: usize, n: usize, m: usize) -> Outcome
-    ensures { λ r. ⌜ r ≡ noChannelRoom bw need n m ⌝ }
-{
-    let there = channel::is_present(bw, 2);
-    answer::or_else(
-        answer::refuse_if(n < need, 14, 1, need),
-        answer::refuse_if(there & (m < need), 14, 2, need),
-    )
-}
+ghost use Rattle.writer.specs.Result.{front, writeAnswer, channelAfter};
 
 // A channel's bytes at the front of the lent ones.
 fn put_front(d: &mut [u8], s: &[u8])
@@ -88,17 +20,6 @@ fn put_front(d: &mut [u8], s: &[u8])
         d[i] = s[i];
         i += 1;
     }
-}
-
-// ---- the whole
-
-// 1, 13 and 14 in order, for the channels that were built.
-fn judge(bw: u32, words: &[u32], a: &[u8], b: &[u8], need: usize, n: usize, m: usize) -> Outcome
-    requires { ⌜ Sealed bw (now a) (now b) ⌝ }
-    ensures { λ r. ⌜ r ≡ (check1 bw or notRead bw (now (a .entry)) (now (b .entry)) (now (words .entry)) or noChannelRoom bw need n m) ⌝ }
-{
-    let outcome = then_not_read(answer::refuse_if(4 < bw, 1, 0, 0), bw, a, b, words);
-    answer::or_else(outcome, no_channel_room(bw, need, n, m))
 }
 
 // Bytes of a channel: none of one that the bandwidth lacks.
@@ -133,7 +54,7 @@ fn write_in(
 {
     candidate::fill(a, bw, words, 1, 10, n);
     candidate::fill(b, bw, words, 2, 10 + n, m);
-    let outcome = judge(bw, words, a, b, need, cc1.len(), cc2.len());
+    let outcome = read_back::judge(bw, words, a, b, need, cc1.len(), cc2.len());
     if let Outcome::Refuse(x) = outcome {
         return x;
     }

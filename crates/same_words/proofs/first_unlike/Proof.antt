@@ -1,6 +1,6 @@
--- `writer::first_unlike` meets its contract.
-use Rattle.writer.proofs.Steps.{unlike-yes, unlike-no}
-use Rattle.writer.specs.Engine.{unlike}
+-- `same_words::first_unlike` meets its contract.
+use Rattle.same_words.proofs.Unlike.{unlike-yes, unlike-no}
+use Rattle.same_words.specs.Engine.{unlike}
 use Rattle.answer.specs.Least.{least}
 use Rattle.answer.proofs.Least.{least-start, least-step, least-stop, least-end}
 use lib.ListN.{length}
@@ -8,8 +8,8 @@ use mathlib.Core.Path.{_≡_, sym}
 use Prim.Native.Nat.{_-_, _≤_}
 use native.Mathlib.Omega.{arith}
 use borrow.Author.Needs.{needs}
-use Rattle.writer.proofs.first_unlike.Statement.{statement}
-use Rattle.writer.proofs.first_unlike.Tie as tie
+use Rattle.same_words.proofs.first_unlike.Statement.{statement}
+use Rattle.same_words.proofs.first_unlike.Tie as tie
 
 abbrev Inv-loop : tie.InvT-loop
 Inv-loop v w i₀ i = (i ≤ length v) × (least (unlike v w) i ≡ i)

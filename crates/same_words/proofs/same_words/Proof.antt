@@ -1,11 +1,11 @@
--- `writer::same_words` meets its contract.
-use Rattle.writer.specs.Engine.{sameWords}
+-- `same_words::same_words` meets its contract.
+use Rattle.same_words.specs.Engine.{sameWords}
 use borrow.Author.Tests.{eq-eqb, ne-eqb}
 use lib.ListN.{length}
 use mathlib.Core.Path.{sym}
 use borrow.Author.Needs.{needs}
-use Rattle.writer.proofs.same_words.Statement.{statement}
-use Rattle.writer.proofs.same_words.Tie as tie
+use Rattle.same_words.proofs.same_words.Statement.{statement}
+use Rattle.same_words.proofs.same_words.Tie as tie
 
 returns : tie.Need-returns
 unfolding sameWords

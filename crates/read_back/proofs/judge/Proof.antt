@@ -1,8 +1,8 @@
--- `writer::judge` meets its contract.
+-- `read_back::judge` meets its contract.
 use Rattle.halves.specs.Table.{check1}
 use borrow.Author.Needs.{needs}
-use Rattle.writer.proofs.judge.Statement.{statement}
-use Rattle.writer.proofs.judge.Tie as tie
+use Rattle.read_back.proofs.judge.Statement.{statement}
+use Rattle.read_back.proofs.judge.Tie as tie
 
 refuse-if-requires : tie.Need-refuse-if-requires
 refuse-if-requires c κs = search needs

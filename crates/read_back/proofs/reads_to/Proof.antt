@@ -1,14 +1,14 @@
--- `writer::reads_to` meets its contract.
+-- `read_back::reads_to` meets its contract.
 use borrow.Author.Needs.{needs}
 use mathlib.Core.Path.{refl, sym, _∙_, ap}
 use native.Mathlib.Omega.{arith}
 use lib.ListN.{length, replicate}
 use Rattle.answer.specs.declared.Answer.{Answer}
 use Rattle.frame_words.proofs.Determine.{words-length}
-use Rattle.writer.proofs.Steps.{reads-yes, words-front}
-use Rattle.writer.proofs.Back.{back-refused, back-accepted, back-count, back-words, back-room}
-use Rattle.writer.proofs.reads_to.Statement.{statement}
-use Rattle.writer.proofs.reads_to.Tie as tie
+use Rattle.read_back.proofs.Steps.{reads-yes, words-front}
+use Rattle.read_back.proofs.Back.{back-refused, back-accepted, back-count, back-words, back-room}
+use Rattle.read_back.proofs.reads_to.Statement.{statement}
+use Rattle.read_back.proofs.reads_to.Tie as tie
 
 slice-aggregate-read-sealed : tie.Need-slice-aggregate-read-sealed
 slice-aggregate-read-sealed c = search needs

@@ -19,8 +19,8 @@ use Rattle.reader.proofs.Stages.{readOutcome-stages}
 use Rattle.frame_words.proofs.Determine.{words-length}
 use Rattle.reader.specs.Result.{readAnswer, wordsAfter}
 use Rattle.reader.proofs.Exactly.{accepted-exactly}
-use Rattle.writer.specs.Engine.{readsTo}
-use Rattle.writer.proofs.Steps.{reads-no}
+use Rattle.read_back.specs.Engine.{readsTo}
+use Rattle.read_back.proofs.Steps.{reads-no}
 
 module _ (bw : ℕ) (a b : List ℕ) (room : ℕ) (l : 154 ≤ room) where
   read-passes : outcome11 bw a b ≡ Pass → readOutcome bw a b room ≡ Pass

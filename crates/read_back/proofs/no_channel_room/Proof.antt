@@ -1,8 +1,8 @@
--- `writer::no_channel_room` meets its contract.
-use Rattle.writer.specs.Result.{noChannelRoom}
+-- `read_back::no_channel_room` meets its contract.
+use Rattle.read_back.specs.Room.{noChannelRoom}
 use borrow.Author.Needs.{needs}
-use Rattle.writer.proofs.no_channel_room.Statement.{statement}
-use Rattle.writer.proofs.no_channel_room.Tie as tie
+use Rattle.read_back.proofs.no_channel_room.Statement.{statement}
+use Rattle.read_back.proofs.no_channel_room.Tie as tie
 
 is-present-requires : tie.Need-is-present-requires
 is-present-requires c κs = search needs

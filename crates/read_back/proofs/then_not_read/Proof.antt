@@ -1,10 +1,10 @@
--- `writer::then_not_read` meets its contract.
-use Rattle.writer.specs.Engine.{notRead}
+-- `read_back::then_not_read` meets its contract.
+use Rattle.read_back.specs.Engine.{notRead}
 use Rattle.answer.specs.Answer.{_or_}
 use mathlib.Core.Path.{_∙_}
 use borrow.Author.Needs.{needs}
-use Rattle.writer.proofs.then_not_read.Statement.{statement}
-use Rattle.writer.proofs.then_not_read.Tie as tie
+use Rattle.read_back.proofs.then_not_read.Statement.{statement}
+use Rattle.read_back.proofs.then_not_read.Tie as tie
 
 enum-told : tie.Need-enum-told
 enum-told c = search needs

@@ -1,0 +1,2 @@
+pub mod Unlike
+pub mod Agree
