@@ -10,7 +10,8 @@ use borrow.Author.Tests.{lt-ltb, ne-eqb}
 use Rattle.channel.specs.Fields.{overflowWidths}
 use Rattle.bits.specs.Pack.{pack, unpack, Fit}
 use Rattle.answer.specs.Lists.{at}
-use Rattle.words.specs.Words.{header, data0Widths, ltfSizeOf, giOf, data0Of, overflowWord, valueSlot, firstWord, tripleWord}
+use Rattle.header_values.specs.Header.{ltfSizeOf, giOf}
+use Rattle.words.specs.Words.{header, data0Widths, data0Of, overflowWord, valueSlot, firstWord, tripleWord}
 use Rattle.words.specs.Words.{aloneWidths, aloneWordWidths, aloneOf, sharedWidths, sharedWordWidths, sharedOf, userWord}
 use Rattle.words.specs.Engine.{giLtf, overflowIn, overflowOf, valueOf, knownOf, aloneIn, sharedIn, fieldIn, userField}
 use Rattle.bits.proofs.Pack.{unpack-pack, pack-unpack, unpack-fit, pack-lt}
@@ -77,21 +78,6 @@ gi-lt (suc zero) l = (omega arith, omega arith, refl)
 gi-lt (suc (suc zero)) l = (omega arith, omega arith, refl)
 gi-lt (suc (suc (suc zero))) l = (omega arith, omega arith, refl)
 gi-lt (suc (suc (suc (suc g)))) l = absurd (omega arith)
-
--- the code's forms of GI and LTF size
-pub size-is : (g : ℕ) → g < 4 → 2 + g / 2 ≡ ltfSizeOf g
-size-is zero l = refl
-size-is (suc zero) l = refl
-size-is (suc (suc zero)) l = refl
-size-is (suc (suc (suc zero))) l = refl
-size-is (suc (suc (suc (suc g)))) l = absurd (omega arith)
-
-pub gi-is : (g : ℕ) → g < 4 → g % 2 + g / 3 ≡ giOf g
-gi-is zero l = refl
-gi-is (suc zero) l = refl
-gi-is (suc (suc zero)) l = refl
-gi-is (suc (suc (suc zero))) l = refl
-gi-is (suc (suc (suc (suc g)))) l = absurd (omega arith)
 
 data0-fit : (v t : ℕ) → t < 2 ^ 10 → Fit data0Widths (data0Of (unpack overflowWidths v) t)
 data0-fit v t l =

@@ -5,27 +5,16 @@ use mathlib.Core.Bool.{Bool, true, false, cond}
 use mathlib.Core.List.{List, [], _∷_}
 use Prim.Native.Nat.{ℕ, _+_, _%_, _^_}
 use lib.Dec.{ltb}
-use lib.ListN.{getD}
 use Rattle.answer.specs.Lists.{at}
+use Rattle.header_values.specs.Header.{known, ltfSizeOf, giOf}
 use Rattle.channel.specs.Fields.{overflowWidths}
 use Rattle.bits.specs.Pack.{pack, unpack}
-
--- "Known is 0x61F6, or 0x1E1F6 at 160 and 320."
-unfoldable pub known : ℕ → ℕ
-known bw = cond (ltb bw 3) 0x61F6 0x1E1F6
 
 -- 002, data[0]: reserved 0x7, Spatial Reuse 0x78, GI 0x180, LTF symbol size 0x600, number of LTF symbols 0x3800, LDPC
 -- extra symbol segment 0x4000, Pre-FEC padding factor 0x18000, PE Disambiguity 0x20000, Disregard 0x3c0000, CRC1
 -- 0x3c00000 and Tail1 0xfc000000, here as one: a channel's check and tail follow each other likewise
 abbrev pub data0Widths : List ℕ
 data0Widths = 3 ∷ 4 ∷ 2 ∷ 2 ∷ 3 ∷ 1 ∷ 2 ∷ 1 ∷ 4 ∷ 10 ∷ []
-
--- "GI+LTF 0, 1, 2, 3 gives LTF size 2, 2, 3, 3 and GI 0, 1, 0, 2."
-abbrev pub ltfSizeOf : ℕ → ℕ
-ltfSizeOf g = getD (2 ∷ 2 ∷ 3 ∷ 3 ∷ []) g 0
-
-abbrev pub giOf : ℕ → ℕ
-giOf g = getD (0 ∷ 1 ∷ 0 ∷ 2 ∷ []) g 0
 
 -- data[0]'s values, of those of the overflow's named fields (01, "Layout of a channel") in their order and of the ten bits of check and tail
 abbrev pub data0Of : List ℕ → ℕ → List ℕ

@@ -5,30 +5,10 @@ ghost use mathlib.Core.List.{_++_};
 ghost use Prim.Native.Nat.{_+_, _*_, _≤_, _<_};
 ghost use lib.ListN.{length, drop};
 ghost use Rattle.answer.specs.Lists.{at};
-ghost use Rattle.words.specs.Words.{known, ltfSizeOf, giOf, overflowWord, valueSlot, firstWord, tripleWord, secondWord, header, userWord};
+ghost use Rattle.words.specs.Words.{overflowWord, valueSlot, firstWord, tripleWord, secondWord, header, userWord};
 ghost use Rattle.words.specs.Engine.{giLtf, overflowOf, valueOf, fieldIn, userField};
 
 // ---- from the parts of a frame to words
-
-fn known_word(bw: u32) -> u32
-    ensures { λ r. ⌜ r ≡ known bw ⌝ }
-{
-    if bw < 3 { 0x61F6 } else { 0x1E1F6 }
-}
-
-fn size_of(g: u32) -> u32
-    requires { ⌜ g < 4 ⌝ }
-    ensures { λ r. ⌜ (r < 4) × (r ≡ ltfSizeOf g) ⌝ }
-{
-    2 + g / 2
-}
-
-fn gi_of(g: u32) -> u32
-    requires { ⌜ g < 4 ⌝ }
-    ensures { λ r. ⌜ (r < 4) × (r ≡ giOf g) ⌝ }
-{
-    g % 2 + g / 3
-}
 
 // data[0], of the 17 bits of overflow and the ten of check and tail.
 fn overflow_word(v: u32, t: u32) -> u32
@@ -42,7 +22,9 @@ fn overflow_word(v: u32, t: u32) -> u32
     let e = d / 4;
     let f = e / 2;
     let high = b % 8 + 8 * (c % 2 + 2 * (d % 4 + 4 * (e % 2 + 2 * (f % 16 + 16 * t))));
-    8 * (v % 16 + 16 * (gi_of(a % 4) + 4 * (size_of(a % 4) + 4 * high)))
+    8
+        * (v % 16
+            + 16 * (header_values::gi_of(a % 4) + 4 * (header_values::size_of(a % 4) + 4 * high)))
 }
 
 // An RU Allocation and its known bit.
@@ -83,7 +65,7 @@ pub fn put_header(words: &mut [u32], bw: u32, v: u32, t: u32, t2: u32, row: &[u1
     requires { ⌜ (10 ≤ length (now words)) × (t < 1024) ⌝ }
     ensures { λ _. ⌜ now (words .exit) ≡ header bw v t t2 (at (now (row .entry))) (length (now (row .entry))) ++ drop 10 (now (words .entry)) ⌝ }
 {
-    words[0] = known_word(bw);
+    words[0] = header_values::known_word(bw);
     words[1] = overflow_word(v, t);
     words[2] = first_word(row);
     words[3] = triple_word(row, 1);

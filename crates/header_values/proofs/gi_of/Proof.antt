@@ -1,9 +1,9 @@
--- `words::gi_of` meets its contract.
+-- `header_values::gi_of` meets its contract.
 use native.Mathlib.Omega.{arith}
-use Rattle.words.proofs.Laws.{gi-is}
+use Rattle.header_values.proofs.Laws.{gi-is}
 use borrow.Author.Needs.{needs}
-use Rattle.words.proofs.gi_of.Statement.{statement}
-use Rattle.words.proofs.gi_of.Tie as tie
+use Rattle.header_values.proofs.gi_of.Statement.{statement}
+use Rattle.header_values.proofs.gi_of.Tie as tie
 
 add-result : tie.Need-add-result
 add-result c = search needs

@@ -1,9 +1,9 @@
--- `words::known_word` meets its contract.
+-- `header_values::known_word` meets its contract.
 use borrow.Author.Tests.{lt-ltb, le-ltb}
-use Rattle.words.specs.Words.{known}
+use Rattle.header_values.specs.Header.{known}
 use native.Mathlib.Omega.{arith}
-use Rattle.words.proofs.known_word.Statement.{statement}
-use Rattle.words.proofs.known_word.Tie as tie
+use Rattle.header_values.proofs.known_word.Statement.{statement}
+use Rattle.header_values.proofs.known_word.Tie as tie
 
 returns : tie.Need-returns
 unfolding known
