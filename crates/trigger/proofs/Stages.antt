@@ -19,7 +19,7 @@ use Rattle.answer.proofs.Order.{pass-left, pass-right, pass-if, or-assoc}
 use Rattle.trigger_values.specs.UserInfo.{infoOf, aid12, b0, valueIn, ps160}
 use Rattle.trigger_values.specs.Values.{taken}
 use Rattle.trigger.specs.Reading.{above2, notFive, is2007, bitSet, notTaken, infoOutcome, noRecordRoom, entryOutcome}
-use Rattle.trigger.specs.Engine.{fit, valueNamed, readBack, numbersOutcome}
+use Rattle.record_refusals.specs.Engine.{fit, valueNamed, readBack, numbersOutcome}
 use Rattle.trigger.specs.Worked.{someEntry}
 use Rattle.trigger.specs.Writing.{says2007, ofNone, noEntryRoom, recordOutcome}
 use Rattle.word_bytes.specs.Bytes.{wordAt, wordsIn}

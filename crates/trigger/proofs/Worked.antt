@@ -25,7 +25,8 @@ use Rattle.word_bytes.proofs.Back.{words-back, bytes-back}
 use Rattle.trigger_values.specs.UserInfo.{infoOf, infoWidths, part, aid12, b0, valueIn, ps160, entryOf}
 use Rattle.trigger_values.specs.Values.{resourceOf, taken}
 use Rattle.trigger.specs.Reading.{is2007, bitSet, notTaken, infoOutcome, numbersOf}
-use Rattle.trigger.specs.Engine.{valueNamed, fit, infoWith, readBack}
+use Rattle.record_refusals.specs.Engine.{valueNamed, fit, readBack}
+use Rattle.trigger.specs.Engine.{infoWith}
 use Rattle.trigger.specs.Worked.{EntryReads, theEntry, someEntry, Worked}
 use Rattle.trigger_values.proofs.Back.{value-back, back-value}
 use Rattle.trigger_values.proofs.Taken.{value-low}

@@ -13,7 +13,8 @@ use Rattle.bits.specs.Bits.{Small}
 use Rattle.word_bytes.specs.Bytes.{byteAt, wordsIn}
 use Rattle.trigger_values.specs.UserInfo.{infoOf, entryOf}
 use Rattle.trigger.specs.Reading.{infoOutcome, numbersOf}
-use Rattle.trigger.specs.Engine.{readBack, infoWith}
+use Rattle.record_refusals.specs.Engine.{readBack}
+use Rattle.trigger.specs.Engine.{infoWith}
 
 -- five bytes e that read to exactly the record t
 pub record EntryReads (bw : ℕ) (e t : List ℕ) : Type 0 where

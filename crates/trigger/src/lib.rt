@@ -18,7 +18,8 @@ ghost use Rattle.word_bytes.specs.Bytes.{byteAt};
 ghost use Rattle.trigger_values.specs.UserInfo.{infoWidths, entryOf};
 ghost use Rattle.trigger_values.specs.Engine.{nthOf, valueFor};
 ghost use Rattle.trigger.specs.Reading.{above2, notFive, infoOutcome, noRecordRoom, numbersOf, entryAnswer, recordRead};
-ghost use Rattle.trigger.specs.Engine.{valueNamed, fit, infoWith, numbersOutcome};
+ghost use Rattle.record_refusals.specs.Engine.{valueNamed, fit, numbersOutcome};
+ghost use Rattle.trigger.specs.Engine.{infoWith};
 ghost use Rattle.trigger.specs.Writing.{recordAnswer, entryWritten};
 
 // The 40 bits of the entry at byte 5 i, of two windows of 32 that lie in its five bytes: 15 from its first byte, 25 from its second.
@@ -138,38 +139,6 @@ fn value_for(size: u32, i: u32) -> u16
     }
 }
 
-// Each of a record's numbers but the resource's fits its field.
-fn all_fit(numbers: &[u32]) -> bool
-    requires { ⌜ length (now numbers) ≡ 8 ⌝ }
-    ensures { λ r. ⌜ r ≡ fit (now (numbers .entry)) ⌝ }
-{
-    (numbers[0] < 4096)
-        & ((numbers[3] < 2)
-            & ((numbers[4] < 16) & ((numbers[5] < 2) & ((numbers[6] < 64) & (numbers[7] < 128)))))
-}
-
-// All refusals of a write, in their order: of a record of n bytes with these numbers, into room bytes.
-fn judge_write(bandwidth: u32, n: usize, numbers: &[u32], v: u16, room: usize) -> Outcome
-    requires { ⌜ (length (now numbers) ≡ 8) × (v ≡ valueNamed (now numbers)) ⌝ }
-    ensures { λ r. ⌜ r ≡ numbersOutcome bandwidth n (now (numbers .entry)) room ⌝ }
-{
-    answer::or_else(
-        answer::or_else(
-            answer::or_else(
-                answer::refuse_if(2 < bandwidth, 1, 0, 0),
-                answer::refuse_if(numbers[0] == 2007, 24, 0, 0),
-            ),
-            answer::refuse_if(
-                !((n == 32) & (all_fit(numbers) & is_taken(bandwidth, v))),
-                17,
-                0,
-                0,
-            ),
-        ),
-        answer::refuse_if(room < 5, 23, 0, 5),
-    )
-}
-
 // 40 bits of their fields, B0 and PS160 being 0.
 fn packed(a: u64, v: u64, c: u64, m: u64, r: u64, s: u64, p: u64) -> u64
     requires { ⌜ (a < 4096) × (v < 128) × (c < 2) × (m < 16) × (r < 2) × (s < 64) × (p < 128) ⌝ }
@@ -215,7 +184,7 @@ fn write_numbers(bandwidth: u32, n: usize, numbers: &[u32], entry: &mut [u8]) ->
         (filled (at (entryOf (infoWith (now (numbers .entry))))) 5 (now (entry .entry))) (now (entry .entry)) ⌝ }
 {
     let v = value_for(numbers[1], numbers[2]);
-    let judged = judge_write(bandwidth, n, numbers, v, entry.len());
+    let judged = record_refusals::judge_write(bandwidth, n, numbers, v, entry.len());
     if let Outcome::Refuse(refused) = judged {
         return refused;
     }

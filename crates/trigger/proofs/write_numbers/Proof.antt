@@ -5,7 +5,7 @@ use lib.ListN.{length}
 use Rattle.answer.specs.Lists.{at, filled}
 use Rattle.trigger_values.specs.UserInfo.{entryOf}
 use Rattle.trigger_values.specs.Values.{taken}
-use Rattle.trigger.specs.Engine.{valueNamed}
+use Rattle.record_refusals.specs.Engine.{valueNamed}
 use Rattle.trigger.proofs.Stages.{numbers-passed}
 use Rattle.trigger_values.proofs.Taken.{value-low}
 use borrow.Author.Needs.{needs}

@@ -1,9 +1,9 @@
--- `trigger::all_fit` meets its contract.
+-- `record_refusals::all_fit` meets its contract.
 use mathlib.Core.Path.{refl}
-use Rattle.trigger.specs.Engine.{fit}
+use Rattle.record_refusals.specs.Engine.{fit}
 use borrow.Author.Needs.{needs}
-use Rattle.trigger.proofs.all_fit.Statement.{statement}
-use Rattle.trigger.proofs.all_fit.Tie as tie
+use Rattle.record_refusals.proofs.all_fit.Statement.{statement}
+use Rattle.record_refusals.proofs.all_fit.Tie as tie
 
 shared-slice-read-result : tie.Need-shared-slice-read-result
 shared-slice-read-result c = search needs

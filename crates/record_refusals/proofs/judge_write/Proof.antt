@@ -1,8 +1,8 @@
--- `trigger::judge_write` meets its contract.
-use Rattle.trigger.specs.Engine.{readBack, numbersOutcome}
+-- `record_refusals::judge_write` meets its contract.
+use Rattle.record_refusals.specs.Engine.{readBack, numbersOutcome}
 use borrow.Author.Needs.{needs}
-use Rattle.trigger.proofs.judge_write.Statement.{statement}
-use Rattle.trigger.proofs.judge_write.Tie as tie
+use Rattle.record_refusals.proofs.judge_write.Statement.{statement}
+use Rattle.record_refusals.proofs.judge_write.Tie as tie
 
 refuse-if-requires : tie.Need-refuse-if-requires
 refuse-if-requires c κs = search needs
