@@ -6,15 +6,20 @@ use mathlib.Core.List.{List, [], _∷_, map}
 use Prim.Native.Nat.{ℕ, _+_, _*_, _^_, _≤_, _<_}
 use lib.Dec.{T, ltb, leb, eqb, eqb→eq, le→leb, ltb→lt}
 use lib.IntN.{ℤ, pos, negsuc}
+use Rattle.resource.specs.declared.Size.the-variants.{S2x996}
+use Rattle.resource.specs.declared.Pairing.{Pairing}
+use Rattle.resource.specs.declared.Pairing.the-variants.{P106And26, P484And242, P996And484, P3x996, P2x996And484, P3x996And484}
 use Rattle.resource.specs.declared.Piece.{Piece}
 use Rattle.resource.specs.declared.Resource.{Resource}
+use Rattle.resource.specs.declared.Resource.the-variants.{Single, Joined}
 use Rattle.resource.specs.Names.{nameOf}
-use Rattle.resource.specs.Index.{indexOf, resourceAt, isPiece, fromPositions, exists, positionOf, placeOf}
-use Rattle.resource.specs.Tones.{Span, sameℤ, tonesAt, tonesOf, howMany, rising, RightSpans}
-use Rattle.resource.specs.Engine.{spanOf, runsOf, placesRuns, wide, wideWith26, narrow, narrowWith26}
+use Rattle.resource.specs.Places.{placesOf, segmentsOf}
+use Rattle.resource.specs.Index.{indexOf, resourceAt, isPiece, joinedCount, fromPositions, exists, positionOf, placeOf}
+use Rattle.resource.specs.Tones.{Span, sameℤ, tonesAt, tonesLeavingOut, tonesJoined, tonesOf, howMany, rising, RightSpans}
+use Rattle.resource.specs.Engine.{spanOf, runsOf, placesRuns, spreadRuns, joinedRuns, wide, wideWith26, narrow, narrowWith26}
 use Rattle.resource.specs.Engine.{offset26, offset52, offset106, narrow26, narrow52, narrow106}
-use Rattle.resource.proofs.Test.{both-left, both-right, wherever, met}
-use Rattle.resource.proofs.Everywhere.{every-piece, at-piece, everywhere, at-position}
+use Rattle.resource.proofs.Test.{both-left, both-right, wherever, met, below, every-below}
+use Rattle.resource.proofs.Everywhere.{every-piece, at-piece, everywhere, at-position, every-segment, at-segment}
 
 -- ---- equal by computation
 same-eq : (a b : ℤ) → T (sameℤ a b) → a ≡ b
@@ -89,7 +94,7 @@ abbrev agrees-at : ℕ → ℕ → ℕ → Bool
 agrees-at n g p = every-piece (agrees-piece n g p)
 
 agree : T (everywhere agrees-at)
-unfolding indexOf resourceAt isPiece fromPositions positionOf placeOf tonesAt runsOf placesRuns wide wideWith26 narrow narrowWith26
+unfolding indexOf resourceAt isPiece fromPositions positionOf placeOf tonesAt runsOf placesRuns spreadRuns wide wideWith26 narrow narrowWith26
     offset26 offset52 offset106 narrow26 narrow52 narrow106
 agree = tt
 
@@ -125,3 +130,31 @@ tones-found b g p x h i j k t =
     spans-eq (tonesOf n g (resourceAt p x)) (tonesAt n g p x)
     (met (leb (fromPositions x) n) (sameSpans (tonesOf n g (resourceAt p x)) (tonesAt n g p x))
     (at-piece f x (at-position founds b g p all-found h i j) t) (le→leb (fromPositions x) n k))
+
+-- ---- tested of the wider resources, and of every joined one, of each segment that they lie among
+abbrev joined-at : Pairing → ℕ → ℕ → Bool
+joined-at w n g = below (λ k. agrees-test n g (Joined w (k + 1))) (joinedCount w)
+
+joined-tested : (w : Pairing) → T (every-segment (4 * segmentsOf w) (joined-at w))
+unfolding joinedCount segmentsOf placesOf tonesOf tonesAt tonesLeavingOut tonesJoined runsOf placesRuns joinedRuns spreadRuns wideWith26
+joined-tested P106And26 = tt
+joined-tested P484And242 = tt
+joined-tested P996And484 = tt
+joined-tested P3x996 = tt
+joined-tested P2x996And484 = tt
+joined-tested P3x996And484 = tt
+
+doubles-tested : T (every-segment 8 (λ n g. agrees-test n g (Single S2x996 1)))
+unfolding tonesOf tonesAt positionOf placeOf runsOf placesRuns spreadRuns
+doubles-tested = tt
+
+module _ (b g : ℕ) (h : b < 5) (i : 4 * g < 2 ^ b) where
+  pub joined-agrees : (w : Pairing) (k : ℕ) → 4 * segmentsOf w ≤ 2 ^ b → k < joinedCount w → AgreesAt (2 ^ b) g (Joined w (k + 1))
+  joined-agrees w k j l =
+      tested-agrees (2 ^ b) g (Joined w (k + 1))
+      (every-below (λ k. agrees-test (2 ^ b) g (Joined w (k + 1))) (joinedCount w)
+      (at-segment (4 * segmentsOf w) (joined-at w) b g (joined-tested w) h i j) k l)
+
+  pub double-agrees : 8 ≤ 2 ^ b → AgreesAt (2 ^ b) g (Single S2x996 1)
+  double-agrees j =
+      tested-agrees (2 ^ b) g (Single S2x996 1) (at-segment 8 (λ n g. agrees-test n g (Single S2x996 1)) b g doubles-tested h i j)

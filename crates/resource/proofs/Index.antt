@@ -4,7 +4,7 @@ use mathlib.Core.Bool.{Bool, true, _&&_, not}
 use Prim.Native.Nat.{ℕ, _+_, _-_, _*_, _/_, _%_, _<_}
 use lib.Dec.{T, T-not, eqb, eqb→eq}
 use Rattle.resource.specs.declared.Size.{Size}
-use Rattle.resource.specs.declared.Size.the-variants.{S26, S52, S106, S242, S484, S996}
+use Rattle.resource.specs.declared.Size.the-variants.{S26, S52, S106, S242, S484, S996, S2x996}
 use Rattle.resource.specs.declared.Piece.{Piece}
 use Rattle.resource.specs.declared.Piece.the-variants.{Part, With26}
 use Rattle.resource.specs.Index.{indexOf, isPiece, positionOf, placeOf}
@@ -19,6 +19,7 @@ startOf p S106 = p
 startOf p S242 = p
 startOf p S484 = 2 * (p / 2)
 startOf p S996 = 0
+startOf p S2x996 = 0
 
 abbrev back-test : ℕ → Piece → Bool
 back-test p (Part s i) = eqb (positionOf s (indexOf p s i)) (startOf p s) && eqb (placeOf s (indexOf p s i)) (i - 1)
@@ -53,6 +54,7 @@ not-19 p (Part S106 i) = true
 not-19 p (Part S242 i) = true
 not-19 p (Part S484 i) = true
 not-19 p (Part S996 i) = true
+not-19 p (Part S2x996 i) = true
 not-19 p (With26 i) = true
 
 no-19s : T (below (λ p. every-piece (not-19 p)) 4)

@@ -11,3 +11,4 @@ pub mod Held
 pub mod Few
 pub mod Pieces
 pub mod Names
+pub mod Published

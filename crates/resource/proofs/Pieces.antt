@@ -8,7 +8,7 @@ use native.Mathlib.Omega.{arith}
 use borrow.Author.Tests.{lt-ltb, ne-eqb, eqb-true}
 use lib.Dec.{T, leb, leb→le, eqb, eqb→eq}
 use lib.ListN.{length, getD}
-use Rattle.resource.specs.declared.Size.the-variants.{S26, S52, S106, S242, S484, S996}
+use Rattle.resource.specs.declared.Size.the-variants.{S26, S52, S106, S242, S484, S996, S2x996}
 use Rattle.resource.specs.declared.Piece.{Piece}
 use Rattle.resource.specs.declared.Piece.the-variants.{Part, With26}
 use Rattle.resource.specs.declared.Run.{Run}
@@ -52,6 +52,7 @@ piece-from-one (Part S106 i) e = leb→le 1 i (both-left (leb 1 i) (leb i 2) e)
 piece-from-one (Part S242 i) e = let f = eqb→eq i 1 e in omega arith
 piece-from-one (Part S484 i) e = let f = eqb→eq i 1 e in omega arith
 piece-from-one (Part S996 i) e = let f = eqb→eq i 1 e in omega arith
+piece-from-one (Part S2x996 i) e = let f = eqb→eq i 1 e in omega arith
 piece-from-one (With26 i) e = leb→le 1 i (both-left (leb 1 i) (leb i 2) e)
 
 -- ---- the runs of the piece x at position p of a channel of n
@@ -75,6 +76,7 @@ piece-runs n p (Part S242 i) t f =
     rw (position-back (p % 4) S242 i (omega arith) t, place-back (p % 4) S242 i (omega arith) t, e)
 piece-runs n p (Part S484 i) t f = absurd (omega (arith, f))
 piece-runs n p (Part S996 i) t f = absurd (omega (arith, f))
+piece-runs n p (Part S2x996 i) t f = absurd (omega (arith, f))
 piece-runs n p (With26 i) t f =
     let e : 4 * (p / 4) + p % 4 ≡ p = omega arith in
     rw (position-back-26 (p % 4) i (omega arith) t, place-back-26 (p % 4) i (omega arith) t, e)

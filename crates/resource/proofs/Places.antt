@@ -1,16 +1,17 @@
 -- The runs of a resource of whole positions: those of a single place, and where the subcarriers of any places lie.
-use mathlib.Core.Path.{_≡_, refl, ap, _∙_}
+use mathlib.Core.Path.{_≡_, refl, ap, ap₂, _∙_}
 use mathlib.Core.Logic.{_⊎_, inl, inr, ⊎-elim}
 use mathlib.Core.Bool.{Bool, true, false, cond, _&&_}
-use mathlib.Core.List.{List, [], _∷_, _++_}
-use Prim.Native.Nat.{ℕ, zero, suc, _+_, _*_, _/_, _%_, _^_, _≤_, _<_}
-use native.Mathlib.Nat.{add-zero}
+use mathlib.Core.List.{List, [], _∷_, _++_, append-assoc}
+use Prim.Native.Nat.{ℕ, zero, suc, _+_, _-_, _*_, _/_, _%_, _^_, _≤_, _<_}
+use native.Mathlib.Nat.{add-zero, div-div-eq-div-mul}
 use native.Mathlib.Omega.{arith}
+use lib.Pow.{pow-add}
 use lib.Dec.{T, eqb, eqb→eq}
-use lib.ListN.{length}
+use lib.ListN.{length, length-append}
 use Rattle.resource.specs.declared.Run.{Run}
 use Rattle.resource.specs.Values.{set-at}
-use Rattle.resource.specs.Engine.{runOf, the242, the242If, placesRuns}
+use Rattle.resource.specs.Engine.{runOf, the242, the242If, placesRuns, spreadRuns}
 use Rattle.resource.proofs.Edge.{In}
 use Rattle.resource.proofs.Test.{below-or, both-left, both-right}
 
@@ -52,6 +53,48 @@ few b false false false false = omega arith
 pub places-few : (b m : ℕ) → length (placesRuns b m) ≤ 3
 unfolding placesRuns
 places-few b m = few b (set-at 0 m) (set-at 1 m) (set-at 2 m) (set-at 3 m)
+
+-- as many wherever the segment begins
+if-length : (t : Bool) (p q : ℕ) → length (the242If t p) ≡ length (the242If t q)
+if-length true p q = refl
+if-length false p q = refl
+
+either-length : (t : Bool) (xs ys xs′ ys′ : List Run) → length xs ≡ length xs′ → length ys ≡ length ys′ → length (cond t xs ys) ≡ length (cond t xs′ ys′)
+either-length true xs ys xs′ ys′ e f = e
+either-length false xs ys xs′ ys′ e f = f
+
+places-length : (b c m : ℕ) → length (placesRuns b m) ≡ length (placesRuns c m)
+unfolding placesRuns
+places-length b c m =
+    either-length (set-at 0 m && set-at 1 m && set-at 2 m && set-at 3 m) _ _ _ _ refl
+    (simp length-append (rw (
+      if-length (set-at 0 m) b c,
+      if-length (set-at 1 m) (b + 1) (c + 1),
+      if-length (set-at 2 m) (b + 2) (c + 2),
+      if-length (set-at 3 m) (b + 3) (c + 3),
+    )))
+
+pub spread-length : (s b c m : ℕ) → length (spreadRuns b m s) ≡ length (spreadRuns c m s)
+unfolding spreadRuns
+spread-length zero b c m = refl
+spread-length (suc s) b c m =
+    simp length-append (ap₂ _+_ (places-length b c (m % 16)) (spread-length s (b + 4) (c + 4) (m / 16)))
+
+-- and none without a place
+pub no-spread : (s b : ℕ) → spreadRuns b 0 s ≡ []
+unfolding spreadRuns placesRuns
+no-spread zero b = refl
+no-spread (suc s) b = no-spread s (b + 4)
+
+-- segment after segment
+pub next-segment : (b m s : ℕ) → 1 ≤ s → spreadRuns b m s ≡ placesRuns b (m % 16) ++ spreadRuns (b + 4) (m / 16) (s - 1)
+unfolding spreadRuns
+next-segment b m zero h = absurd (omega arith)
+next-segment b m (suc s) h = let e : suc s - 1 ≡ s = omega arith in rw e
+
+pub last-segment : (b m s : ℕ) → s ≡ 0 → spreadRuns b m s ≡ []
+unfolding spreadRuns
+last-segment b m s e = rw e
 
 -- ---- where their subcarriers lie
 edge-low : (t : Bool) → (3 ≤ cond t 12 3) × (cond t 12 3 ≤ 12)
@@ -120,6 +163,44 @@ places-inside g m u h =
     at : (j : ℕ) → j < 4 → At (4 * g) m u j → (u / 256 / 4 ≡ g) × T (set-at (u / 256 % 4) m)
     at j l e = let f : u / 256 % 4 ≡ j = omega (arith, e .1) in (omega (arith, e .1), rw f (e .0))
 
+-- ---- of one that lies in several segments: in them, and there in its places
+in-both : (u : ℕ) (xs ys : List Run) → In u (xs ++ ys) → In u xs ⊎ In u ys
+in-both u [] ys h = inr h
+in-both u (r ∷ xs) ys (inl h) = inl (inl h)
+in-both u (r ∷ xs) ys (inr h) = ⊎-elim (λ l. inl (inr l)) inr (in-both u xs ys h)
+
+low-bit : (j m : ℕ) → j < 4 → set-at j (m % 16) ≡ set-at j m
+low-bit zero m h = let e : m % 16 / 1 % 2 ≡ m / 1 % 2 = omega arith in rw e
+low-bit (suc zero) m h = let e : m % 16 / 2 % 2 ≡ m / 2 % 2 = omega arith in rw e
+low-bit (suc (suc zero)) m h = let e : m % 16 / 4 % 2 ≡ m / 4 % 2 = omega arith in rw e
+low-bit (suc (suc (suc zero))) m h = let e : m % 16 / 8 % 2 ≡ m / 8 % 2 = omega arith in rw e
+low-bit (suc (suc (suc (suc j)))) m h = absurd (omega arith)
+
+high-bit : (j m : ℕ) → set-at j (m / 16) ≡ set-at (j + 4) m
+high-bit j m =
+    let e : 16 * 2 ^ j ≡ 2 ^ (j + 4) = omega (arith, pow-add 2 j 4) in ap (λ (x : ℕ). eqb (x % 2) 1) (div-div-eq-div-mul m 16 (2 ^ j) ∙ ap (m /_) e)
+
+-- the subcarrier u lies at place j of those that m has among the positions of s segments, from segment g on
+pub record Placed (g m s u j : ℕ) : Type 0 where
+  pub among : j < 4 * s
+  pub there : u / 256 ≡ 4 * g + j
+  pub own : T (set-at j m)
+
+pub spread-inside : (s g m u : ℕ) → In u (spreadRuns (4 * g) m s) → (j : ℕ) × Placed g m s u j
+unfolding spreadRuns
+spread-inside zero g m u h = absurd h
+spread-inside (suc s) g m u h =
+    let from : 4 * g + 4 ≡ 4 * (g + 1) = omega arith in
+    ⊎-elim
+    (λ l.
+    let w = places-inside g (m % 16) u l in
+    (u / 256 % 4, record { among = omega arith; there = omega (arith, w .0); own = rw (← low-bit (u / 256 % 4) m (omega arith)) (w .1) }))
+    (λ l.
+    let w = spread-inside s (g + 1) (m / 16) u (rw from at l) in
+    let p = w .1 in
+    (w .0 + 4, record { among = omega (arith, p .among); there = omega (arith, p .there); own = rw (← high-bit (w .0) m) (p .own) }))
+    (in-both u (placesRuns (4 * g) (m % 16)) (spreadRuns (4 * g + 4) (m / 16) s) h)
+
 -- ---- as the program finds them
 odd : (a k : ℕ) → a ≡ 2 * k + 1 → a % 2 ≡ 1
 odd a k e = omega arith
@@ -158,16 +239,35 @@ not-all m n = go (set-at 0 m && set-at 1 m && set-at 2 m && set-at 3 m) refl
         let two : m / 2 ≡ 2 * (m / 4) + 1 = halved (m / 2) (m / 4) x (omega arith) in
         absurd (n (omega (arith, w, two, four, eight)))
 
-if-last : (t : Bool) (p : ℕ) → the242If t p ≡ the242If t p ++ []
-if-last true p = refl
-if-last false p = refl
-
 -- else one after the other
-pub each-place : (b m : ℕ) → (m % 16 ≡ 15 → ⊥)
+each-place : (b m : ℕ) → (m % 16 ≡ 15 → ⊥)
     → placesRuns b m
     ≡ the242If (eqb (m % 2) 1) b
-    ++ (the242If (eqb (m / 2 % 2) 1) (b + 1) ++ (the242If (eqb (m / 4 % 2) 1) (b + 2) ++ (the242If (eqb (m / 8 % 2) 1) (b + 3) ++ [])))
+    ++ (the242If (eqb (m / 2 % 2) 1) (b + 1) ++ (the242If (eqb (m / 4 % 2) 1) (b + 2) ++ the242If (eqb (m / 8 % 2) 1) (b + 3)))
 unfolding placesRuns
-each-place b m n =
-    let e : m / 1 ≡ m = omega arith in
-    rw (not-all m n, e, ← if-last (eqb (m / 8 % 2) 1) (b + 3))
+each-place b m n = let e : m / 1 ≡ m = omega arith in rw (not-all m n, e)
+
+module _ (b m : ℕ) where
+  abbrev first : List Run
+  first = the242If (eqb (m % 2) 1) b
+
+  abbrev second : List Run
+  second = the242If (eqb (m / 2 % 2) 1) (b + 1)
+
+  abbrev third : List Run
+  third = the242If (eqb (m / 4 % 2) 1) (b + 2)
+
+  abbrev fourth : List Run
+  fourth = the242If (eqb (m / 8 % 2) 1) (b + 3)
+
+  pub place-after-place : (rs : List Run) → (m % 16 ≡ 15 → ⊥) → (((rs ++ first) ++ second) ++ third) ++ fourth ≡ rs ++ placesRuns b m
+  place-after-place rs n =
+      rw (
+        each-place b m n,
+        append-assoc ((rs ++ first) ++ second) third fourth,
+        append-assoc (rs ++ first) second (third ++ fourth),
+        append-assoc rs first (second ++ (third ++ fourth)),
+      )
+
+  pub each-length : (m % 16 ≡ 15 → ⊥) → length (placesRuns b m) ≡ length first + (length second + (length third + length fourth))
+  each-length n = rw (each-place b m n) (simp length-append)

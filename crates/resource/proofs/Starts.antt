@@ -9,7 +9,7 @@ use mir.Facts.{or-yes}
 use lib.Dec.{T, leb, leb→le, eqb, eqb→eq}
 use lib.ListN.{length, List·getD-eq-default}
 use Rattle.resource.specs.declared.Size.{Size}
-use Rattle.resource.specs.declared.Size.the-variants.{S26, S52, S106, S242, S484, S996}
+use Rattle.resource.specs.declared.Size.the-variants.{S26, S52, S106, S242, S484, S996, S2x996}
 use Rattle.resource.specs.declared.Piece.{Piece}
 use Rattle.resource.specs.declared.Piece.the-variants.{Part, With26}
 use Rattle.resource.specs.Values.{carried, pieces, fieldsOf, ownPieces}
@@ -87,6 +87,7 @@ kindNo S106 = 2
 kindNo S242 = 3
 kindNo S484 = 4
 kindNo S996 = 5
+kindNo S2x996 = 6
 
 kindAt : ℕ → Size
 kindAt zero = S26
@@ -94,7 +95,8 @@ kindAt (suc zero) = S52
 kindAt (suc (suc zero)) = S106
 kindAt (suc (suc (suc zero))) = S242
 kindAt (suc (suc (suc (suc zero)))) = S484
-kindAt (suc (suc (suc (suc (suc k))))) = S996
+kindAt (suc (suc (suc (suc (suc zero))))) = S996
+kindAt (suc (suc (suc (suc (suc (suc k)))))) = S2x996
 
 kind-back : (a : Size) → kindAt (kindNo a) ≡ a
 unfolding kindNo kindAt
@@ -104,6 +106,7 @@ kind-back S106 = refl
 kind-back S242 = refl
 kind-back S484 = refl
 kind-back S996 = refl
+kind-back S2x996 = refl
 
 samePiece : Piece → Piece → Bool
 samePiece (Part a i) (Part b j) = eqb (kindNo a) (kindNo b) && eqb i j

@@ -19,6 +19,10 @@ below-or a b = go (ltb a b) refl
     go true e = inl (ltb-true a b e)
     go false e = inr (ltb-false a b e)
 
+pub both : (a b : Bool) → T a → T b → T (a && b)
+both true b s t = t
+both false b s t = absurd s
+
 pub both-left : (a b : Bool) → T (a && b) → T a
 both-left true b t = tt
 both-left false b t = t

@@ -5,10 +5,11 @@ use mathlib.Core.List.{List, [], _∷_, _++_}
 use Prim.Native.Nat.{ℕ, zero, suc, _+_, _-_, _*_, _/_, _%_, _^_}
 use lib.Dec.{eqb}
 use lib.IntN.{ℤ, pos, _-ℤ_}
-use lib.ListN.{length, take, getD}
+use lib.ListN.{length, take, getD, replicate}
 use Rattle.resource.specs.declared.Size.{Size}
-use Rattle.resource.specs.declared.Size.the-variants.{S26, S52, S106, S242, S484, S996}
-use Rattle.resource.specs.declared.Pairing.the-variants.{P106And26, P484And242}
+use Rattle.resource.specs.declared.Size.the-variants.{S26, S52, S106, S242, S484, S996, S2x996}
+use Rattle.resource.specs.declared.Pairing.{Pairing}
+use Rattle.resource.specs.declared.Pairing.the-variants.{P106And26, P484And242, P996And484, P3x996, P2x996And484, P3x996And484}
 use Rattle.resource.specs.declared.Piece.{Piece}
 use Rattle.resource.specs.declared.Piece.the-variants.{Part, With26}
 use Rattle.resource.specs.declared.Resource.{Resource}
@@ -16,6 +17,7 @@ use Rattle.resource.specs.declared.Resource.the-variants.{Single, Joined
 use Rattle.resource.specs.declared.Run.{Run}
 use Rattle.resource.specs.declared.Tones.{Tones}
 use Rattle.resource.specs.Values.{set-at, ownPieces}
+use Rattle.resource.specs.Places.{all, placesOf, segmentsOf}
 use Rattle.resource.specs.Index.{positionOf, placeOf}
 use Rattle.resource.specs.Tones.{Span, _to_}
 
@@ -36,6 +38,7 @@ startOf (Part S106 i) = 5 * (i - 1)
 startOf (Part S242 i) = 0
 startOf (Part S484 i) = 0
 startOf (Part S996 i) = 0
+startOf (Part S2x996 i) = 0
 startOf (With26 i) = 4 * (i - 1)
 
 abbrev pub numberedOf : Piece → ℕ
@@ -112,6 +115,11 @@ placesRuns b m =
     (runOf (256 * b + 12) 498 ∷ runOf (256 * b + 515) 498 ∷ [])
     (the242If (set-at 0 m) b ++ (the242If (set-at 1 m) (b + 1) ++ (the242If (set-at 2 m) (b + 2) ++ the242If (set-at 3 m) (b + 3))))
 
+-- in s segments from position b on, by its places m among all of their positions
+unfoldable pub spreadRuns : ℕ → ℕ → ℕ → List Run
+spreadRuns b m zero = []
+spreadRuns b m (suc s) = placesRuns b (m % 16) ++ spreadRuns (b + 4) (m / 16) s
+
 -- ---- the j-th of its size at position p, a 484 and a 996 having more than a position
 unfoldable pub wide : ℕ → Size → ℕ → List Run
 wide p S26 j = runOf (edge p + offset26 j) 26 ∷ []
@@ -120,6 +128,7 @@ wide p S106 j = runOf (edge p + offset106 j) 106 ∷ []
 wide p S242 j = placesRuns (4 * (p / 4)) (2 ^ (p % 4))
 wide p S484 j = []
 wide p S996 j = []
+wide p S2x996 j = []
 
 unfoldable pub wideWith26 : ℕ → ℕ → List Run
 wideWith26 p j =
@@ -145,6 +154,7 @@ narrow S106 j = runOf (narrow106 j) 106 ∷ []
 narrow S242 j = runOf 6 121 ∷ runOf 130 121 ∷ []
 narrow S484 j = []
 narrow S996 j = []
+narrow S2x996 j = []
 
 unfoldable pub narrowWith26 : ℕ → List Run
 narrowWith26 j = cond (eqb j 0) (runOf 6 119 ∷ runOf 132 13 ∷ []) (runOf 112 13 ∷ runOf 132 119 ∷ [])
@@ -153,6 +163,10 @@ narrowWith26 j = cond (eqb j 0) (runOf 6 119 ∷ runOf 132 13 ∷ []) (runOf 112
 -- one that lies in a single position
 abbrev pub inPosition : ℕ → ℕ → Size → ℕ → List Run
 inPosition n g s i = cond (eqb n 1) (narrow s (placeOf s i)) (wide (4 * g + positionOf s i) s (placeOf s i))
+
+-- a joined one that is wider than a segment
+unfoldable pub joinedRuns : ℕ → Pairing → ℕ → List Run
+joinedRuns g w i = spreadRuns (4 * (segmentsOf w * (g / segmentsOf w))) (placesOf w i) (segmentsOf w)
 
 unfoldable pub runsOf : ℕ → ℕ → Resource → List Run
 runsOf n g (Single S26 i) = inPosition n g S26 i
@@ -164,13 +178,18 @@ runsOf n g (Single S996 i) = placesRuns (4 * g) 15
 runsOf n g (Joined P106And26 i) =
     cond (eqb n 1) (narrowWith26 ((i - 1) % 2)) (wideWith26 (4 * g + (i - 1) / 2) ((i - 1) % 2))
 runsOf n g (Joined P484And242 i) = placesRuns (4 * g) (15 - 2 ^ (i - 1))
+runsOf n g (Single S2x996 i) = spreadRuns (8 * (g / 2)) (all 8) 2
+runsOf n g (Joined P996And484 i) = joinedRuns g P996And484 i
+runsOf n g (Joined P3x996 i) = joinedRuns g P3x996 i
+runsOf n g (Joined P2x996And484 i) = joinedRuns g P2x996And484 i
+runsOf n g (Joined P3x996And484 i) = joinedRuns g P3x996And484 i
 
--- ---- as the program holds them: at most three
+-- ---- as the program holds them: at most eight
 abbrev pub noRun : Run
 noRun = run 0 0
 
 unfoldable pub held : List Run → Tones
-held rs = record { count = length rs; runs = take 3 (rs ++ (noRun ∷ noRun ∷ noRun ∷ [])) }
+held rs = record { count = length rs; runs = take 8 (rs ++ replicate 8 noRun) }
 
 -- ---- back from a name: the resource of so many subcarriers with this index
 unfoldable pub resourceNamed : ℕ → ℕ → Resource
@@ -181,4 +200,9 @@ resourceNamed n i =
     (cond (eqb n 242) (Single S242 i)
     (cond (eqb n 484) (Single S484 i)
     (cond (eqb n 996) (Single S996 i)
-    (cond (eqb n 132) (Joined P106And26 i) (Joined P484And242 i)))))))
+    (cond (eqb n 1992) (Single S2x996 i)
+    (cond (eqb n 132) (Joined P106And26 i)
+    (cond (eqb n 726) (Joined P484And242 i)
+    (cond (eqb n 1480) (Joined P996And484 i)
+    (cond (eqb n 2988) (Joined P3x996 i)
+    (cond (eqb n 2476) (Joined P2x996And484 i) (Joined P3x996And484 i))))))))))))

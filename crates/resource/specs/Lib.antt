@@ -1,4 +1,5 @@
 pub mod Names
+pub mod Places
 pub mod Values
 pub mod Index
 pub mod Tones

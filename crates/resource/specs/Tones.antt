@@ -3,19 +3,21 @@ use mathlib.Core.Path.{_≡_}
 use mathlib.Core.Logic.{_⊎_}
 use mathlib.Core.Bool.{Bool, true, false, cond, _&&_}
 use mathlib.Core.List.{List, [], _∷_, _++_}
-use Prim.Native.Nat.{ℕ, _+_, _-_, _*_, _/_, _%_}
+use Prim.Native.Nat.{ℕ, zero, suc, _+_, _-_, _*_, _/_, _%_}
 use lib.Dec.{eqb, T}
 use lib.IntN.{ℤ, pos, negsuc, negℤ, sucℤ, _+ℤ_, _-ℤ_}
 use lib.Signed.{leZ, ltZ, _≤ℤ_}
 use lib.ListN.{getD}
 use Rattle.resource.specs.declared.Size.{Size}
-use Rattle.resource.specs.declared.Size.the-variants.{S26, S52, S106, S242, S484, S996}
+use Rattle.resource.specs.declared.Size.the-variants.{S26, S52, S106, S242, S484, S996, S2x996}
 use Rattle.resource.specs.declared.Piece.{Piece}
 use Rattle.resource.specs.declared.Piece.the-variants.{Part, With26}
-use Rattle.resource.specs.declared.Pairing.the-variants.{P106And26, P484And242}
+use Rattle.resource.specs.declared.Pairing.{Pairing}
+use Rattle.resource.specs.declared.Pairing.the-variants.{P106And26, P484And242, P996And484, P3x996, P2x996And484, P3x996And484}
 use Rattle.resource.specs.declared.Resource.{Resource}
 use Rattle.resource.specs.declared.Resource.the-variants.{Single, Joined}
 use Rattle.resource.specs.Names.{nameOf}
+use Rattle.resource.specs.Places.{all, pair, placesOf, segmentsOf}
 use Rattle.resource.specs.Index.{positionOf, placeOf}
 
 -- the subcarriers from lo to hi
@@ -76,6 +78,7 @@ offsets S106 = pos 1 to pos 106 ∷ pos 135 to pos 240 ∷ []
 offsets S242 = pos 0 to pos 241 ∷ []
 offsets S484 = []
 offsets S996 = []
+offsets S2x996 = []
 
 -- "Lowest subcarriers of the 242s: 40 MHz -244, 3"
 abbrev pub lowest40 : List ℤ
@@ -102,16 +105,23 @@ lowest n g p = cond (eqb n 2) (getD lowest40 p (pos 0)) (centre n g +ℤ getD lo
 abbrev pub the242 : ℕ → ℕ → ℕ → Span
 the242 n g p = shifted (lowest n g p) (pos 0 to pos 241)
 
+-- "484 is its two 242s": the one that has position p
+abbrev pub the484 : ℕ → ℕ → ℕ → List Span
+the484 n g p = the242 n g (2 * (p / 2)) ∷ the242 n g (2 * (p / 2) + 1) ∷ []
+
+-- "996 is -500 to -3 and 3 to 500"
+abbrev pub the996 : ℕ → ℕ → List Span
+the996 n g = shifted (centre n g) (minus 500 to minus 3) ∷ shifted (centre n g) (pos 3 to pos 500) ∷ []
+
 abbrev pub wideTones : ℕ → ℕ → ℕ → Piece → List Span
 wideTones n g p (Part S26 i) = shifted (lowest n g p) (spanAt (offsets S26) i) ∷ []
 wideTones n g p (Part S52 i) = shifted (lowest n g p) (spanAt (offsets S52) i) ∷ []
 wideTones n g p (Part S106 i) = shifted (lowest n g p) (spanAt (offsets S106) i) ∷ []
 wideTones n g p (Part S242 i) = the242 n g p ∷ []
--- "484 is its two 242s"
-wideTones n g p (Part S484 i) = the242 n g (2 * (p / 2)) ∷ the242 n g (2 * (p / 2) + 1) ∷ []
--- "996 is -500 to -3 and 3 to 500"
-wideTones n g p (Part S996 i) =
-    shifted (centre n g) (minus 500 to minus 3) ∷ shifted (centre n g) (pos 3 to pos 500) ∷ []
+wideTones n g p (Part S484 i) = the484 n g p
+wideTones n g p (Part S996 i) = the996 n g
+-- a 2x996 is the two 996s of its 160 MHz
+wideTones n g p (Part S2x996 i) = the996 n (2 * (g / 2)) ++ the996 n (2 * (g / 2) + 1)
 -- "A 106+26 takes the middle 26"
 wideTones n g p (With26 i) =
     cond (eqb i 1)
@@ -156,6 +166,7 @@ narrowTones (Part S106 i) = spanAt the106s i ∷ []
 narrowTones (Part S242 i) = minus 122 to minus 2 ∷ pos 2 to pos 122 ∷ []
 narrowTones (Part S484 i) = []
 narrowTones (Part S996 i) = []
+narrowTones (Part S2x996 i) = []
 narrowTones (With26 i) = cond (eqb i 1) (spanAt the106s 1 ∷ middle20) (middle20 ++ (spanAt the106s 2 ∷ []))
 
 -- the subcarriers of the piece x at position p of segment g, in a channel of n positions
@@ -166,11 +177,30 @@ tonesAt n g p x = maximal (cond (eqb n 1) (narrowTones x) (wideTones n g p x))
 unfoldable pub tonesLeavingOut : ℕ → ℕ → ℕ → List Span
 tonesLeavingOut n g k = maximal (leavingOutTones n g k)
 
+-- ---- a joined resource wider than a segment: those of its 996s and its 484
+-- what it has in segment g, by its places m among the four: the 996, the lower or the upper 484, or nothing
+abbrev pub partTones : ℕ → ℕ → ℕ → List Span
+partTones n g m =
+    cond (eqb m (all 4)) (the996 n g) (cond (eqb m (pair 0)) (the484 n g 0) (cond (eqb m (pair 1)) (the484 n g 2) []))
+
+-- in s segments from g on, by its places m among all of their positions
+abbrev pub spreadTones : ℕ → ℕ → ℕ → ℕ → List Span
+spreadTones n g m zero = []
+spreadTones n g m (suc s) = partTones n g (m % 16) ++ spreadTones n (g + 1) (m / 16) s
+
+-- the i-th of its name that has a place in segment g
+unfoldable pub tonesJoined : ℕ → ℕ → Pairing → ℕ → List Span
+tonesJoined n g w i = maximal (spreadTones n (segmentsOf w * (g / segmentsOf w)) (placesOf w i) (segmentsOf w))
+
 -- ---- of the resource of segment g that has this size and index
 unfoldable pub tonesOf : ℕ → ℕ → Resource → List Span
 tonesOf n g (Single s i) = tonesAt n g (positionOf s i) (Part s (placeOf s i + 1))
 tonesOf n g (Joined P106And26 i) = tonesAt n g ((i - 1) / 2) (With26 ((i - 1) % 2 + 1))
 tonesOf n g (Joined P484And242 i) = tonesLeavingOut n g (i - 1)
+tonesOf n g (Joined P996And484 i) = tonesJoined n g P996And484 i
+tonesOf n g (Joined P3x996 i) = tonesJoined n g P3x996 i
+tonesOf n g (Joined P2x996And484 i) = tonesJoined n g P2x996And484 i
+tonesOf n g (Joined P3x996And484 i) = tonesJoined n g P3x996And484 i
 
 -- ---- what is said of the subcarriers of some spans
 -- k is one of them

@@ -11,9 +11,9 @@ use Rattle.resource.specs.declared.Piece.the-variants.{Part, With26}
 abbrev pub between : ℕ → ℕ → ℕ → Bool
 between a b v = leb a v && leb v b
 
--- the values that 01 lists; "All else isn't carried"
+-- the values that 01 lists, and "the published values from 88 up" (02, T-07): 88 to 95 and 128 to 303; "All else isn't carried"
 unfoldable pub carried : ℕ → Bool
-carried v = leb v 30 || eqb v 48 || eqb v 50 || between 64 87 v || between 96 127 v
+carried v = leb v 30 || eqb v 48 || eqb v 50 || between 64 303 v
 
 -- bit k of a value is set
 abbrev pub set-at : ℕ → ℕ → Bool

@@ -10,7 +10,8 @@ ghost use Rattle.resource.specs.Values.{carried, fieldsOf, divides, piec
 ghost use Rattle.resource.specs.Names.{sizeOf, nameOf, numberOf};
 ghost use Rattle.resource.specs.Index.{indexOf, resourceAt, isPiece, fromPositions};
 ghost use Rattle.resource.specs.Engine.{starts, nthFrom, pieceFrom, pieceAt, numberedOf, runOf, edge, the242, offset26, offset52, offset106};
-ghost use Rattle.resource.specs.Engine.{wide, wideWith26, the242If, placesRuns, narrow26, narrow52, narrow106, narrow, narrowWith26, runsOf, noRun, held};
+ghost use Rattle.resource.specs.Engine.{wide, wideWith26, the242If, placesRuns, spreadRuns, narrow26, narrow52, narrow106};
+ghost use Rattle.resource.specs.Engine.{narrow, narrowWith26, runsOf, noRun, held};
 
 // A single resource's number of subcarriers.
 pub enum Size {
@@ -20,15 +21,20 @@ pub enum Size {
     S242,
     S484,
     S996,
+    S2x996,
 }
 
-// The two that a joined resource is made of.
+// What a joined resource is made of.
 pub enum Pairing {
     P106And26,
     P484And242,
+    P996And484,
+    P3x996,
+    P2x996And484,
+    P3x996And484,
 }
 
-// A resource of a segment, with its index there.
+// A resource, with its index in its segment; of a wider one, in its own span.
 pub enum Resource {
     Single(Size, u16),
     Joined(Pairing, u16),
@@ -46,23 +52,23 @@ pub struct Run {
     pub hi: u32,
 }
 
-// The runs of a resource: the first `count` of three, rising.
+// The runs of a resource: the first `count` of eight, rising.
 pub struct Tones {
     pub count: u16,
-    pub runs: [Run; 3],
+    pub runs: [Run; 8],
 }
 
 pub fn is_carried(v: u16) -> bool
     ensures { λ r. ⌜ r ≡ carried v ⌝ }
 {
     match v {
-        0..=30 | 48 | 50 | 64..=87 | 96..=127 => true,
+        0..=30 | 48 | 50 | 64..=303 => true,
         _ => false,
     }
 }
 
-// One `match` of constants, so that it is one load from a fixed table: the reader asks it of every value. Neighbours stand in arms of
-// their own: in one arm they would be a test of a range, and no entry of the table.
+// Below 64 one `match` of constants, so that it is one load from a fixed table: the reader asks it of every value. Neighbours stand in
+// arms of their own: in one arm they would be a test of a range, and no entry of the table.
 pub fn fields_of(v: u16) -> u16
     ensures { λ r. ⌜ r ≡ fieldsOf v ⌝ }
 {
@@ -79,14 +85,8 @@ pub fn fields_of(v: u16) -> u16
         19 | 23 => 4,
         24 => 4,
         25 => 3,
-        48 | 50 | 65 | 73 | 81 | 97 | 105 | 113 | 121 => 2,
-        64 | 72 | 80 | 96 | 104 | 112 | 120 => 1,
-        66 | 74 | 82 | 98 | 106 | 114 | 122 => 3,
-        67 | 75 | 83 | 99 | 107 | 115 | 123 => 4,
-        68 | 76 | 84 | 100 | 108 | 116 | 124 => 5,
-        69 | 77 | 85 | 101 | 109 | 117 | 125 => 6,
-        70 | 78 | 86 | 102 | 110 | 118 | 126 => 7,
-        71 | 79 | 87 | 103 | 111 | 119 | 127 => 8,
+        48 | 50 => 2,
+        64..=303 => v % 8 + 1,
         _ => 0,
     }
 }
@@ -215,6 +215,7 @@ fn index_of(p: u16, size: Size, i: u16) -> u16
         Size::S242 => p + 1,
         Size::S484 => p / 2 + 1,
         Size::S996 => 1,
+        Size::S2x996 => 1,
     }
 }
 
@@ -242,6 +243,7 @@ fn size_of(size: Size) -> u32
         Size::S242 => 242,
         Size::S484 => 484,
         Size::S996 => 996,
+        Size::S2x996 => 1992,
     }
 }
 
@@ -254,6 +256,10 @@ pub fn subcarriers_of(r: Resource) -> u32
         Resource::Joined(pairing, _) => match pairing {
             Pairing::P106And26 => 132,
             Pairing::P484And242 => 726,
+            Pairing::P996And484 => 1480,
+            Pairing::P3x996 => 2988,
+            Pairing::P2x996And484 => 2476,
+            Pairing::P3x996And484 => 3472,
         },
     }
 }
@@ -287,25 +293,27 @@ fn no_tones() -> Tones
 {
     Tones {
         count: 0,
-        runs: [no_run(), no_run(), no_run()],
+        runs: [no_run(); 8],
     }
 }
 
 fn one_run(a: Run) -> Tones
     ensures { λ r. ⌜ r ≡ held (a ∷ []) ⌝ }
 {
+    let none = no_run();
     Tones {
         count: 1,
-        runs: [a, no_run(), no_run()],
+        runs: [a, none, none, none, none, none, none, none],
     }
 }
 
 fn two_runs(a: Run, b: Run) -> Tones
     ensures { λ r. ⌜ r ≡ held (a ∷ b ∷ []) ⌝ }
 {
+    let none = no_run();
     Tones {
         count: 2,
-        runs: [a, b, no_run()],
+        runs: [a, b, none, none, none, none, none, none],
     }
 }
 
@@ -380,6 +388,7 @@ fn wide_tones(p: u32, size: Size, j: u16) -> Tones
         Size::S242 => one_run(run_242(p)),
         Size::S484 => no_tones(),
         Size::S996 => no_tones(),
+        Size::S2x996 => no_tones(),
     }
 }
 
@@ -451,6 +460,7 @@ fn narrow_tones(size: Size, j: u16) -> Tones
         Size::S242 => two_runs(run_of(6, 121), run_of(130, 121)),
         Size::S484 => no_tones(),
         Size::S996 => no_tones(),
+        Size::S2x996 => no_tones(),
     }
 }
 
@@ -495,31 +505,68 @@ pub fn piece_tones(n: u16, p: u16, x: Piece) -> Tones
     }
 }
 
-// The 242 of position p, where it is a place of the resource's, before the runs of t.
-fn with_242(own: bool, p: u32, t: Tones) -> Tones
-    requires { ⌜ (p < 1048576) × (t .count < 4) × (length (t .runs) ≡ 3) ⌝ }
-    ensures { λ r. ⌜ ((rs : List Run) → t ≡ held rs → r ≡ held (the242If own p ++ rs)) ⌝ }
-    ensures bounded { λ r. ⌜ (r .count ≤ t .count + 1) × (length (r .runs) ≡ 3) ⌝ }
+// One run more, after those of t.
+fn with_run(t: Tones, a: Run) -> Tones
+    requires { ⌜ (t .count < 8) × (length (t .runs) ≡ 8) ⌝ }
+    ensures { λ r. ⌜ ((rs : List Run) → t ≡ held rs → r ≡ held (rs ++ (a ∷ []))) ⌝ }
+    ensures bounded { λ r. ⌜ (r .count ≡ t .count + 1) × (length (r .runs) ≡ 8) ⌝ }
+{
+    let mut next = t;
+    next.runs[t.count as usize] = a;
+    next.count = t.count + 1;
+    next
+}
+
+// The 242 of position p, where it is a place of the resource's, after the runs of t.
+fn with_242(t: Tones, own: bool, p: u32) -> Tones
+    requires { ⌜ (p < 1048576) × (t .count + length (the242If own p) ≤ 8) × (length (t .runs) ≡ 8) ⌝ }
+    ensures { λ r. ⌜ ((rs : List Run) → t ≡ held rs → r ≡ held (rs ++ the242If own p)) ⌝ }
+    ensures bounded { λ r. ⌜ (r .count ≡ t .count + length (the242If own p)) × (length (r .runs) ≡ 8) ⌝ }
 {
     if own {
-        return Tones {
-            count: t.count + 1,
-            runs: [run_242(p), t.runs[0], t.runs[1]],
-        };
+        return with_run(t, run_242(p));
     }
     t
 }
 
-// The subcarriers of a resource of whole positions, by its places among the four from b on, where its segment begins.
+// The runs of a resource of whole positions, by its places among the four from b on, where a segment begins, after those of t.
+fn with_places(t: Tones, b: u32, mask: u32) -> Tones
+    requires { ⌜ (b < 1000000) × (t .count + length (placesRuns b mask) ≤ 8) × (length (t .runs) ≡ 8) ⌝ }
+    ensures { λ r. ⌜ ((rs : List Run) → t ≡ held rs → r ≡ held (rs ++ placesRuns b mask)) ⌝ }
+    ensures bounded { λ r. ⌜ (r .count ≡ t .count + length (placesRuns b mask)) × (length (r .runs) ≡ 8) ⌝ }
+{
+    if mask % 16 == 15 {
+        let lower = with_run(t, run_of(256 * b + 12, 498));
+        return with_run(lower, run_of(256 * b + 515, 498));
+    }
+    let first = with_242(t, mask % 2 == 1, b);
+    let lower = with_242(first, mask / 2 % 2 == 1, b + 1);
+    let but_last = with_242(lower, mask / 4 % 2 == 1, b + 2);
+    with_242(but_last, mask / 8 % 2 == 1, b + 3)
+}
+
+// The subcarriers of a resource of whole positions of the segment that begins at position b.
 pub fn places_tones(b: u32, mask: u16) -> Tones
     requires { ⌜ b < 1000000 ⌝ }
     ensures { λ t. ⌜ t ≡ held (placesRuns b mask) ⌝ }
 {
-    if mask % 16 == 15 {
-        return two_runs(run_of(256 * b + 12, 498), run_of(256 * b + 515, 498));
+    with_places(no_tones(), b, mask as u32)
+}
+
+// Of one that lies in several segments.
+pub fn spread_tones(b: u32, mask: u32, segments: u16) -> Tones
+    requires { ⌜ (b < 900000) × (segments ≤ 4) × (length (spreadRuns b mask segments) ≤ 8) ⌝ }
+    ensures { λ t. ⌜ t ≡ held (spreadRuns b mask segments) ⌝ }
+{
+    let mut t = no_tones();
+    let mut from = b;
+    let mut left = mask;
+    let mut s = segments;
+    while s > 0 {
+        t = with_places(t, from, left % 16);
+        from += 4;
+        left /= 16;
+        s -= 1;
     }
-    let last = with_242(mask / 8 % 2 == 1, b + 3, no_tones());
-    let upper = with_242(mask / 4 % 2 == 1, b + 2, last);
-    let but_first = with_242(mask / 2 % 2 == 1, b + 1, upper);
-    with_242(mask % 2 == 1, b, but_first)
+    t
 }

@@ -6,15 +6,15 @@ use lib.Dec.{eqb}
 use lib.ListN.{length, getD}
 use Rattle.text.specs.Text.{codes, signed, keyed, upto}
 use Rattle.resource.specs.declared.Size.{Size}
-use Rattle.resource.specs.declared.Size.the-variants.{S26, S52, S106, S242, S484, S996}
+use Rattle.resource.specs.declared.Size.the-variants.{S26, S52, S106, S242, S484, S996, S2x996}
 use Rattle.resource.specs.declared.Pairing.{Pairing}
-use Rattle.resource.specs.declared.Pairing.the-variants.{P106And26, P484And242}
+use Rattle.resource.specs.declared.Pairing.the-variants.{P106And26, P484And242, P996And484, P3x996, P2x996And484, P3x996And484}
 use Rattle.resource.specs.declared.Resource.{Resource}
 use Rattle.resource.specs.declared.Resource.the-variants.{Single, Joined}
 use Rattle.resource.specs.Names.{numberOf}
 use Rattle.resource.specs.Tones.{Span, noSpan}
 
--- "Resources: 26, 52, 106, 242, 484 and 996 subcarriers, and the joined ones 106+26 and 484+242."
+-- "Resources: 26, 52, 106, 242, 484 and 996 subcarriers, and the joined ones 106+26 and 484+242." 02, T-07: "2x996, .. 996+484 and the rest"
 abbrev pub sizeText : Size → List ℕ
 sizeText S26 = codes "26"
 sizeText S52 = codes "52"
@@ -22,10 +22,15 @@ sizeText S106 = codes "106"
 sizeText S242 = codes "242"
 sizeText S484 = codes "484"
 sizeText S996 = codes "996"
+sizeText S2x996 = codes "2x996"
 
 abbrev pub pairingText : Pairing → List ℕ
 pairingText P106And26 = codes "106+26"
 pairingText P484And242 = codes "484+242"
+pairingText P996And484 = codes "996+484"
+pairingText P3x996 = codes "3x996"
+pairingText P2x996And484 = codes "2x996+484"
+pairingText P3x996And484 = codes "3x996+484"
 
 unfoldable pub nameText : Resource → List ℕ
 nameText (Single s i) = sizeText s

@@ -15,7 +15,7 @@ ghost use Rattle.resource_line.specs.Engine.{heldSpans};
 fn put_size(out: &mut [u8], at: usize, size: Size) -> usize
     requires { ⌜ at ≤ 1000000 ⌝ }
     ensures { λ r. ⌜ Wrote (now (out .entry)) at (sizeText size) (now (out .exit)) r ⌝ }
-    ensures bounded { λ r. ⌜ r ≤ at + 3 ⌝ }
+    ensures bounded { λ r. ⌜ r ≤ at + 5 ⌝ }
 {
     match size {
         Size::S26 => text::put_all(out, at, b"26"),
@@ -24,24 +24,29 @@ fn put_size(out: &mut [u8], at: usize, size: Size) -> usize
         Size::S242 => text::put_all(out, at, b"242"),
         Size::S484 => text::put_all(out, at, b"484"),
         Size::S996 => text::put_all(out, at, b"996"),
+        Size::S2x996 => text::put_all(out, at, b"2x996"),
     }
 }
 
 fn put_pairing(out: &mut [u8], at: usize, pairing: Pairing) -> usize
     requires { ⌜ at ≤ 1000000 ⌝ }
     ensures { λ r. ⌜ Wrote (now (out .entry)) at (pairingText pairing) (now (out .exit)) r ⌝ }
-    ensures bounded { λ r. ⌜ r ≤ at + 7 ⌝ }
+    ensures bounded { λ r. ⌜ r ≤ at + 9 ⌝ }
 {
     match pairing {
         Pairing::P106And26 => text::put_all(out, at, b"106+26"),
         Pairing::P484And242 => text::put_all(out, at, b"484+242"),
+        Pairing::P996And484 => text::put_all(out, at, b"996+484"),
+        Pairing::P3x996 => text::put_all(out, at, b"3x996"),
+        Pairing::P2x996And484 => text::put_all(out, at, b"2x996+484"),
+        Pairing::P3x996And484 => text::put_all(out, at, b"3x996+484"),
     }
 }
 
 fn put_name(out: &mut [u8], at: usize, r: Resource) -> usize
     requires { ⌜ at ≤ 1000000 ⌝ }
     ensures { λ e. ⌜ Wrote (now (out .entry)) at (nameText r) (now (out .exit)) e ⌝ }
-    ensures bounded { λ e. ⌜ e ≤ at + 7 ⌝ }
+    ensures bounded { λ e. ⌜ e ≤ at + 9 ⌝ }
 {
     match r {
         Resource::Single(size, _) => put_size(out, at, size),
@@ -75,9 +80,9 @@ fn put_run(out: &mut [u8], at: usize, i: usize, run: Run, n: u16) -> usize
 
 // The runs of a resource.
 fn put_tones(out: &mut [u8], at: usize, t: Tones, n: u16) -> usize
-    requires { ⌜ (at ≤ 800000) × (t .count ≤ 3) × (length (t .runs) ≡ 3) ⌝ }
+    requires { ⌜ (at ≤ 800000) × (t .count ≤ 8) × (length (t .runs) ≡ 8) ⌝ }
     ensures { λ r. ⌜ Wrote (now (out .entry)) at (tonesText (heldSpans n t)) (now (out .exit)) r ⌝ }
-    ensures bounded { λ r. ⌜ r ≤ at + 132 ⌝ }
+    ensures bounded { λ r. ⌜ r ≤ at + 352 ⌝ }
 {
     let count = t.count as usize;
     let runs = t.runs;
@@ -121,9 +126,9 @@ pub fn put_ru(
     users: u64,
     tones: Tones,
 ) -> usize
-    requires { ⌜ (at ≤ 700000) × (tones .count ≤ 3) × (length (tones .runs) ≡ 3) ⌝ }
+    requires { ⌜ (at ≤ 700000) × (tones .count ≤ 8) × (length (tones .runs) ≡ 8) ⌝ }
     ensures { λ e. ⌜ Wrote (now (out .entry)) at (ruLine g r users (heldSpans n tones)) (now (out .exit)) e ⌝ }
-    ensures bounded { λ e. ⌜ e ≤ at + 240 ⌝ }
+    ensures bounded { λ e. ⌜ e ≤ at + 460 ⌝ }
 {
     let a = put_ru_head(out, at, g, r, users);
     let b = text::put_all(out, a, b" tones=");

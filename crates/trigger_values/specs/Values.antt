@@ -5,14 +5,15 @@ use mathlib.Core.Logic.{_⊎_}
 use mathlib.Core.Bool.{Bool, true, cond, not, _&&_, _||_}
 use Prim.Native.Nat.{ℕ, _+_, _-_, _*_, _/_, _^_, _≤_, _<_}
 use lib.Dec.{T, leb, eqb}
-use Rattle.resource.specs.declared.Size.the-variants.{S26, S52, S106, S242, S484, S996}
-use Rattle.resource.specs.declared.Pairing.the-variants.{P106And26, P484And242}
+use Rattle.resource.specs.declared.Size.the-variants.{S26, S52, S106, S242, S484, S996, S2x996}
+use Rattle.resource.specs.declared.Pairing.the-variants.{P106And26, P484And242, P996And484, P3x996, P2x996And484, P3x996And484}
 use Rattle.resource.specs.declared.Piece.{Piece}
 use Rattle.resource.specs.declared.Piece.the-variants.{Part, With26}
 use Rattle.resource.specs.declared.Resource.{Resource}
 use Rattle.resource.specs.declared.Resource.the-variants.{Single, Joined}
 use Rattle.resource.specs.Names.{numberOf}
 use Rattle.resource.specs.Values.{between, smallerAt}
+use Rattle.resource.specs.Places.{segmentsOf}
 use Rattle.resource.specs.Index.{positionOf, fromPositions, exists, resourceAt, leavingOut}
 
 -- "0 to 36 are 26s (18 reserved), 37 to 52, 53 to 60, 61 to 64, 65 and 66, 67 in rising size, 82 to 86 and 89 are 106+26, 90 to 93 are
@@ -32,11 +33,15 @@ resourceOf v =
     (cond (leb v 67) (Single S996 1)
     (cond (leb v 89) (Joined P106And26 (v - 81)) (Joined P484And242 (v - 89))))))))
 
--- how many positions of its segment, from the lowest, a resource needs: those below it and its own
+-- how many positions of its segment, from the lowest, a resource needs: those below it and its own; a wider one all of its segments
 unfoldable pub reaches : Resource → ℕ
 reaches (Single s i) = positionOf s i + fromPositions (Part s 1)
 reaches (Joined P106And26 i) = (i - 1) / 2 + 1
 reaches (Joined P484And242 i) = 4
+reaches (Joined P996And484 i) = 4 * segmentsOf P996And484
+reaches (Joined P3x996 i) = 4 * segmentsOf P3x996
+reaches (Joined P2x996And484 i) = 4 * segmentsOf P2x996And484
+reaches (Joined P3x996And484 i) = 4 * segmentsOf P3x996And484
 
 -- "A narrower bandwidth takes only what fits it": codes 0, 1 and 2 have 1, 2 and 4 positions
 unfoldable pub taken : ℕ → ℕ → Bool
@@ -53,7 +58,7 @@ pub data ResourceOf (n : ℕ) : Resource → Type 0 where
   piece : (p : ℕ) (x : Piece) → T (exists n 0 p x) → T (allowedAt p x) → ResourceOf n (resourceAt p x)
   leaving : (k : ℕ) → k < 4 → 4 ≤ n → ResourceOf n (leavingOut k)
 
--- "in rising size", then 106+26, then 484+242; inside a kind by index
+-- "in rising size", then 106+26, then 484+242; inside a kind by index. No value here names what follows them.
 abbrev pub rank : Resource → ℕ
 rank (Single S26 i) = 0
 rank (Single S52 i) = 1
@@ -63,6 +68,11 @@ rank (Single S484 i) = 4
 rank (Single S996 i) = 5
 rank (Joined P106And26 i) = 6
 rank (Joined P484And242 i) = 7
+rank (Single S2x996 i) = 8
+rank (Joined P996And484 i) = 9
+rank (Joined P3x996 i) = 10
+rank (Joined P2x996And484 i) = 11
+rank (Joined P3x996And484 i) = 12
 
 abbrev pub Before : Resource → Resource → Type 0
 Before r s = (rank r < rank s) ⊎ ((rank r ≡ rank s) × (numberOf r < numberOf s))

@@ -1,14 +1,15 @@
 -- `resource::fields_of` meets its contract: each arm's keys give as many fields as it says, and what is left gives none.
-use mathlib.Core.Path.{_≡_}
-use mathlib.Core.Logic.{⊎-elim}
+use borrow.Author.Needs.{needs}
+use mathlib.Core.Path.{_≡_, sym}
 use mathlib.Core.Bool.{Bool}
 use mathlib.Core.List.{List, [], _∷_}
-use Prim.Native.Nat.{ℕ}
+use Prim.Native.Nat.{ℕ, _<_}
+use native.Mathlib.Omega.{arith}
 use lib.Dec.{T, eqb, eqb→eq}
 use types.Run.{OneOf}
 use Rattle.resource.specs.Values.{carried, pieces, fieldsOf}
-use Rattle.resource.proofs.Test.{at-each, each-key, Missed, key-or, no-key, below-or, every-below}
-use Rattle.resource.proofs.Fields.{fields-high}
+use Rattle.resource.proofs.Test.{at-each, each-key, Missed, key-or, no-key, every-below}
+use Rattle.resource.proofs.Fields.{fields-family, fields-high}
 use Rattle.resource.proofs.fields_of.Statement.{statement}
 use Rattle.resource.proofs.fields_of.Tie as tie
 
@@ -21,14 +22,7 @@ known r ks v t h = eqb→eq r (fieldsOf v) (each-key (gives r) ks v t h)
 
 arms : List (List ℕ)
 arms =
-    (71 ∷ 79 ∷ 87 ∷ 103 ∷ 111 ∷ 119 ∷ 127 ∷ [])
-    ∷ (70 ∷ 78 ∷ 86 ∷ 102 ∷ 110 ∷ 118 ∷ 126 ∷ [])
-    ∷ (69 ∷ 77 ∷ 85 ∷ 101 ∷ 109 ∷ 117 ∷ 125 ∷ [])
-    ∷ (68 ∷ 76 ∷ 84 ∷ 100 ∷ 108 ∷ 116 ∷ 124 ∷ [])
-    ∷ (67 ∷ 75 ∷ 83 ∷ 99 ∷ 107 ∷ 115 ∷ 123 ∷ [])
-    ∷ (66 ∷ 74 ∷ 82 ∷ 98 ∷ 106 ∷ 114 ∷ 122 ∷ [])
-    ∷ (64 ∷ 72 ∷ 80 ∷ 96 ∷ 104 ∷ 112 ∷ 120 ∷ [])
-    ∷ (48 ∷ 50 ∷ 65 ∷ 73 ∷ 81 ∷ 97 ∷ 105 ∷ 113 ∷ 121 ∷ [])
+    (48 ∷ 50 ∷ [])
     ∷ (25 ∷ [])
     ∷ (24 ∷ [])
     ∷ (19 ∷ 23 ∷ [])
@@ -43,13 +37,12 @@ arms =
     ∷ (0 ∷ [])
     ∷ []
 
-left : (v : ℕ) → Missed arms v → 0 ≡ fieldsOf v
+left : (v : ℕ) → v < 64 → Missed arms v → 0 ≡ fieldsOf v
 unfolding gives arms fieldsOf pieces carried
-left v m =
-    ⊎-elim
-    (λ h. eqb→eq 0 (fieldsOf v) (no-key (gives 0) arms v (every-below (key-or (gives 0) arms) 128 tt v h) m))
-    (λ h. rw (fields-high v h))
-    (below-or v 128)
+left v h m = eqb→eq 0 (fieldsOf v) (no-key (gives 0) arms v (every-below (key-or (gives 0) arms) 64 tt v h) m)
+
+add-result : tie.Need-add-result
+add-result c = search needs
 
 returns : tie.Need-returns
 unfolding gives fieldsOf pieces carried
@@ -101,44 +94,23 @@ returns-12 c = known 3 (25 ∷ []) _ tt (c .match .keys12)
 
 returns-13 : tie.Need-returns-13
 unfolding gives fieldsOf pieces carried
-returns-13 c = known 2 (48 ∷ 50 ∷ 65 ∷ 73 ∷ 81 ∷ 97 ∷ 105 ∷ 113 ∷ 121 ∷ []) _ tt (c .match .keys13)
+returns-13 c = known 2 (48 ∷ 50 ∷ []) _ tt (c .match .keys13)
 
 returns-14 : tie.Need-returns-14
-unfolding gives fieldsOf pieces carried
-returns-14 c = known 1 (64 ∷ 72 ∷ 80 ∷ 96 ∷ 104 ∷ 112 ∷ 120 ∷ []) _ tt (c .match .keys14)
+returns-14 c = sym (fields-family _ (omega arith) (omega arith))
 
 returns-15 : tie.Need-returns-15
-unfolding gives fieldsOf pieces carried
-returns-15 c = known 3 (66 ∷ 74 ∷ 82 ∷ 98 ∷ 106 ∷ 114 ∷ 122 ∷ []) _ tt (c .match .keys15)
+unfolding arms
+returns-15 c = left _ (omega arith) (c .before .match .rest)
 
 returns-16 : tie.Need-returns-16
-unfolding gives fieldsOf pieces carried
-returns-16 c = known 4 (67 ∷ 75 ∷ 83 ∷ 99 ∷ 107 ∷ 115 ∷ 123 ∷ []) _ tt (c .match .keys16)
-
-returns-17 : tie.Need-returns-17
-unfolding gives fieldsOf pieces carried
-returns-17 c = known 5 (68 ∷ 76 ∷ 84 ∷ 100 ∷ 108 ∷ 116 ∷ 124 ∷ []) _ tt (c .match .keys17)
-
-returns-18 : tie.Need-returns-18
-unfolding gives fieldsOf pieces carried
-returns-18 c = known 6 (69 ∷ 77 ∷ 85 ∷ 101 ∷ 109 ∷ 117 ∷ 125 ∷ []) _ tt (c .match .keys18)
-
-returns-19 : tie.Need-returns-19
-unfolding gives fieldsOf pieces carried
-returns-19 c = known 7 (70 ∷ 78 ∷ 86 ∷ 102 ∷ 110 ∷ 118 ∷ 126 ∷ []) _ tt (c .match .keys19)
-
-returns-20 : tie.Need-returns-20
-unfolding gives fieldsOf pieces carried
-returns-20 c = known 8 (71 ∷ 79 ∷ 87 ∷ 103 ∷ 111 ∷ 119 ∷ 127 ∷ []) _ tt (c .match .keys20)
-
-returns-21 : tie.Need-returns-21
-unfolding arms
-returns-21 c = left _ (c .match .rest)
+returns-16 c = sym (fields-high _ (omega arith))
 
 pub fields-of-spec : {M : Type 1} → statement M
 fields-of-spec =
     tie.close
     (tie.spec
+    add-result
     returns
     returns-2
     returns-3
@@ -154,9 +126,4 @@ fields-of-spec =
     returns-13
     returns-14
     returns-15
-    returns-16
-    returns-17
-    returns-18
-    returns-19
-    returns-20
-    returns-21)
+    returns-16)

@@ -56,6 +56,9 @@ add-result-7 c = search needs
 enum-told-6 : tie.Need-enum-told-6
 enum-told-6 c = search needs
 
+enum-told-7 : tie.Need-enum-told-7
+enum-told-7 c = search needs
+
 returns : tie.Need-returns
 unfolding indexOf
 returns c = rw (c .before .enum-told .given .1, lt-ltb _ 2 (c .if1 .taken))
@@ -84,6 +87,10 @@ returns-7 : tie.Need-returns-7
 unfolding indexOf
 returns-7 c = rw (c .enum-told6 .given .1)
 
+returns-8 : tie.Need-returns-8
+unfolding indexOf
+returns-8 c = rw (c .enum-told7 .given .1)
+
 pub index-of-spec : {M : Type 1} → statement M
 index-of-spec =
     tie.close
@@ -105,10 +112,12 @@ index-of-spec =
     enum-told-5
     add-result-7
     enum-told-6
+    enum-told-7
     returns
     returns-2
     returns-3
     returns-4
     returns-5
     returns-6
-    returns-7)
+    returns-7
+    returns-8)

@@ -75,6 +75,12 @@ enum-told-6 c = search needs
 no-tones-requires-2 : tie.Need-no-tones-requires-2
 no-tones-requires-2 c κs = search needs
 
+enum-told-7 : tie.Need-enum-told-7
+enum-told-7 c = search needs
+
+no-tones-requires-3 : tie.Need-no-tones-requires-3
+no-tones-requires-3 c κs = search needs
+
 returns : tie.Need-returns
 unfolding narrow
 returns c =
@@ -111,6 +117,10 @@ returns-7 : tie.Need-returns-7
 unfolding narrow
 returns-7 c = c .no-tones2 .ensures ∙ rw (c .before .enum-told6 .given .1)
 
+returns-8 : tie.Need-returns-8
+unfolding narrow
+returns-8 c = c .no-tones3 .ensures ∙ rw (c .before .enum-told7 .given .1)
+
 pub narrow-tones-spec : {M : Type 1} → statement M
 narrow-tones-spec =
     tie.close
@@ -138,10 +148,13 @@ narrow-tones-spec =
     no-tones-requires
     enum-told-6
     no-tones-requires-2
+    enum-told-7
+    no-tones-requires-3
     returns
     returns-2
     returns-3
     returns-4
     returns-5
     returns-6
-    returns-7)
+    returns-7
+    returns-8)

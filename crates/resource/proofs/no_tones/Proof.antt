@@ -7,15 +7,9 @@ use Rattle.resource.proofs.no_tones.Tie as tie
 no-run-requires : tie.Need-no-run-requires
 no-run-requires c κs = search needs
 
-no-run-requires-2 : tie.Need-no-run-requires-2
-no-run-requires-2 c κs = search needs
-
-no-run-requires-3 : tie.Need-no-run-requires-3
-no-run-requires-3 c κs = search needs
-
 returns : tie.Need-returns
 unfolding held
-returns c = rw (c .before .before .no-run .ensures, c .before .no-run2 .ensures, c .no-run3 .ensures)
+returns c = rw (c .no-run .ensures)
 
 pub no-tones-spec : {M : Type 1} → statement M
-no-tones-spec = tie.close (tie.spec no-run-requires no-run-requires-2 no-run-requires-3 returns)
+no-tones-spec = tie.close (tie.spec no-run-requires returns)

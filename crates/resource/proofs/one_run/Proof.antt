@@ -7,12 +7,9 @@ use Rattle.resource.proofs.one_run.Tie as tie
 no-run-requires : tie.Need-no-run-requires
 no-run-requires c κs = search needs
 
-no-run-requires-2 : tie.Need-no-run-requires-2
-no-run-requires-2 c κs = search needs
-
 returns : tie.Need-returns
 unfolding held
-returns c = rw (c .before .no-run .ensures, c .no-run2 .ensures)
+returns c = rw (c .no-run .ensures)
 
 pub one-run-spec : {M : Type 1} → statement M
-one-run-spec = tie.close (tie.spec no-run-requires no-run-requires-2 returns)
+one-run-spec = tie.close (tie.spec no-run-requires returns)

@@ -81,6 +81,12 @@ enum-told-6 c = search needs
 no-tones-requires-2 : tie.Need-no-tones-requires-2
 no-tones-requires-2 c κs = search needs
 
+enum-told-7 : tie.Need-enum-told-7
+enum-told-7 c = search needs
+
+no-tones-requires-3 : tie.Need-no-tones-requires-3
+no-tones-requires-3 c κs = search needs
+
 returns : tie.Need-returns
 unfolding wide
 returns c =
@@ -116,6 +122,10 @@ returns-6 : tie.Need-returns-6
 unfolding wide
 returns-6 c = c .no-tones2 .ensures ∙ rw (c .before .enum-told6 .given .1)
 
+returns-7 : tie.Need-returns-7
+unfolding wide
+returns-7 c = c .no-tones3 .ensures ∙ rw (c .before .enum-told7 .given .1)
+
 pub wide-tones-spec : {M : Type 1} → statement M
 wide-tones-spec =
     tie.close
@@ -145,9 +155,12 @@ wide-tones-spec =
     no-tones-requires
     enum-told-6
     no-tones-requires-2
+    enum-told-7
+    no-tones-requires-3
     returns
     returns-2
     returns-3
     returns-4
     returns-5
-    returns-6)
+    returns-6
+    returns-7)

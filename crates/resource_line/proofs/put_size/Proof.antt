@@ -58,6 +58,15 @@ slice-aggregate-put-all-6 c = search needs
 put-all-requires-6 : tie.Need-put-all-requires-6
 put-all-requires-6 c κs = search needs
 
+enum-told-7 : tie.Need-enum-told-7
+enum-told-7 c = search needs
+
+slice-aggregate-put-all-7 : tie.Need-slice-aggregate-put-all-7
+slice-aggregate-put-all-7 c = search needs
+
+put-all-requires-7 : tie.Need-put-all-requires-7
+put-all-requires-7 c κs = search needs
+
 same-length : tie.Need-same-length
 same-length c = search needs
 
@@ -106,6 +115,14 @@ returns-6 c =
     let put = c .before .before in
     rw (put .before .before .before .enum-told6 .given .1) (put .put-all6 .ensures, omega (arith, put .put-all6 .ensures .next))
 
+same-length-7 : tie.Need-same-length-7
+same-length-7 c = search needs
+
+returns-7 : tie.Need-returns-7
+returns-7 c =
+    let put = c .before .before in
+    rw (put .before .before .before .enum-told7 .given .1) (put .put-all7 .ensures, omega (arith, put .put-all7 .ensures .next))
+
 pub put-size-spec : {M : Type 1} → statement M
 put-size-spec =
     tie.close
@@ -128,6 +145,9 @@ put-size-spec =
     enum-told-6
     slice-aggregate-put-all-6
     put-all-requires-6
+    enum-told-7
+    slice-aggregate-put-all-7
+    put-all-requires-7
     same-length
     returns
     same-length-2
@@ -139,4 +159,6 @@ put-size-spec =
     same-length-5
     returns-5
     same-length-6
-    returns-6)
+    returns-6
+    same-length-7
+    returns-7)
