@@ -1,17 +1,17 @@
 -- The plan of a row as a value: what its parts say.
-use mathlib.Core.Path.{_≡_, _∙_, ap}
+use mathlib.Core.Path.{_≡_, _∙_, ap, subst}
 use mathlib.Core.Logic.{_≢_, ⊎-elim}
 use mathlib.Core.Bool.{Bool, true, false, cond, not, _&&_}
 use mathlib.Core.List.{List}
-use Prim.Native.Nat.{ℕ, zero, suc, _+_, _-_, _*_, _/_, _%_, _^_, _≤_, _<_}
+use Prim.Native.Nat.{ℕ, zero, suc, _+_, _-_, _*_, _/_, _%_, _^_, _≤_, _<_, min}
 use native.Mathlib.Omega.{arith}
-use native.Mathlib.Nat.{add-zero, eq-or-lt-of-le, le-of-suc-le-suc, div-eq-of-lt, mul-add-div, mul-add-mod-self-left}
-use lib.Pow.{pow-pos, pow-add}
+use native.Mathlib.Nat.{add-zero, eq-or-lt-of-le, le-of-suc-le-suc, div-eq-of-lt, mul-add-div, mul-add-mod-self-left, mod-eq-of-lt}
+use lib.Pow.{pow-pos, pow-add, pow-mono}
 use native.Mathlib.Numerals.{add-one}
 use lib.Dec.{eqb, leb, ltb}
 use lib.ListN.{length, getD, replicate}
 use borrow.Author.Tests.{eq-eqb, ne-eqb}
-use Rattle.answer.proofs.Lists.{getD-filled}
+use Rattle.answer.proofs.Lists.{getD-filled, filled-start}
 use Rattle.answer.specs.Answer.{no, refuseIf, _or_}
 use Rattle.answer.specs.declared.Outcome.{Outcome}
 use Rattle.answer.specs.declared.Outcome.the-variants.{Pass}
@@ -19,36 +19,42 @@ use Rattle.plan.specs.declared.Plan.{Plan}
 use Rattle.resource.specs.Values.{fieldsOf}
 use Rattle.resource.proofs.Fields.{fields-most as most-fields}
 use Rattle.answer.specs.Lists.{at}
-use Rattle.plan.specs.Fields.{together, shared, fieldsTo}
-use Rattle.plan.specs.Engine.{firstNamed, choose, onlyPlan, fitting, within, rightAt, wrongAt}
-use Rattle.plan.specs.Engine.{overAt, firstWrong, firstOver, planOutcome, sharedTo, kindsOf, planOf}
-use Rattle.plan.proofs.Tests.{equal-or}
+use Rattle.kinds.specs.Fields.{together, shared, fieldsTo}
+use Rattle.segments.specs.Engine.{Entered}
+use Rattle.segments.proofs.Entries.{entered-filled}
+use Rattle.spans.specs.Engine.{partPlan}
+use Rattle.plan.specs.Answers.{segments, Laid}
+use Rattle.plan.specs.Engine.{onlyPlan, overAt, firstUnheld, firstOver, planOutcome, sharedTo, kindsOf, planOf}
+use Rattle.kinds.proofs.Tests.{equal-or}
 use Rattle.plan.proofs.Only.{only-known}
-use Rattle.plan.proofs.Laid.{none-over}
+use Rattle.plan.proofs.Laid.{none-over, outcome-laid}
 
 -- ---- the kinds
-pub kind-held : (row kinds : List ℕ) (p : ℕ) → p < length row → kinds ≡ kindsOf row → (getD kinds p 0 < 7) × (getD kinds p 0 ≡ onlyPlan (at row) p)
+pub kind-held : (row kinds : List ℕ) (p : ℕ) → p < length row → kinds ≡ kindsOf row → (getD kinds p 0 < 36) × (getD kinds p 0 ≡ onlyPlan (at row) p)
 unfolding kindsOf
 kind-held row kinds p h e =
     let f : getD kinds p 0 ≡ onlyPlan (at row) p = rw e (getD-filled (onlyPlan (at row)) (length row) (replicate 16 0) p 0 h) in
     (rw f (only-known (at row) p), f)
 
--- what the code asks at position p, given to this kind
-pub wrong-at : (row : List ℕ) (p kind : ℕ) (r : Bool) → kind ≡ onlyPlan (at row) p
-    → r ≡ (fitting kind p (at row p) && within kind p (length row)) → wrongAt row p ≡ not r
-unfolding rightAt
-wrong-at row p kind r e f = rw (f, e)
-
 pub over-at : (row : List ℕ) (p kind t : ℕ) → kind ≡ onlyPlan (at row) p → t ≡ together kind (at row) p → overAt row p ≡ ltb 8 t
 over-at row p kind t e f = rw (f, e)
 
--- the kinds of a segment, one after the other
-pub enter-kind : (row : List ℕ) (b p k u v x : ℕ) → b % 4 ≡ 0 → b ≤ p → p < b + 4 → k ≡ firstNamed (at row) b 4 → u ≡ at row b → v ≡ at row (2 * (p / 2))
-    → x ≡ choose k u v (p % 4) → x ≡ onlyPlan (at row) p
-unfolding onlyPlan
-enter-kind row b p k u v x z l m ek eu ev ex =
-    let f : 4 * (p / 4) ≡ b = omega arith in
-    ex ∙ rw (ek, eu, ev, f)
+-- the whole width entered
+pub kinds-entered : (row after : List ℕ) → length row ≤ 16 → Entered (partPlan 16 (at row)) 0 (min (0 + 16) (length row)) (replicate 16 0) after
+    → after ≡ kindsOf row
+unfolding kindsOf onlyPlan
+kinds-entered row after h w =
+    let e : min (0 + 16) (length row) ≡ length row = omega arith in
+    entered-filled (partPlan 16 (at row)) 0 (length row) (replicate 16 0) (replicate 16 0) after (omega arith) h
+    (filled-start (partPlan 16 (at row)) (replicate 16 0)) (subst (λ (m : ℕ). Entered (partPlan 16 (at row)) 0 m (replicate 16 0) after) e w)
+
+-- ---- the bit of a position
+module _ (p m : ℕ) (h : p ≤ 16) (l : 65536 < m) where
+  pub one-bit : 1 * 2 ^ p % m ≡ 2 ^ p
+  one-bit =
+      let u : 2 ^ p ≤ 2 ^ 16 = pow-mono {i = p} {j = 16} h in
+      let e : 1 * 2 ^ p ≡ 2 ^ p = omega arith in
+      ap (λ (k : ℕ). k % m) e ∙ mod-eq-of-lt (omega arith)
 
 -- ---- the bits of the positions whose fields share their resource
 pub shared-next : (row : List ℕ) (p t : ℕ) → t ≡ together (onlyPlan (at row) p) (at row) p → sharedTo row p + cond (leb 2 t) (2 ^ p) 0 ≡ sharedTo row (p + 1)
@@ -150,7 +156,7 @@ module _ (c : ℕ) (row : ℕ → ℕ) where
           rw (g, ne-eqb (n % 2 + 1) c (λ h. omega arith)) (omega arith)
 
 -- ---- the value
-pub outcome-made : (row : List ℕ) (w v : ℕ) (a b r : Outcome) → w ≡ firstWrong row → v ≡ firstOver row → a ≡ refuseIf (ltb w (length row)) (no 7 0 (w / 4))
+pub outcome-made : (row : List ℕ) (w v : ℕ) (a b r : Outcome) → w ≡ firstUnheld row → v ≡ firstOver row → a ≡ refuseIf (ltb w (segments row)) (no 7 0 w)
     → b ≡ refuseIf (ltb v (length row)) (no 8 0 (v / 4)) → r ≡ (a or b) → r ≡ planOutcome row
 unfolding planOutcome
 outcome-made row w v a b r ew ev ea eb er = er ∙ rw (ea, eb, ew, ev)
@@ -160,3 +166,7 @@ pub plan-is : (row kinds : List ℕ) (o : Outcome) (s f g : ℕ) → o ≡ planO
     → _≡_ {A = Plan} (record { outcome = o; kinds = kinds; shared = s; fields1 = f; fields2 = g }) (planOf row)
 unfolding planOf
 plan-is row kinds o s f g eo ek es ef eg = (λ i. record { outcome = eo i; kinds = ek i; shared = es i; fields1 = ef i; fields2 = eg i })
+
+pub plan-laid : (row : List ℕ) (r : Plan) → r ≡ planOf row → Laid row (r .outcome)
+unfolding planOf
+plan-laid row r e = rw e (outcome-laid row)

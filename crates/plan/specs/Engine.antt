@@ -1,90 +1,80 @@
--- Engine: the only plan that can signal a row, worked out from the row, and the plan as the value that the code makes. The contracts of the code
--- cite it; nobody has to believe it: `Worked.antt` says what it is, and `proofs/Worked.antt` shows it.
+-- Engine: the only plan that can signal a row, sought "in the whole width, then in each half, down to one segment" (02, T-07), its tests, and
+-- the plan as a value that the code makes. The contracts of the code cite it; nobody has to believe it: `Worked.antt` says what it is, and
+-- `proofs/Worked.antt` shows it.
 use mathlib.Core.Bool.{Bool, cond, not, _||_, _&&_}
 use mathlib.Core.List.{List}
 use Prim.Native.Nat.{ℕ, zero, suc, _+_, _-_, _*_, _/_, _%_, _^_}
-use lib.Dec.{ltb, eqb}
+use lib.Dec.{ltb, leb, eqb}
 use lib.ListN.{length, replicate}
 use Rattle.answer.specs.Answer.{no, refuseIf, _or_}
 use Rattle.answer.specs.Least.{least}
 use Rattle.answer.specs.declared.Outcome.{Outcome}
 use Rattle.answer.specs.Lists.{filled, at}
-use Rattle.resource.specs.Values.{smallerAt}
-use Rattle.plan.specs.Kinds.{none, family, span, mask, takes, blankAt, mustName}
-use Rattle.plan.specs.Fields.{together, shared, fieldsTo}
-use Rattle.plan.specs.Answers.{segmentEnd}
+use Rattle.kinds.specs.Kinds.{span, takes}
+use Rattle.kinds.specs.Fields.{together, shared, fieldsTo}
+use Rattle.segments.specs.Engine.{fitting}
+use Rattle.spans.specs.Engine.{partPlan}
+use Rattle.plan.specs.Answers.{segments, partEnd}
 use Rattle.plan.specs.declared.Plan.{Plan}
 
--- the kind that has the family f
-unfoldable pub kindOf : ℕ → ℕ
-kindOf f = least (λ c. eqb (family c) f) none
+-- ---- a value that no resource of a segment has: "the published values from 88 up" (02, T-07)
+unfoldable pub wider : ℕ → Bool
+wider v = eqb (v / 8) 11 || leb 128 v
 
--- the kind that the value names, of those that must be named
-unfoldable pub nameOf : ℕ → ℕ
-nameOf v = cond (mustName (kindOf (v / 8))) (kindOf (v / 8)) none
+-- the row has one
+unfoldable pub anyWider : List ℕ → Bool
+anyWider row = ltb (least (λ p. wider (at row p)) (length row)) (length row)
 
-unfoldable pub orElse : ℕ → ℕ → ℕ
-orElse x y = cond (ltb x none) x y
-
--- which the first n values from b on name: the lowest that names one
-abbrev pub firstNamed : (ℕ → ℕ) → ℕ → ℕ → ℕ
-firstNamed row b zero = none
-firstNamed row b (suc n) = orElse (firstNamed row b n) (nameOf (row (b + n)))
-
--- the value is one that the first place of a resource of kind c may hold
-unfoldable pub tells : ℕ → ℕ → Bool
-tells c v = eqb (v / 8) (family c) || eqb v (blankAt c 0)
-
--- from the kind that is named, the segment's first value, the pair's first value, and the place
-unfoldable pub choose : ℕ → ℕ → ℕ → ℕ → ℕ
-choose k u v j = cond (ltb k none) (cond (takes k j) k 0) (cond (tells 2 u) 2 (cond (tells 1 v) 1 0))
-
+-- the only plan that can signal a row: sought in the whole width
 unfoldable pub onlyPlan : (ℕ → ℕ) → ℕ → ℕ
-onlyPlan row p = choose (firstNamed row (4 * (p / 4)) 4) (row (4 * (p / 4))) (row (2 * (p / 2))) (p % 4)
+onlyPlan row p = partPlan 16 row p
 
--- ---- the tests of `Signals`
-unfoldable pub fitting : ℕ → ℕ → ℕ → Bool
-fitting c p v =
-    takes c (p % span c) && (eqb (v / 8) (family c) || eqb v (blankAt c (p % span c))) || eqb c 0 && smallerAt (p % 4) v
+-- ---- the tests of `Signals`, for the positions from a up to b
+-- position q is one of them, and o gives it to c
+unfoldable pub given : (ℕ → ℕ) → ℕ → ℕ → ℕ → ℕ → Bool
+given o a b c q = leb a q && (ltb q b && eqb (o q) c)
 
--- every place of the resource of kind c at position p lies below n
-unfoldable pub within : ℕ → ℕ → ℕ → Bool
-within c p n = ltb (mask c) (2 ^ (n - span c * (p / span c)))
+-- place j of c is not its own, or given to it
+abbrev pub placeGiven : (ℕ → ℕ) → ℕ → ℕ → ℕ → ℕ → ℕ → Bool
+placeGiven o a b c p j = not (takes c j) || given o a b c (span c * (p / span c) + j)
 
--- what the only plan gives position p to is right, in a row of n positions
-unfoldable pub rightAt : (ℕ → ℕ) → ℕ → ℕ → Bool
-rightAt row n p = fitting (onlyPlan row p) p (row p) && within (onlyPlan row p) p n
+-- every place of the resource of kind c at position p is given to it
+unfoldable pub entirely : (ℕ → ℕ) → ℕ → ℕ → ℕ → ℕ → Bool
+entirely o a b c p = eqb (least (λ j. not (placeGiven o a b c p j)) (span c)) (span c)
 
-abbrev pub wrongAt : List ℕ → ℕ → Bool
-wrongAt row p = not (rightAt (at row) (length row) p)
-
--- the resource that it is given to is over eight
-abbrev pub overAt : List ℕ → ℕ → Bool
-overAt row p = ltb 8 (together (onlyPlan (at row) p) (at row) p)
-
--- the lowest position that is not right, and the lowest of a resource over eight; the number of positions where there is none
-unfoldable pub firstWrong : List ℕ → ℕ
-firstWrong row = least (wrongAt row) (length row)
-
-unfoldable pub firstOver : List ℕ → ℕ
-firstOver row = least (overAt row) (length row)
-
--- 7 and 8, by positions: the answer of `Worked.antt` (`proofs/Worked.antt`: `outcome-is`)
-unfoldable pub planOutcome : List ℕ → Outcome
-planOutcome row =
-    refuseIf (ltb (firstWrong row) (length row)) (no 7 0 (firstWrong row / 4))
-    or refuseIf (ltb (firstOver row) (length row)) (no 8 0 (firstOver row / 4))
+-- what o gives position p to is right
+unfoldable pub isRight : (ℕ → ℕ) → (ℕ → ℕ) → ℕ → ℕ → ℕ → Bool
+isRight o row a b p = fitting (o p) p (row p) && entirely o a b (o p) p
 
 -- none of the positions from a up to b fails the test
 unfoldable pub everyFrom : (ℕ → Bool) → ℕ → ℕ → Bool
 everyFrom fails a b = eqb (least (λ j. fails (a + j)) (b - a)) (b - a)
 
--- what the only plan gives is right in all of segment s; no resource of it is over eight
-unfoldable pub segmentRight : List ℕ → ℕ → Bool
-segmentRight row s = everyFrom (wrongAt row) (4 * s) (segmentEnd row s)
+-- the k-th part of n positions is right everywhere
+unfoldable pub partRight : List ℕ → ℕ → ℕ → Bool
+partRight row n k = everyFrom (λ p. not (isRight (partPlan n (at row)) (at row) (n * k) (partEnd row n k) p)) (n * k) (partEnd row n k)
 
-unfoldable pub segmentWithin : List ℕ → ℕ → Bool
-segmentWithin row s = everyFrom (overAt row) (4 * s) (segmentEnd row s)
+-- segment s lies in a part that is right
+unfoldable pub heldBy : List ℕ → ℕ → Bool
+heldBy row s = partRight row 16 (s / 4) || (partRight row 8 (s / 2) || partRight row 4 s)
+
+-- the lowest segment that does not; the number of segments where there is none
+unfoldable pub firstUnheld : List ℕ → ℕ
+firstUnheld row = least (λ s. not (heldBy row s)) (segments row)
+
+-- the resource that a position is given to is over eight
+abbrev pub overAt : List ℕ → ℕ → Bool
+overAt row p = ltb 8 (together (onlyPlan (at row) p) (at row) p)
+
+-- the lowest position of a resource over eight; the number of positions where there is none
+unfoldable pub firstOver : List ℕ → ℕ
+firstOver row = least (overAt row) (length row)
+
+-- 7 and 8: the answer of `Worked.antt` (`proofs/Worked.antt`: `outcome-is`)
+unfoldable pub planOutcome : List ℕ → Outcome
+planOutcome row =
+    refuseIf (ltb (firstUnheld row) (segments row)) (no 7 0 (firstUnheld row))
+    or refuseIf (ltb (firstOver row) (length row)) (no 8 0 (firstOver row / 4))
 
 -- the bit of each of the first n positions is set whose User fields share their resource
 unfoldable pub sharedTo : List ℕ → ℕ → ℕ

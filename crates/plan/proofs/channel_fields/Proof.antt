@@ -2,7 +2,7 @@
 use Rattle.resource.proofs.Fields.{fields-most as most-fields}
 use lib.ListN.{length}
 use Rattle.plan.proofs.Value.{fields-most, fields-start, fields-next, fields-end}
-use Rattle.plan.specs.Fields.{fieldsTo}
+use Rattle.kinds.specs.Fields.{fieldsTo}
 use Rattle.answer.specs.Lists.{at}
 use Prim.Native.Nat.{_+_, _-_, _%_, _≤_}
 use mathlib.Core.Path.{_≡_, _∙_}

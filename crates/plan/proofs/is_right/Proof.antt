@@ -1,43 +1,40 @@
 -- `plan::is_right` meets its contract.
-use Rattle.plan.proofs.Steps.{and-yes, and-no, place-is, fitting-place, fitting-none, right-alone}
-use mathlib.Core.Path.{sym, _∙_}
+use Rattle.plan.proofs.Steps.{right-not, right-rest}
+use mathlib.Core.Path.{refl, sym, _∙_}
 use borrow.Author.Needs.{needs}
 use Rattle.plan.proofs.is_right.Statement.{statement}
 use Rattle.plan.proofs.is_right.Tie as tie
 
-fits-alone-requires : tie.Need-fits-alone-requires
-fits-alone-requires c κs = search needs
+mul-kind : tie.Need-mul-kind
+mul-kind c = search needs
+
+element-copy-out-kind : tie.Need-element-copy-out-kind
+element-copy-out-kind c = search needs
+
+value-at-requires : tie.Need-value-at-requires
+value-at-requires c κs = search needs
+
+fits-requires : tie.Need-fits-requires
+fits-requires c κs = search needs
+
+is-entire-requires : tie.Need-is-entire-requires
+is-entire-requires c κs = search needs
 
 returns : tie.Need-returns
-returns c = c .fits-alone .ensures ∙ right-alone _ _ _ _ (c .before .if1 .taken) (c .before .before .pre .1)
-
-place-in-requires : tie.Need-place-in-requires
-place-in-requires c κs = search needs
-
-fits-place-requires : tie.Need-fits-place-requires
-fits-place-requires c κs = search needs
-
-lies-within-requires : tie.Need-lies-within-requires
-lies-within-requires c κs = search needs
+returns c = c .is-entire .ensures ∙ right-rest _ _ _ _ _ _ _ refl (c .before .before .before .value-at .ensures)
+    (sym (c .before .before .fits2 .ensures) ∙ c .before .if1 .taken)
 
 returns-2 : tie.Need-returns-2
-returns-2 c =
-    let place = place-is _ _ _ _ _ _ (c .before .before .before .place-in .ensures .1) (c .before .before .fits-place .ensures) (c .before .if2 .taken) in
-    c .lies-within .ensures ∙ and-yes _ _ (sym (fitting-place _ _ _ place))
-
-returns-3 : tie.Need-returns-3
-returns-3 c =
-    let place = place-is _ _ _ _ _ _ (c .before .before .place-in .ensures .1) (c .before .fits-place .ensures) (c .if2 .left) in
-    and-no _ _ (sym (fitting-none _ _ _ place (c .before .before .before .if1 .left)))
+returns-2 c = right-not _ _ _ _ _ _ _ refl (c .before .before .value-at .ensures) (sym (c .before .fits2 .ensures) ∙ c .if1 .left)
 
 pub is-right-spec : {M : Type 1} → statement M
 is-right-spec =
     tie.close
     (tie.spec
-    fits-alone-requires
+    mul-kind
+    element-copy-out-kind
+    value-at-requires
+    fits-requires
+    is-entire-requires
     returns
-    place-in-requires
-    fits-place-requires
-    lies-within-requires
-    returns-2
-    returns-3)
+    returns-2)

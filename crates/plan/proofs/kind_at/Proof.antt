@@ -11,7 +11,7 @@ element-copy-out-result : tie.Need-element-copy-out-result
 element-copy-out-result c = search needs
 
 returns : tie.Need-returns
-returns c = kind-held (c .before .args .row .now) _ _ (c .before .pre .1) (c .before .pre .2)
+returns c = kind-held _ _ _ (c .before .pre .1) (c .before .pre .2)
 
 pub kind-at-spec : {M : Type 1} → statement M
 kind-at-spec = tie.close (tie.spec mul-result element-copy-out-result returns)

@@ -1,5 +1,5 @@
 -- `plan::shared_bit` meets its contract.
-use Rattle.plan.proofs.Steps.{one-bit}
+use Rattle.plan.proofs.Value.{one-bit}
 use borrow.Author.Tests.{le-leb, lt-leb}
 use mathlib.Core.Path.{_∙_}
 use native.Mathlib.Omega.{arith}

@@ -6,7 +6,7 @@ use Rattle.plan.specs.Engine.{onlyPlan, overAt, firstOver, sharedTo}
 use borrow.Author.Tests.{lt-ltb, le-ltb}
 use mathlib.Core.Path.{ap, _≡_, refl, sym, _∙_}
 use lib.ListN.{length}
-use Rattle.plan.specs.Fields.{together}
+use Rattle.kinds.specs.Fields.{together}
 use Rattle.answer.specs.Lists.{at}
 use Rattle.answer.specs.Least.{least}
 use Rattle.answer.proofs.Least.{least-start, least-step, least-stop, least-end}

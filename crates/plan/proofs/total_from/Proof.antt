@@ -1,7 +1,7 @@
 -- `plan::total_from` meets its contract.
-use Rattle.plan.proofs.Laid.{and-left, and-right}
-use Rattle.plan.proofs.Steps.{total-alone, total-reused}
-use Rattle.plan.specs.Fields.{share}
+use Rattle.segments.proofs.Found.{and-left, and-right}
+use Rattle.kinds.proofs.Steps.{total-alone, total-reused}
+use Rattle.kinds.specs.Fields.{share}
 use borrow.Author.Tests.{eqb-true, ltb-true}
 use lib.Dec.{eqb}
 use mathlib.Core.Path.{_∙_, ap}

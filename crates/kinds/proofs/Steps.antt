@@ -1,0 +1,116 @@
+-- The steps of the code, said of the table.
+use mathlib.Core.Path.{_≡_, refl, sym, _∙_, ap}
+use mathlib.Core.Logic.{_⊎_, ⊎-elim, inl, inr}
+use mathlib.Core.Bool.{true, false}
+use Prim.Native.Nat.{ℕ, _+_, _-_, _*_, _/_, _%_, _^_, _≤_, _<_}
+use native.Mathlib.Omega.{arith}
+use native.Mathlib.Numerals.{add-one}
+use native.Mathlib.Nat.{add-zero, zero-add, eq-or-lt-of-le, mul-comm}
+use borrow.Author.Tests.{le-ltb, lt-ltb, eq-eqb, ne-eqb}
+use Rattle.resource.specs.Values.{fieldsOf}
+use Rattle.kinds.specs.Kinds.{span, mask, takesBlock, blankAt}
+use Rattle.kinds.specs.Fields.{gives, share, channelShare, shares, fieldsIn, together}
+use Rattle.kinds.proofs.Table.{Span, span-is, spanFrom, powers, span-0}
+
+-- ---- the span by the range of its lines
+module _ (c : ℕ) (h : c < 36) where
+  pub span-least : c < 2 → c + 1 ≡ span c
+  span-least l = sym (span-is c h ∙ rw (lt-ltb c 2 l))
+
+  pub span-one : c ≡ 0 → 1 ≡ span c
+  span-one e = let f = span-least (omega arith) in omega arith
+
+  pub span-two : c ≡ 1 → 2 ≡ span c
+  span-two e = let f = span-least (omega arith) in omega arith
+
+  pub span-segment : 2 ≤ c → c < 7 → 4 ≡ span c
+  span-segment l u = sym (span-is c h ∙ rw (le-ltb c 2 l, lt-ltb c 7 u))
+
+  pub span-half : 7 ≤ c → c < 12 → 8 ≡ span c
+  span-half l u = sym (span-is c h ∙ rw (le-ltb c 2 (omega arith), le-ltb c 7 l, lt-ltb c 12 u))
+
+  pub span-whole : 12 ≤ c → 16 ≡ span c
+  span-whole l = sym (span-is c h ∙ rw (le-ltb c 2 (omega arith), le-ltb c 7 (omega arith), le-ltb c 12 l))
+
+  -- the place of a position in a span of n, and where the span begins
+  pub place-of : (n p r : ℕ) → n ≡ span c → n ≤ 16 → r ≡ p % n → r < n → (r < 16) × (r ≡ p % span c)
+  place-of n p r e l f u = (omega arith, f ∙ ap (λ (k : ℕ). p % k) e)
+
+  pub start-at : (n p r : ℕ) → n ≡ span c → r ≡ p / n * n → r ≤ p → (r ≤ p) × (r ≡ span c * (p / span c))
+  start-at n p r e f u = (u, f ∙ mul-comm (p / n) n ∙ ap (λ (k : ℕ). k * (p / k)) e)
+
+-- ---- the blank of a place
+block-yes : (c n j m : ℕ) → m ≡ mask c → m / 2 ^ (n * (j / n)) % 2 ^ n ≡ 2 ^ n - 1 → takesBlock c n j ≡ true
+unfolding takesBlock
+block-yes c n j m e f = eq-eqb _ _ (ap (λ (x : ℕ). x / 2 ^ (n * (j / n)) % 2 ^ n) (sym e) ∙ f)
+
+block-no : (c n j m : ℕ) → m ≡ mask c → (m / 2 ^ (n * (j / n)) % 2 ^ n ≡ 2 ^ n - 1 → ⊥) → takesBlock c n j ≡ false
+unfolding takesBlock
+block-no c n j m e f = ne-eqb _ _ (λ g. f (ap (λ (x : ℕ). x / 2 ^ (n * (j / n)) % 2 ^ n) e ∙ g))
+
+module _ (c j m : ℕ) (e : m ≡ mask c) where
+  pub blank-30 : m / 2 ^ (4 * (j / 4)) % 16 ≡ 15 → 30 ≡ blankAt c j
+  unfolding blankAt
+  blank-30 f = rw (block-yes c 4 j m e f)
+
+  pub blank-29 : (m / 2 ^ (4 * (j / 4)) % 16 ≡ 15 → ⊥) → m / 2 ^ (2 * (j / 2)) % 4 ≡ 3 → 29 ≡ blankAt c j
+  unfolding blankAt
+  blank-29 f g = rw (block-no c 4 j m e f, block-yes c 2 j m e g)
+
+  pub blank-28 : (m / 2 ^ (4 * (j / 4)) % 16 ≡ 15 → ⊥) → (m / 2 ^ (2 * (j / 2)) % 4 ≡ 3 → ⊥) → 28 ≡ blankAt c j
+  unfolding blankAt
+  blank-28 f g = rw (block-no c 4 j m e f, block-no c 2 j m e g)
+
+-- ---- the fields of a place
+module _ (c p v : ℕ) where
+  pub share-if : gives c p v ≡ true → fieldsOf v ≡ share c p v
+  unfolding share
+  share-if e = rw e
+
+  pub share-not : gives c p v ≡ false → 0 ≡ share c p v
+  unfolding share
+  share-not e = rw e
+
+module _ (x c p v : ℕ) where
+  pub channel-own : p % 2 + 1 ≡ x → share c p v ≡ channelShare x c p v
+  channel-own e = rw (eq-eqb (p % 2 + 1) x e)
+
+  pub channel-other : (p % 2 + 1 ≡ x → ⊥) → 0 ≡ channelShare x c p v
+  channel-other e = rw (ne-eqb (p % 2 + 1) x e)
+
+-- each position is one channel's
+pub both-channels : (c p v : ℕ) → channelShare 1 c p v + channelShare 2 c p v ≡ share c p v
+both-channels c p v =
+    ⊎-elim
+    (λ (e : 0 ≡ p % 2). rw (← e) (add-zero (share c p v)))
+    (λ (e : 0 < p % 2). let f : p % 2 ≡ 1 = omega arith in rw f (zero-add (share c p v)))
+    (eq-or-lt-of-le {n = 0} {m = p % 2} (omega arith))
+
+pub shares-next : (c : ℕ) (row : ℕ → ℕ) (b i sum v : ℕ) → sum ≡ shares 1 c row b i + shares 2 c row b i → v ≡ share c (b + i) (row (b + i))
+    → sum + v ≡ shares 1 c row b (i + 1) + shares 2 c row b (i + 1)
+shares-next c row b i sum v e f =
+    let g = both-channels c (b + i) (row (b + i)) in
+    rw (add-one i, e, f) (omega (arith, g))
+
+-- ---- the resource of a position is that of the position before, if both lie among its span
+pub total-same : (c : ℕ) (row : ℕ → ℕ) (p : ℕ) → c < 36 → 0 < p → span c * (p / span c) < p → together c row (p - 1) ≡ together c row p
+unfolding fieldsIn
+total-same c row p h z l =
+    ⊎-elim (λ e. go 1 e (λ m. absurd (omega arith)))
+    (⊎-elim (λ e. go 2 e (λ m. omega arith))
+    (⊎-elim (λ e. go 4 e (λ m. omega arith)) (⊎-elim (λ e. go 8 e (λ m. omega arith)) (λ e. go 16 e (λ m. omega arith))))) (powers c h)
+  where
+    go : (n : ℕ) → span c ≡ n → (n * (p / n) < p → (p - 1) / n ≡ p / n)
+        → shares 1 c row (span c * ((p - 1) / span c)) (span c) + shares 2 c row (span c * ((p - 1) / span c)) (span c)
+        ≡ shares 1 c row (span c * (p / span c)) (span c) + shares 2 c row (span c * (p / span c)) (span c)
+    go n e f = let m : n * (p / n) < p = rw e at l in let g = f m in rw (e, g)
+
+pub total-reused : (t before c p : ℕ) (row : ℕ → ℕ) → c < 36 → (0 < p → t ≡ together before row (p - 1)) → c ≡ before
+    → span c * (p / span c) < p → t ≡ together c row p
+total-reused t before c p row h f e l = f (omega arith) ∙ ap (λ (k : ℕ). together k row (p - 1)) (sym e) ∙ total-same c row p h (omega arith) l
+
+pub total-alone : (c : ℕ) (row : ℕ → ℕ) (p : ℕ) → c ≡ 0 → share 0 p (row p) ≡ together c row p
+unfolding fieldsIn
+total-alone c row p e =
+    let f : 1 * (p / 1) + 0 ≡ p = omega arith in
+    rw (e, span-0, f) (omega (arith, both-channels 0 p (row p)))

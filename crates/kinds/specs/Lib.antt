@@ -1,0 +1,4 @@
+pub mod Kinds
+pub mod Signals
+pub mod Fields
+pub mod Engine

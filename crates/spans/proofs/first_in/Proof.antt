@@ -1,0 +1,64 @@
+-- `spans::first_in` meets its contract.
+use mathlib.Core.Path.{_≡_, refl, _∙_}
+use Prim.Native.Nat.{_≤_, _-_}
+use native.Mathlib.Omega.{arith}
+use native.Mathlib.Numerals.{add-one}
+use Rattle.answer.specs.Lists.{at}
+use Rattle.segments.specs.Engine.{firstNamed}
+use Rattle.spans.proofs.Naming.{wide-most}
+use borrow.Author.Needs.{needs}
+use Rattle.spans.proofs.first_in.Statement.{statement}
+use Rattle.spans.proofs.first_in.Tie as tie
+
+abbrev Inv-loop : tie.InvT-loop
+Inv-loop n row b k₀ i₀ k i = (i ≤ n) × (n ≤ 16) × (k ≤ 36) × (k ≡ firstNamed n (at row) b i)
+
+abbrev μ-loop : tie.MeasureT-loop
+μ-loop n row b k₀ i₀ k i = n - i
+
+loop-holds : tie.Need-loop-holds Inv-loop μ-loop
+loop-holds c = (omega arith, wide-most _ (c .before .pre .0), omega arith, refl)
+
+add-value-at : tie.Need-add-value-at Inv-loop μ-loop
+add-value-at c = search needs
+
+value-at-requires : tie.Need-value-at-requires Inv-loop μ-loop
+value-at-requires c κs = search needs
+
+named-or-requires : tie.Need-named-or-requires Inv-loop μ-loop
+named-or-requires c κs = search needs
+
+add-i : tie.Need-add-i Inv-loop μ-loop
+add-i c = search needs
+
+loop-less : tie.Need-loop-less Inv-loop μ-loop
+loop-less c = search needs
+
+loop-again : tie.Need-loop-again Inv-loop μ-loop
+loop-again c = (
+  omega arith,
+  c .before .before .before .loop .inv .1,
+  c .named-or .ensures .0,
+  rw (add-one (c .before .before .before .loop .i)) (c .named-or .ensures .1 ∙ cc (c .before .value-at .ensures)),
+)
+
+returns : tie.Need-returns Inv-loop μ-loop
+returns c =
+    let l = c .before .loop in
+    let e : l .i ≡ c .before .before .before .args .n = omega arith in
+    (l .inv .2, l .inv .3 ∙ rw e)
+
+pub first-in-spec : {M : Type 1} → statement M
+first-in-spec =
+    tie.close
+    (tie.spec
+    Inv-loop
+    μ-loop
+    loop-holds
+    add-value-at
+    value-at-requires
+    named-or-requires
+    add-i
+    loop-less
+    loop-again
+    returns)
