@@ -5,7 +5,7 @@ use mathlib.Core.List.{List}
 use Prim.Native.Nat.{ℕ}
 use lib.ListN.{length}
 use Rattle.answer.specs.Lists.{at}
-use Rattle.plan.specs.Signals.{Signals}
+use Rattle.kinds.specs.Signals.{Signals}
 use Rattle.plan.specs.Engine.{onlyPlan}
 use Rattle.plan.proofs.Demand.{only-plan, one-plan}
 use Rattle.records.specs.Demand.{Width, Sound, Shared}

@@ -8,11 +8,11 @@ use native.Mathlib.Omega.{arith}
 use borrow.Author.Tests.{lt-ltb, eq-eqb, ne-eqb}
 use lib.Dec.{eqb}
 use lib.ListN.{length}
-use Rattle.plan.specs.Kinds.{family, span, takes}
-use Rattle.plan.specs.Signals.{Takes, Fits}
-use Rattle.plan.specs.Fields.{gives, share}
-use Rattle.plan.proofs.Table.{takes-known, family-low}
-use Rattle.plan.proofs.Fitting.{high-own}
+use Rattle.kinds.specs.Kinds.{family, span, takes}
+use Rattle.kinds.specs.Signals.{Takes, Fits}
+use Rattle.kinds.specs.Fields.{gives, share}
+use Rattle.kinds.proofs.Table.{takes-known, family-low}
+use Rattle.kinds.proofs.Fitting.{high-own}
 use Rattle.resource.specs.declared.Size.the-variants.{S242}
 use Rattle.resource.specs.declared.Piece.the-variants.{Part}
 use Rattle.resource.specs.Values.{between, pieces, fieldsOf, divides, ownPieces}

@@ -5,11 +5,11 @@ use mathlib.Core.Bool.{true, false}
 use Prim.Native.Nat.{ℕ, _/_, _≤_, _<_}
 use native.Mathlib.Omega.{arith}
 use lib.ListN.{length}
-use Rattle.plan.specs.Kinds.{family}
-use Rattle.plan.specs.Signals.{Fits, Signals}
-use Rattle.plan.proofs.Tests.{equal-or}
-use Rattle.plan.proofs.Table.{plain-family}
-use Rattle.plan.proofs.Fitting.{known, high-own}
+use Rattle.kinds.specs.Kinds.{family}
+use Rattle.kinds.specs.Signals.{Fits, Signals}
+use Rattle.kinds.proofs.Tests.{equal-or}
+use Rattle.kinds.proofs.Table.{plain-family}
+use Rattle.kinds.proofs.Fitting.{known, high-own}
 use Rattle.resource.specs.Values.{fieldsOf, divides}
 use Rattle.resource.proofs.Test.{below-or}
 use Rattle.resource.proofs.Starts.{own-whole}
@@ -29,7 +29,7 @@ module _ (o row : ℕ → ℕ) (n : ℕ) (s : Signals o row 0 n) where
   pub fit : (p : ℕ) → p < n → Fits (o p) p (row p)
   fit p h = s .fits p (omega arith) h
 
-  pub kind : (p : ℕ) → p < n → o p < 7
+  pub kind : (p : ℕ) → p < n → o p < 36
   kind p h = known (o p) p (row p) (fit p h)
 
   -- where a field's owner is listed

@@ -2,27 +2,31 @@
 -- computes over its lines.
 use mathlib.Core.Path.{_≡_, refl, sym, _∙_, ap}
 use mathlib.Core.Logic.{_⊎_, inl, inr, ⊎-elim}
-use mathlib.Core.Bool.{Bool, true, _&&_}
-use Prim.Native.Nat.{ℕ, zero, suc, _+_, _-_, _*_, _/_, _%_, _^_, _≤_, _<_}
+use mathlib.Core.Bool.{Bool, true, cond, _&&_, _||_}
+use Prim.Native.Nat.{ℕ, _+_, _*_, _/_, _%_, _^_, _≤_, _<_}
 use native.Mathlib.Omega.{arith}
-use native.Mathlib.Nat.{div-add-mod}
+use native.Mathlib.Nat.{div-add-mod, lt-of-mul-lt-mul-left, mul-le-mul-left, mul-suc}
 use lib.Dec.{T, ltb, leb, eqb, eqb→eq}
 use lib.ListN.{List·getD-eq-default}
 use borrow.Author.Tests.{ltb-true, leb-true, eqb-true, eqb-false, eq-eqb, ne-eqb}
 use Rattle.answer.specs.Least.{least}
 use Rattle.answer.proofs.Least.{least-holds, least-le, least-below}
 use Rattle.resource.proofs.Test.{below-or, both-left, both-right, below, every-below}
-use Rattle.plan.specs.Kinds.{kind, kinds, kindAt, spanIn, span, mask, takes}
-use Rattle.plan.specs.Signals.{Place}
-use Rattle.plan.proofs.Tests.{holds, is-true, by-test}
-use Rattle.plan.proofs.Places.{at-span, at-place, place-mod}
-use Rattle.plan.proofs.Table.{span-some, spans, span-0, takes-known}
+use Rattle.kinds.specs.Kinds.{kind, kinds, kindAt, spanIn, span, mask, takes}
+use Rattle.kinds.specs.Signals.{Place}
+use Rattle.kinds.proofs.Tests.{holds, is-true, either, by-test}
+use Rattle.kinds.proofs.Places.{at-span, at-place, place-mod}
+use Rattle.kinds.proofs.Table.{span-some, span-0, takes-known}
 use Rattle.records.specs.Records.{lead}
 use Rattle.records.specs.Engine.{lowest}
 
--- the first place, or else the second; it is one of its own
+-- the first place, or that after what it leaves out there: a place, a pair, a segment, or a segment and a pair
+abbrev pub leadBy : ℕ → ℕ
+leadBy m = cond (eqb (m % 2) 1) 0 (cond (eqb (m / 2 % 2) 1) 1 (cond (eqb (m / 4 % 2) 1) 2 (cond (eqb (m / 16 % 2) 1) 4 6)))
+
+-- it is one of its own
 abbrev lead-test : ℕ → Bool
-lead-test c = eqb (lead c) (1 - mask c % 2) && ltb (lead c) (span c)
+lead-test c = eqb (leadBy (mask c)) (lead c) && (ltb (lead c) (span c) && leb (lead c) 6)
 
 -- one of its places lies in the upper half of its span
 abbrev upper : ℕ → ℕ → Bool
@@ -31,24 +35,41 @@ upper c j = leb (span c / 2) j && takes c j
 abbrev upper-test : ℕ → Bool
 upper-test c = ltb (least (upper c) (span c)) (span c)
 
-leads-tested : T (below lead-test 7)
+-- a channel of 2 ^ b positions has whole spans of it, or none
+abbrev room-test : ℕ → ℕ → Bool
+room-test c b = eqb (2 ^ b % span c) 0 || leb (2 ^ b) (span c / 2)
+
+leads-tested : T (below lead-test 36)
 unfolding lead least span mask takes kindAt kinds
 leads-tested = tt
 
-uppers-tested : T (below upper-test 7)
+uppers-tested : T (below upper-test 36)
 unfolding least span mask takes kindAt kinds
 uppers-tested = tt
+
+rooms-tested : T (below (λ c. below (room-test c) 5) 36)
+unfolding span kindAt kinds
+rooms-tested = tt
 
 pub lead-0 : lead 0 ≡ 0
 unfolding lead least span mask takes kindAt kinds
 lead-0 = refl
 
-module _ (c : ℕ) (h : c < 7) where
-  pub lead-bit : lead c ≡ 1 - mask c % 2
-  lead-bit = eqb→eq _ _ (both-left (eqb (lead c) (1 - mask c % 2)) _ (every-below lead-test 7 leads-tested c h))
+module _ (c : ℕ) (h : c < 36) where
+  lead-line : T (lead-test c)
+  lead-line = every-below lead-test 36 leads-tested c h
+
+  lead-range : T (ltb (lead c) (span c) && leb (lead c) 6)
+  lead-range = both-right (eqb (leadBy (mask c)) (lead c)) _ lead-line
+
+  pub lead-by : leadBy (mask c) ≡ lead c
+  lead-by = eqb→eq _ _ (both-left (eqb (leadBy (mask c)) (lead c)) _ lead-line)
 
   pub lead-span : lead c < span c
-  lead-span = ltb-true _ _ (is-true _ (both-right (eqb (lead c) (1 - mask c % 2)) _ (every-below lead-test 7 leads-tested c h)))
+  lead-span = ltb-true _ _ (is-true _ (both-left (ltb (lead c) (span c)) _ lead-range))
+
+  pub lead-most : lead c ≤ 6
+  lead-most = leb-true _ _ (is-true _ (both-right (ltb (lead c) (span c)) _ lead-range))
 
   pub lead-takes : takes c (lead c) ≡ true
   unfolding lead
@@ -56,13 +77,17 @@ module _ (c : ℕ) (h : c < 7) where
 
   pub upper-place : (j : ℕ) × (j < span c) × (span c / 2 ≤ j) × (takes c j ≡ true)
   upper-place =
-      let l : least (upper c) (span c) < span c = ltb-true _ _ (is-true _ (every-below upper-test 7 uppers-tested c h)) in
+      let l : least (upper c) (span c) < span c = ltb-true _ _ (is-true _ (every-below upper-test 36 uppers-tested c h)) in
       let j = least (upper c) (span c) in
       let t : T (upper c j) = holds _ (least-holds (upper c) (span c) l) in
       (j, l, leb-true _ _ (is-true _ (both-left (leb (span c / 2) j) (takes c j) t)), is-true _ (both-right (leb (span c / 2) j) (takes c j) t))
 
+-- as the program finds it, from the mask m
+pub lead-found : (c m r : ℕ) → c < 36 → m ≡ mask c → leadBy m ≡ r → (r ≡ lead c) × (r ≤ 6)
+lead-found c m r h e f = let g : r ≡ lead c = sym f ∙ ap leadBy e ∙ lead-by c h in (g, omega (arith, lead-most c h))
+
 -- what lies past the table has no span
-span-past : (c : ℕ) → 7 ≤ c → span c ≡ 0
+span-past : (c : ℕ) → 36 ≤ c → span c ≡ 0
 unfolding span kindAt
 span-past c h = ap spanIn (List·getD-eq-default kinds (kind 0 0 0) {n = c} (unfold kinds in h))
 
@@ -76,7 +101,7 @@ unfolding lead
 lead-low c j l t = least-below (takes c) (span c) j l t
 
 -- ---- the lowest place of the resource that lies at p
-pub lowest-place : (c p : ℕ) → c < 7 → Place c p (lowest c p) × (lowest c p % span c ≡ lead c)
+pub lowest-place : (c p : ℕ) → c < 36 → Place c p (lowest c p) × (lowest c p % span c ≡ lead c)
 unfolding lowest
 lowest-place c p h =
     let e = at-place (span c) (span-some c h) p (lead c) (lead-span c h) in
@@ -86,16 +111,13 @@ pub lowest-only : (c p q : ℕ) → Place c p q → q % span c ≡ lead c → q 
 unfolding lowest
 lowest-only c p q h e = sym (div-add-mod q (span c)) ∙ rw (h .0, e)
 
--- it is at most one position later, of any number, and no later where p is a place
-pub lowest-near : (c p : ℕ) → lowest c p ≤ p + 1
+-- it is at most six positions later, of any number, and no later where p is a place
+pub lowest-near : (c p : ℕ) → lowest c p ≤ p + 6
 unfolding lowest
-lowest-near c p = omega (arith, div-add-mod p (span c), lead-most)
+lowest-near c p = omega (arith, div-add-mod p (span c), most)
   where
-    lead-most : lead c ≤ 1
-    lead-most = ⊎-elim (λ h. omega (arith, lead-bit c h)) (λ h. none h) (below-or c 7)
-      where
-        none : 7 ≤ c → lead c ≤ 1
-        none h = omega (arith, lead-le c, span-past c h)
+    most : lead c ≤ 6
+    most = ⊎-elim (lead-most c) (λ h. omega (arith, lead-le c, span-past c h)) (below-or c 36)
 
 pub lowest-below : (c p : ℕ) → takes c (p % span c) ≡ true → lowest c p ≤ p
 unfolding lowest
@@ -121,27 +143,26 @@ unfolding lowest
 itself-lowest p = rw (span-0, lead-0) (omega arith)
 
 -- ---- where every place of a resource lies in a channel of 2 ^ b positions, so does its span
-power : (b : ℕ) → b < 5 → (2 ^ b ≡ 1) ⊎ ((2 ^ b ≡ 2) ⊎ (2 ^ b % 4 ≡ 0))
-power zero h = inl refl
-power (suc zero) h = inr (inl refl)
-power (suc (suc zero)) h = inr (inr refl)
-power (suc (suc (suc zero))) h = inr (inr refl)
-power (suc (suc (suc (suc zero)))) h = inr (inr refl)
-power (suc (suc (suc (suc (suc b))))) h = absurd (omega arith)
+whole-or-half : (c b : ℕ) → c < 36 → b < 5 → (2 ^ b % span c ≡ 0) ⊎ (2 ^ b ≤ span c / 2)
+whole-or-half c b h i =
+    ⊎-elim (λ t. inl (eqb→eq _ _ t)) (λ t. inr (leb-true _ _ (is-true _ t)))
+    (either (eqb (2 ^ b % span c) 0) (leb (2 ^ b) (span c / 2))
+    (every-below (room-test c) 5 (every-below (λ c. below (room-test c) 5) 36 rooms-tested c h) b i))
 
-pub span-within : (c p b : ℕ) → c < 7 → b < 5 → p < 2 ^ b → ((q : ℕ) → Place c p q → q < 2 ^ b) → span c * (p / span c) + span c ≤ 2 ^ b
-span-within c p b h i l f =
+-- n is a multiple of s, and a lower one lies below it
+next-span : (s n k : ℕ) → 0 < s → n % s ≡ 0 → s * k < n → s * k + s ≤ n
+next-span s n k z e l =
+    let f : s * (n / s) ≡ n = omega (arith, div-add-mod n s) in
+    let g : k < n / s = lt-of-mul-lt-mul-left s (rw (← f) at l) in
+    omega (arith, mul-le-mul-left s g, mul-suc s k)
+
+pub span-within : (c p b : ℕ) → c < 36 → b < 5 → ((q : ℕ) → Place c p q → q < 2 ^ b) → span c * (p / span c) + span c ≤ 2 ^ b
+span-within c p b h i f =
     let u = upper-place c h in
     let j = u .0 in
     let q : span c * (p / span c) + j < 2 ^ b =
     f (span c * (p / span c) + j) (at-span (span c) (span-some c h) p j (u .1), rw (at-place (span c) (span-some c h) p j (u .1)) (u .3)) in
-    go (span c) (2 ^ b) j (spans c h) (power b i) (u .2) q l
-  where
-    go : (s n j : ℕ) → (s ≡ 1) ⊎ ((s ≡ 2) ⊎ (s ≡ 4)) → (n ≡ 1) ⊎ ((n ≡ 2) ⊎ (n % 4 ≡ 0)) → s / 2 ≤ j → s * (p / s) + j < n → p < n → s * (p / s) + s ≤ n
-    go s n j (inl e) w k m l = let x = rw e at m in rw e (omega arith)
-    go s n j (inr (inl e)) (inl w) k m l = let x = rw e at m in let y = rw e at k in rw e (omega arith)
-    go s n j (inr (inl e)) (inr (inl w)) k m l = let x = rw e at m in let y = rw e at k in rw e (omega arith)
-    go s n j (inr (inl e)) (inr (inr w)) k m l = let x = rw e at m in let y = rw e at k in rw e (omega arith)
-    go s n j (inr (inr e)) (inl w) k m l = let x = rw e at m in let y = rw e at k in rw e (omega arith)
-    go s n j (inr (inr e)) (inr (inl w)) k m l = let x = rw e at m in let y = rw e at k in rw e (omega arith)
-    go s n j (inr (inr e)) (inr (inr w)) k m l = let x = rw e at m in let y = rw e at k in rw e (omega arith)
+    ⊎-elim
+    (λ e. next-span (span c) (2 ^ b) (p / span c) (span-some c h) e (omega arith))
+    (λ e. absurd (omega (arith, u .2)))
+    (whole-or-half c b h i)

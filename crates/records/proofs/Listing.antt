@@ -11,10 +11,10 @@ use borrow.Author.Tests.{eqb-true, eq-eqb, ne-eqb}
 use lib.Dec.{eqb}
 use lib.ListN.{length, getD, length-append, length-map, List·getD-append}
 use lib.Seq.{getD-append-add}
-use Rattle.plan.specs.Kinds.{span}
+use Rattle.kinds.specs.Kinds.{span}
 use Rattle.plan.specs.Engine.{onlyPlan}
-use Rattle.plan.proofs.Tests.{by-test}
-use Rattle.plan.proofs.Table.{span-0}
+use Rattle.kinds.proofs.Tests.{by-test}
+use Rattle.kinds.proofs.Table.{span-0}
 use Rattle.resource.specs.Values.{ownPieces}
 use Rattle.resource.specs.Engine.{noPiece, pieceAt}
 use Rattle.resource.proofs.Test.{below-or}

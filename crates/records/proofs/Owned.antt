@@ -10,11 +10,11 @@ use lib.Dec.{eqb}
 use lib.ListN.{getD}
 use Rattle.answer.specs.Tally.{tally}
 use Rattle.answer.proofs.Tally.{tally-cong, tally-split, tally-none, tally-all, tally-once}
-use Rattle.plan.specs.Kinds.{span}
-use Rattle.plan.specs.Signals.{Takes, Place, Fits, Signals}
-use Rattle.plan.specs.Fields.{share, channelShare, fieldsIn}
-use Rattle.plan.proofs.Tests.{equal-or}
-use Rattle.plan.proofs.Fitting.{fits-takes}
+use Rattle.kinds.specs.Kinds.{span}
+use Rattle.kinds.specs.Signals.{Takes, Place, Fits, Signals}
+use Rattle.kinds.specs.Fields.{share, channelShare, fieldsIn}
+use Rattle.kinds.proofs.Tests.{equal-or}
+use Rattle.kinds.proofs.Fitting.{fits-takes}
 use Rattle.resource.specs.Values.{fieldsOf, divides, pieceFields}
 use Rattle.resource.proofs.Test.{below-or}
 use Rattle.records.specs.Records.{inChannel, recordsFrom, blank as noRecord}
@@ -196,8 +196,8 @@ module _ (o row : ℕ → ℕ) (n : ℕ) (s : Signals o row 0 n) (i q m : ℕ) (
         let a = span (o q) * (q / span (o q)) in
         let k = kind o row n s q (w .inside) in
         sum-cong (λ p. inChannel c p (G p)) (H c) n (share-here c)
-        ∙ sym (sum-past (H c) n (n + 4) (omega arith) (past-end c))
-        ∙ sum-window (H c) a (span (o q)) (n + 4) (window-room (o q) q k n (w .inside))
+        ∙ sym (sum-past (H c) n (n + 16) (omega arith) (past-end c))
+        ∙ sum-window (H c) a (span (o q)) (n + 16) (window-room (o q) q k n (w .inside))
         (λ p l. off-window c p (window-below (o q) q k p l)) (λ p l. off-window c p (window-above (o q) q k p l))
         ∙ from-cong (H c) (λ p. channelShare c (o q) p (row p)) a (span (o q)) (λ j l. in-window c (a + j) (window-in (o q) q k j l))
         ∙ from-shares c (o q) row a (span (o q))

@@ -9,10 +9,10 @@ use native.Mathlib.Numerals.{add-one}
 use borrow.Author.Tests.{lt-ltb, le-ltb, eq-eqb, eqb-true}
 use lib.Dec.{eqb, eqb→eq}
 use lib.ListN.{length}
-use Rattle.plan.specs.Kinds.{span}
-use Rattle.plan.specs.Signals.{Fits, own, blank, smaller, Signals}
-use Rattle.plan.proofs.Fitting.{known, blank-least, blank-most}
-use Rattle.plan.proofs.Table.{takes-known, family-low}
+use Rattle.kinds.specs.Kinds.{span}
+use Rattle.kinds.specs.Signals.{Fits, own, blank, smaller, Signals}
+use Rattle.kinds.proofs.Fitting.{known, blank-least, blank-most}
+use Rattle.kinds.proofs.Table.{takes-known, family-low}
 use Rattle.resource.specs.Values.{pieces, fieldsOf, divides}
 use Rattle.resource.proofs.Test.{below-or, every-between}
 use Rattle.resource.proofs.Pieces.{divided-low, divided-fields, divided-not, some-pieces, no-pieces-left, none-left}

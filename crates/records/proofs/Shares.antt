@@ -11,8 +11,8 @@ use borrow.Author.Tests.{eqb-true, eqb-false}
 use lib.Dec.{eqb}
 use lib.ListN.{length, getD}
 use Rattle.answer.specs.Tally.{tally}
-use Rattle.plan.specs.Signals.{Signals}
-use Rattle.plan.proofs.Tests.{Tested}
+use Rattle.kinds.specs.Signals.{Signals}
+use Rattle.kinds.proofs.Tests.{Tested}
 use Rattle.resource.specs.Values.{divides}
 use Rattle.records.specs.declared.Record.{Record}
 use Rattle.records.specs.Records.{recordsFrom, blank as noRecord}

@@ -8,9 +8,9 @@ use lib.ListN.{length, getD}
 use Rattle.resource.specs.Engine.{pieceAt}
 use Rattle.resource.proofs.Pieces.{own-piece}
 use Rattle.resource.proofs.Agree.{AgreesAt}
-use Rattle.plan.specs.Signals.{Signals}
-use Rattle.plan.proofs.Tests.{equal-or}
-use Rattle.plan.proofs.Fitting.{known}
+use Rattle.kinds.specs.Signals.{Signals}
+use Rattle.kinds.proofs.Tests.{equal-or}
+use Rattle.kinds.proofs.Fitting.{known}
 use Rattle.records.specs.declared.Record.{Record}
 use Rattle.records.specs.Records.{listAt, recordsFrom, blank}
 use Rattle.records.proofs.Larger.{piece-there, larger-agrees}

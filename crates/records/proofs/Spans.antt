@@ -6,17 +6,17 @@ use Prim.Native.Nat.{ℕ, zero, suc, _+_, _*_, _/_, _%_, _≤_, _<_}
 use native.Mathlib.Omega.{arith}
 use native.Mathlib.Nat.{div-add-mod}
 use lib.Dec.{eqb}
-use Rattle.plan.specs.Kinds.{span, takes}
-use Rattle.plan.specs.Signals.{Takes}
-use Rattle.plan.specs.Fields.{share, channelShare, shares, fieldsIn}
-use Rattle.plan.proofs.Tests.{by-test, not-both}
-use Rattle.plan.proofs.Places.{at-span, place-mod}
-use Rattle.plan.proofs.Table.{span-some, span-most, span-0}
+use Rattle.kinds.specs.Kinds.{span, takes}
+use Rattle.kinds.specs.Signals.{Takes}
+use Rattle.kinds.specs.Fields.{share, channelShare, shares, fieldsIn}
+use Rattle.kinds.proofs.Tests.{by-test, not-both}
+use Rattle.kinds.proofs.Places.{at-span, place-mod}
+use Rattle.kinds.proofs.Table.{span-some, span-most, span-0}
 use Rattle.records.specs.Records.{inChannel}
 use Rattle.records.proofs.Sums.{sumFrom}
 
 -- ---- the window of a resource's span
-module _ (x q : ℕ) (h : x < 7) where
+module _ (x q : ℕ) (h : x < 36) where
   pub window-in : (k : ℕ) → k < span x → (span x * (q / span x) + k) / span x ≡ q / span x
   window-in k l = at-span (span x) (span-some x h) q k l
 
@@ -28,7 +28,7 @@ module _ (x q : ℕ) (h : x < 7) where
       let f : span x * (q / span x) + p % span x ≡ p = rw (← e) (div-add-mod p (span x)) in
       omega (arith, place-mod x p h)
 
-  pub window-room : (n : ℕ) → q < n → span x * (q / span x) + span x ≤ n + 4
+  pub window-room : (n : ℕ) → q < n → span x * (q / span x) + span x ≤ n + 16
   window-room n l = omega (arith, div-add-mod q (span x), span-most x h)
 
 pub from-shares : (c x : ℕ) (row : ℕ → ℕ) (a s : ℕ) → sumFrom (λ p. channelShare c x p (row p)) a s ≡ shares c x row a s

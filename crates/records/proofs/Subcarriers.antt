@@ -7,12 +7,12 @@ use Prim.Native.Nat.{ℕ, _+_, _*_, _/_, _%_, _^_, _≤_, _<_}
 use native.Mathlib.Omega.{arith}
 use native.Mathlib.Nat.{div-add-mod}
 use lib.ListN.{length, getD}
-use Rattle.plan.specs.Kinds.{span}
-use Rattle.plan.specs.Signals.{Place, Fits, own, blank, smaller, Signals}
-use Rattle.plan.proofs.Tests.{equal-or}
-use Rattle.plan.proofs.Fitting.{known, blank-least}
-use Rattle.plan.proofs.Table.{takes-known, family-low, full}
-use Rattle.plan.proofs.Places.{place-mod}
+use Rattle.kinds.specs.Kinds.{span}
+use Rattle.kinds.specs.Signals.{Place, Fits, own, blank, smaller, Signals}
+use Rattle.kinds.proofs.Tests.{equal-or}
+use Rattle.kinds.proofs.Fitting.{known, blank-least}
+use Rattle.kinds.proofs.Table.{takes-known, family-low, full}
+use Rattle.kinds.proofs.Places.{place-mod}
 use Rattle.resource.specs.declared.Size.the-variants.{S242}
 use Rattle.resource.specs.declared.Piece.the-variants.{Part}
 use Rattle.resource.specs.Values.{pieces, ownPieces}
@@ -44,12 +44,12 @@ module _ (o row : ℕ → ℕ) (b : ℕ) (h : b < 5) (s : Signals o row 0 (2 ^ b
   entire-at : (p q : ℕ) → p < 2 ^ b → Place (o p) p q → (q < 2 ^ b) × (o q ≡ o p)
   entire-at p q l w = let e = s .entire p q (omega arith) l w in (e .1, e .2)
 
-  kind : (p : ℕ) → p < 2 ^ b → o p < 7
+  kind : (p : ℕ) → p < 2 ^ b → o p < 36
   kind p l = known (o p) p (row p) (s .fits p (omega arith) l)
 
   -- the span of a resource lies in the channel
   pub whole-span : (p : ℕ) → p < 2 ^ b → span (o p) * (p / span (o p)) + span (o p) ≤ 2 ^ b
-  whole-span p l = span-within (o p) p b (kind p l) h l (λ q w. entire-at p q l w .0)
+  whole-span p l = span-within (o p) p b (kind p l) h (λ q w. entire-at p q l w .0)
 
   -- the subcarriers of a resource that is listed at p lie in its places
   own-cells : (p m u : ℕ) → p < 2 ^ b → o p ≡ 0 → m < length (listAt (o p) row p) → HasRun (2 ^ b) (recordAt (o p) row p m) u → Place (o p) p (u / 256)

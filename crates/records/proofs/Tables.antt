@@ -18,7 +18,7 @@ kind-at r p l = getD-filled (onlyPlan (at r)) (length r) (replicate {A = ℕ} 16
 pub kind-in : (k r : List ℕ) (p : ℕ) → k ≡ kindsOf r → p < length r → getD k p 0 ≡ onlyPlan (at r) p
 kind-in k r p e l = rw e (kind-at r p l)
 
-pub kind-known : (k r : List ℕ) (p : ℕ) → k ≡ kindsOf r → p < length r → getD k p 0 < 7
+pub kind-known : (k r : List ℕ) (p : ℕ) → k ≡ kindsOf r → p < length r → getD k p 0 < 36
 kind-known k r p e l = rw (kind-in k r p e l) (only-known (at r) p)
 
 pub number-at : (r : List ℕ) (p : ℕ) → p < length r + 1 → getD (numbersOf r) p 0 ≡ length (recordsFrom (onlyPlan (at r)) (at r) p)

@@ -16,7 +16,7 @@ use Rattle.resource.specs.Tones.{minus, tonesOf, Among}
 use Rattle.resource.specs.Engine.{signed, spanOf, runsOf}
 use Rattle.resource.proofs.Edge.{In, among-in, among-counted, inside-edges}
 use Rattle.resource.proofs.Agree.{AgreesAt}
-use Rattle.plan.specs.Signals.{Signals}
+use Rattle.kinds.specs.Signals.{Signals}
 use Rattle.records.specs.Records.{recordsFrom, HasTone, Punctured, RightRecord}
 use Rattle.records.specs.Demand.{resourceIn}
 use Rattle.records.proofs.Larger.{piece-there}

@@ -3,11 +3,13 @@
 use mathlib.Core.Bool.{cond}
 use mathlib.Core.List.{List}
 use Prim.Native.Nat.{ℕ, zero, suc, _+_, _-_, _*_, _/_, _%_, _^_}
-use lib.Dec.{ltb, eqb}
+use lib.Dec.{ltb, leb, eqb}
 use lib.ListN.{length, replicate}
 use Rattle.answer.specs.Lists.{filled, at}
+use Rattle.resource.specs.declared.Run.{Run}
 use Rattle.resource.specs.Values.{divides, ownPieces}
-use Rattle.plan.specs.Kinds.{span, itself, mask}
+use Rattle.resource.specs.Engine.{placesRuns, spreadRuns}
+use Rattle.kinds.specs.Kinds.{span, itself, mask}
 use Rattle.plan.specs.Engine.{onlyPlan}
 use Rattle.records.specs.Records.{lead, recordsFrom}
 use Rattle.records.specs.Owns.{fieldsBefore, number}
@@ -28,9 +30,15 @@ ownerOf o row c (suc n) j =
     cond (ltb j (fieldsBefore c row n)) (ownerOf o row c n j)
     (cond (ltb j (fieldsBefore c row (suc n))) (ownerAt o row n (j - fieldsBefore c row n)) 144)
 
--- its places among the four positions of its segment, bit j for place j, where it lies at position p: those of its span, from where that begins
+-- the places of one no wider than a segment among the four positions there, bit j for place j, where it lies at position p: those of its span,
+-- from where that begins
 unfoldable pub placesOf : ℕ → ℕ → ℕ
 placesOf c p = mask c * 2 ^ (span c * (p / span c) % 4)
+
+-- the runs of the larger resource of kind c that lies at position p: by its places in its segment, or in the segments of its span
+unfoldable pub largerRuns : ℕ → ℕ → List Run
+largerRuns c p =
+    cond (leb (span c) 4) (placesRuns (4 * (p / 4)) (placesOf c p)) (spreadRuns (span c * (p / span c)) (mask c) (span c / 4))
 
 -- ---- how the program counts: `proofs/` shows that it is the list's
 -- how many are listed at p

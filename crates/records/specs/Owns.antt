@@ -6,9 +6,9 @@ use Prim.Native.Nat.{ℕ, zero, suc, _+_, _%_, _<_}
 use lib.Dec.{eqb}
 use lib.ListN.{length}
 use Rattle.resource.specs.Values.{pieces, fieldsOf}
-use Rattle.plan.specs.Kinds.{itself, span}
-use Rattle.plan.specs.Signals.{Place}
-use Rattle.plan.specs.Fields.{fieldsTo}
+use Rattle.kinds.specs.Kinds.{itself, span}
+use Rattle.kinds.specs.Signals.{Place}
+use Rattle.kinds.specs.Fields.{fieldsTo}
 use Rattle.records.specs.declared.Record.{Record}
 use Rattle.records.specs.Records.{lead, recordsFrom}
 

@@ -7,16 +7,16 @@ use lib.IntN.{ℤ}
 use lib.ListN.{length, getD}
 use Rattle.answer.specs.Least.{least}
 use Rattle.answer.specs.Lists.{at}
-use Rattle.resource.specs.declared.Size.the-variants.{S26, S242, S484, S996}
+use Rattle.resource.specs.declared.Size.the-variants.{S26, S242, S484, S996, S2x996}
 use Rattle.resource.specs.declared.Piece.{Piece}
 use Rattle.resource.specs.declared.Piece.the-variants.{Part}
 use Rattle.resource.specs.declared.Resource.{Resource}
 use Rattle.resource.specs.declared.Resource.the-variants.{Single}
 use Rattle.resource.specs.Values.{pieceFields, ownPieces}
-use Rattle.resource.specs.Index.{resourceAt, leavingOut}
+use Rattle.resource.specs.Index.{resourceAt, leavingOut, the996And484, the3x996, the2x996And484, the3x996And484}
 use Rattle.resource.specs.Tones.{tonesOf, Among, RightSpans}
-use Rattle.plan.specs.Kinds.{itself, span, takes}
-use Rattle.plan.specs.Fields.{fieldsIn}
+use Rattle.kinds.specs.Kinds.{itself, span, takes}
+use Rattle.kinds.specs.Fields.{fieldsIn}
 use Rattle.records.specs.declared.Record.{Record}
 
 -- "Content channel 1 holds the even positions, channel 2 the odd ones": f where position p is channel c's
@@ -38,7 +38,8 @@ pieceRecord row p x = record {
 unfoldable pub lead : ℕ → ℕ
 lead c = least (takes c) (span c)
 
--- one column more of the table of kinds, by line: the resource at position q of its segment, with its index
+-- one column more of the table of kinds, by line: the resource at position q of its segment, with its index; of one wider than a
+-- segment (02, T-07), in its own span
 unfoldable pub resourceColumn : ℕ → List Resource
 resourceColumn q =
     resourceAt q (Part S242 1)
@@ -48,6 +49,35 @@ resourceColumn q =
     ∷ leavingOut 1
     ∷ leavingOut 2
     ∷ leavingOut 3
+    ∷ resourceAt q (Part S2x996 1)
+    ∷ the996And484 0
+    ∷ the996And484 1
+    ∷ the996And484 2
+    ∷ the996And484 3
+    ∷ the3x996 0
+    ∷ the3x996 1
+    ∷ the3x996 2
+    ∷ the3x996 3
+    ∷ the3x996And484 0
+    ∷ the3x996And484 1
+    ∷ the3x996And484 2
+    ∷ the3x996And484 3
+    ∷ the3x996And484 4
+    ∷ the3x996And484 5
+    ∷ the3x996And484 6
+    ∷ the3x996And484 7
+    ∷ the2x996And484 0
+    ∷ the2x996And484 1
+    ∷ the2x996And484 2
+    ∷ the2x996And484 3
+    ∷ the2x996And484 4
+    ∷ the2x996And484 5
+    ∷ the2x996And484 6
+    ∷ the2x996And484 7
+    ∷ the2x996And484 8
+    ∷ the2x996And484 9
+    ∷ the2x996And484 10
+    ∷ the2x996And484 11
     ∷ []
 
 -- that of kind c

@@ -1,5 +1,5 @@
 // The resources of a row's plan, and whose User field is whose (01, "What a plan is"). A kind of resource is a number, as in
-// crate `plan`: 0 is the position itself.
+// crate `kinds`: 0 is the position itself.
 use resource::Pairing;
 use resource::Piece;
 use resource::Resource;
@@ -7,16 +7,16 @@ use resource::Size;
 use resource::Tones;
 ghost use mathlib.Core.Path.{_≡_};
 ghost use mathlib.Core.Bool.{cond};
-ghost use Prim.Native.Nat.{_+_, _*_, _/_, _≤_, _<_};
+ghost use Prim.Native.Nat.{_+_, _≤_, _<_};
 ghost use lib.ListN.{length, replicate};
 ghost use Rattle.answer.specs.Lists.{build, filled};
 ghost use Rattle.answer.specs.Lists.{at};
 ghost use Rattle.plan.specs.Engine.{onlyPlan};
 ghost use Rattle.plan.specs.Engine.{kindsOf};
 ghost use Rattle.resource.specs.Engine.{numberedOf};
-ghost use Rattle.resource.specs.Engine.{placesRuns, held};
+ghost use Rattle.resource.specs.Engine.{held};
 ghost use Rattle.records.specs.Records.{inChannel, pieceRecord, lead, larger, largerRecord, recordsOf};
-ghost use Rattle.records.specs.Engine.{placesOf, listed};
+ghost use Rattle.records.specs.Engine.{largerRuns, listed};
 ghost use Rattle.records.specs.Owns.{fieldsBefore};
 ghost use Rattle.records.specs.Engine.{lowest, ownerAt, ownerOf};
 ghost use Rattle.records.specs.Engine.{numbersOf};
@@ -30,12 +30,6 @@ pub struct Record {
     pub fields2: u16,
 }
 
-fn value_at(row: &[u16], p: usize) -> u16
-    ensures { λ r. ⌜ r ≡ at (now (row .entry)) p ⌝ }
-{
-    if p < row.len() { row[p] } else { 0 }
-}
-
 // f where position p is one of the channel's (0 or 1).
 fn in_channel(channel: usize, p: usize, f: u16) -> u16
     ensures { λ r. ⌜ r ≡ inChannel channel p f ⌝ }
@@ -47,31 +41,46 @@ fn in_channel(channel: usize, p: usize, f: u16) -> u16
 
 // The resource of this kind at position q of its segment.
 fn larger_of(kind: u16, q: u16) -> Resource
-    requires { ⌜ (kind < 7) × (q < 4) ⌝ }
+    requires { ⌜ (kind < 36) × (q < 4) ⌝ }
     ensures { λ r. ⌜ r ≡ larger kind q ⌝ }
 {
     match kind {
         0 => Resource::Single(Size::S242, q + 1),
         1 => Resource::Single(Size::S484, q / 2 + 1),
         2 => Resource::Single(Size::S996, 1),
-        _ => Resource::Joined(Pairing::P484And242, kind - 2), // 1 to 4 by the place left out
+        3..=6 => Resource::Joined(Pairing::P484And242, kind - 2), // 1 to 4 by the place left out
+        7 => Resource::Single(Size::S2x996, 1),
+        8..=11 => Resource::Joined(Pairing::P996And484, kind - 7),
+        12..=15 => Resource::Joined(Pairing::P3x996, kind - 11),
+        16..=23 => Resource::Joined(Pairing::P3x996And484, kind - 15),
+        _ => Resource::Joined(Pairing::P2x996And484, kind - 23),
     }
 }
 
-// The lowest of its places among its span: none leaves out both the first and the second.
+// The lowest of its places among its span: the first, or that after what it leaves out there.
 fn lead_of(kind: u16) -> usize
-    requires { ⌜ kind < 7 ⌝ }
-    ensures { λ r. ⌜ (r ≡ lead kind) × (r ≤ 1) ⌝ }
+    requires { ⌜ kind < 36 ⌝ }
+    ensures { λ r. ⌜ (r ≡ lead kind) × (r ≤ 6) ⌝ }
 {
-    if plan::mask_of(kind) % 2 == 1 { 0 } else { 1 }
+    let m = kinds::mask_of(kind);
+    if m % 2 == 1 {
+        return 0;
+    }
+    if m / 2 % 2 == 1 {
+        return 1;
+    }
+    if m / 4 % 2 == 1 {
+        return 2;
+    }
+    if m / 16 % 2 == 1 { 4 } else { 6 }
 }
 
 // The lowest place of the resource of this kind that lies at p.
 fn lowest_of(kind: u16, p: usize) -> usize
-    requires { ⌜ (kind < 7) × (p < 4096) ⌝ }
-    ensures { λ r. ⌜ (r ≡ lowest kind p) × (r ≤ 4096) ⌝ }
+    requires { ⌜ (kind < 36) × (p < 4096) ⌝ }
+    ensures { λ r. ⌜ (r ≡ lowest kind p) × (r ≤ 4102) ⌝ }
 {
-    plan::start_of(kind, p) + lead_of(kind)
+    kinds::start_of(kind, p) + lead_of(kind)
 }
 
 // ---- the resources whose lowest position is p
@@ -93,25 +102,30 @@ pub fn piece_record(v: u16, p: usize, x: Piece) -> Record
 
 // The larger resource of this kind that lies at position p.
 pub fn larger_record(kind: u16, row: &[u16], p: usize) -> Record
-    requires { ⌜ (kind < 7) × (p < 4096) ⌝ }
+    requires { ⌜ (kind < 36) × (p < 4096) ⌝ }
     ensures { λ r. ⌜ r ≡ largerRecord kind (at (now (row .entry))) p ⌝ }
 {
     Record {
         resource: larger_of(kind, (p % 4) as u16),
         segment: (p / 4) as u16,
         position: p as u16,
-        fields1: plan::fields_in(1, kind, row, p),
-        fields2: plan::fields_in(2, kind, row, p),
+        fields1: kinds::fields_in(1, kind, row, p),
+        fields2: kinds::fields_in(2, kind, row, p),
     }
 }
 
-// The subcarriers of the larger resource of this kind that lies at position p: its places among the four of its segment.
+// The subcarriers of the larger resource of this kind that lies at position p: its places among the four of its segment, or in
+// the segments of its span.
 pub fn larger_tones(kind: u16, p: usize) -> Tones
-    requires { ⌜ (kind < 7) × (p < 4096) ⌝ }
-    ensures { λ t. ⌜ t ≡ held (placesRuns (4 * (p / 4)) (placesOf kind p)) ⌝ }
+    requires { ⌜ (kind < 36) × (p < 4096) ⌝ }
+    ensures { λ t. ⌜ t ≡ held (largerRuns kind p) ⌝ }
 {
-    let places = plan::mask_of(kind) << (plan::start_of(kind, p) % 4);
-    resource::places_tones((4 * (p / 4)) as u32, places)
+    let from = kinds::start_of(kind, p);
+    let mask = kinds::mask_of(kind);
+    if kind < 7 {
+        return resource::places_tones((4 * (p / 4)) as u32, mask << (from % 4));
+    }
+    resource::spread_tones(from as u32, mask as u32, (kinds::span_of(kind) / 4) as u16)
 }
 
 fn one_if(t: bool) -> u16
@@ -122,7 +136,7 @@ fn one_if(t: bool) -> u16
 
 // How many of them there are, the position's value being v: a larger resource is listed at its lowest place alone.
 pub fn listed_of(kind: u16, p: usize, v: u16) -> u16
-    requires { ⌜ (kind < 7) × (p < 4096) ⌝ }
+    requires { ⌜ (kind < 36) × (p < 4096) ⌝ }
     ensures { λ r. ⌜ (r ≡ listed kind p v) × (r ≤ 9) ⌝ }
 {
     if kind == 0 {
@@ -144,7 +158,7 @@ pub fn numbers_before(kinds: &[u16; 16], row: &[u16]) -> [u16; 17]
     let mut p: usize = 0;
     while p < n {
         before[p] = sum;
-        sum += listed_of(kinds[p], p, value_at(row, p)); // over the whole plan, not from each segment's first position
+        sum += listed_of(kinds[p], p, kinds::value_at(row, p)); // over the whole plan, not from each segment's first position
         p += 1;
     }
     before[p] = sum;
@@ -166,7 +180,7 @@ fn first_owner(kinds: &[u16; 16], before: &[u16; 17], row: &[u16], p: usize) -> 
     requires { ⌜ (length (now row) ≤ 16) × (p < length (now row)) × (now kinds ≡ kindsOf (now row)) × (now before ≡ numbersOf (now row)) ⌝ }
     ensures { λ r. ⌜ r ≡ ownerAt (onlyPlan (at (now (row .entry)))) (at (now (row .entry))) p 0 ⌝ }
 {
-    if resource::is_divided(value_at(row, p)) {
+    if resource::is_divided(kinds::value_at(row, p)) {
         return before[p];
     }
     before[lowest_of(kinds[p], p)]
@@ -189,7 +203,7 @@ fn enter_owners(
     ensures { λ r. ⌜ now (owners .exit)
         ≡ filled (ownerOf (onlyPlan (at (now (row .entry)))) (at (now (row .entry))) channel (length (now (row .entry)))) r (replicate 72 144) ⌝ }
 {
-    let v = value_at(row, p);
+    let v = kinds::value_at(row, p);
     let f = in_channel(channel, p, resource::fields_of(v)) as usize;
     if f == 0 {
         return j;
