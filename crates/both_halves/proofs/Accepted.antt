@@ -8,10 +8,11 @@ use Rattle.answer.specs.declared.Outcome.{Outcome}
 use Rattle.answer.specs.declared.Outcome.the-variants.{Pass}
 use Rattle.channel.specs.Layout.{row}
 use Rattle.answer.specs.Lists.{at}
-use Rattle.plan.specs.Signals.{Signals}
+use Rattle.kinds.specs.Signals.{Signals}
 use Rattle.plan.specs.Engine.{onlyPlan, planOutcome}
 use Rattle.plan.specs.Answers.{Laid, accepted, no-plan, over-eight}
-use Rattle.plan.proofs.Laid.{part-plan, whole-signals, outcome-laid}
+use Rattle.plan.proofs.Laid.{outcome-laid}
+use Rattle.plan.proofs.Parts.{plan-holds, held-signals}
 use Rattle.halves.specs.Table.{outcome11, outcome6}
 use Rattle.halves.specs.Engine.{outcome9to11}
 use Rattle.halves.proofs.Stages.{outcome11-stages, common-pass}
@@ -29,6 +30,6 @@ accepted-signals bw a b e =
     r = row bw a b
 
     go : {o : Outcome} → Laid r o → o ≡ Pass → Signals (onlyPlan (at r)) (at r) 0 (length r)
-    go (accepted w) f = whole-signals r (λ s l. part-plan r (w .0, w .1) s)
+    go (accepted w) f = held-signals r (λ s l. plan-holds r (w .0, w .1) s)
     go (no-plan s l n h) f = absurd (pass-not-refuse f refl)
     go (over-eight s l h n k) f = absurd (pass-not-refuse f refl)

@@ -5,7 +5,7 @@ use mathlib.Core.List.{List}
 use Prim.Native.Nat.{ℕ, _/_, _%_, _^_, _<_}
 use lib.Dec.{eqb}
 use lib.ListN.{length, getD}
-use Rattle.plan.specs.Fields.{shared}
+use Rattle.kinds.specs.Fields.{shared}
 use Rattle.channel.specs.Layout.{subfieldsIn, value}
 use Rattle.frame_words.specs.Words.{positionIn, sharedAt}
 

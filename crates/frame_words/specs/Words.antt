@@ -11,7 +11,7 @@ use Rattle.answer.specs.Least.{least}
 use Rattle.answer.specs.Lists.{build, at}
 use Rattle.bits.specs.Bits.{field}
 use Rattle.resource.specs.Values.{fieldsOf}
-use Rattle.plan.specs.Fields.{shared}
+use Rattle.kinds.specs.Fields.{shared}
 use Rattle.plan.specs.Worked.{thePlan}
 use Rattle.channel.specs.Layout.{overflow, firstBits, secondAt, secondBits, subfieldsIn, value, row, total, count, userAt}
 use Rattle.words.specs.Words.{header, userWord}

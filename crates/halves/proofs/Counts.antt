@@ -5,7 +5,7 @@ use Prim.Native.Nat.{ℕ, _+_, _-_, _*_, _/_, _≤_, _<_}
 use native.Mathlib.Omega.{arith}
 use Rattle.resource.specs.Values.{fieldsOf}
 use Rattle.answer.specs.Lists.{at}
-use Rattle.plan.specs.Fields.{fieldsTo}
+use Rattle.kinds.specs.Fields.{fieldsTo}
 use Rattle.channel.specs.Layout.{positions, row, total, count}
 use Rattle.channel.proofs.Laws.{total-cong}
 use Rattle.channel.proofs.Counts.{by-channel, count-even, count-odd}

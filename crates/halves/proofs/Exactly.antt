@@ -11,7 +11,7 @@ use Rattle.answer.proofs.Order.{refuse-if}
 use Rattle.answer.specs.declared.Answer.{Answer}
 use Rattle.answer.specs.declared.Outcome.{Outcome}
 use Rattle.plan.specs.Answers.{segments}
-use Rattle.plan.specs.Worked.{hasPlan, hasPlanOfEight, lowestWithout, outcome7, outcome8}
+use Rattle.plan.specs.Worked.{isHeld, atMostEight, lowestWithout, outcome7, outcome8}
 use Rattle.channel.specs.Layout.{row, count, userAt}
 use Rattle.faults.proofs.Passing.{tooLong-only, cutCommon-only, wrongCommon-only, overflowDiffers-only, notCarried-only, cutUsers-only, wrongUsers-only}
 use Rattle.stations.specs.Stations.{stationTwice, stationPlace, firstRepeated}
@@ -61,13 +61,13 @@ module _ (bw : ℕ) (a b : List ℕ) where
   only-7 : Only 7 (check7 bw a b)
   unfolding check7 outcome7
   only-7 =
-      let found = lowestWithout (hasPlan (row bw a b)) (segments (row bw a b)) in
+      let found = lowestWithout (isHeld (row bw a b)) (segments (row bw a b)) in
       only-if (ltb found (segments (row bw a b))) 7 0 found
 
   only-8 : Only 8 (check8 bw a b)
   unfolding check8 outcome8
   only-8 =
-      let found = lowestWithout (hasPlanOfEight (row bw a b)) (segments (row bw a b)) in
+      let found = lowestWithout (atMostEight (row bw a b)) (segments (row bw a b)) in
       only-if (ltb found (segments (row bw a b))) 8 0 found
 
   only-9 : Only 9 (check9 bw a b)

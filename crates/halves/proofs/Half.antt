@@ -11,9 +11,9 @@ use Rattle.answer.specs.declared.Outcome.{Outcome}
 use Rattle.answer.specs.declared.Outcome.the-variants.{Pass, Refuse}
 use Rattle.plan.specs.declared.Plan.{Plan}
 use Rattle.answer.specs.Lists.{at}
-use Rattle.plan.specs.Fields as F
+use Rattle.kinds.specs.Fields as F
 use Rattle.plan.specs.Engine.{onlyPlan, planOutcome, kindsOf, planOf}
-use Rattle.plan.specs.Fields.{fieldsTo}
+use Rattle.kinds.specs.Fields.{fieldsTo}
 use Rattle.plan.proofs.Value.{shared-bit}
 use Rattle.channel.specs.Layout.{positions, row, rowIn16, count}
 use Rattle.channel.proofs.Laws.{row-length, count-le}
