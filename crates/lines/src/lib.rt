@@ -25,7 +25,7 @@ pub fn put_id(out: &mut [u8], at: usize, id: u32) -> usize
 
 // The line of a User field whose resource nobody has.
 fn put_none(out: &mut [u8], at: usize, resource: usize) -> usize
-    requires { ⌜ at ≤ 60000 ⌝ }
+    requires { ⌜ at ≤ 80000 ⌝ }
     ensures { λ r. ⌜ Wrote (now (out .entry)) at (line (codes "sta=none resource=") resource) (now (out .exit)) r ⌝ }
     ensures bounded { λ r. ⌜ r ≤ at + 55 ⌝ }
 {
@@ -34,7 +34,7 @@ fn put_none(out: &mut [u8], at: usize, resource: usize) -> usize
 
 // The line of a User field.
 pub fn put_sta(out: &mut [u8], at: usize, id: u32, resource: usize) -> usize
-    requires { ⌜ at ≤ 60000 ⌝ }
+    requires { ⌜ at ≤ 80000 ⌝ }
     ensures { λ r. ⌜ Wrote (now (out .entry)) at (staLine id resource) (now (out .exit)) r ⌝ }
     ensures bounded { λ r. ⌜ r ≤ at + 55 ⌝ }
 {

@@ -6,7 +6,7 @@ use native.Mathlib.Omega.{arith}
 use lib.ListN.{length, getD}
 use Rattle.answer.specs.Lists.{at}
 use Rattle.answer.specs.declared.Outcome.the-variants.{Pass}
-use Rattle.plan.specs.Signals.{Signals}
+use Rattle.kinds.specs.Signals.{Signals}
 use Rattle.plan.specs.Engine.{onlyPlan}
 use Rattle.records.specs.Records.{recordsFrom, blank}
 use Rattle.records.proofs.Sizes.{AgreesRecord, record-agrees}

@@ -9,9 +9,12 @@ use Rattle.bits.specs.Bits.{bit, field}
 use Rattle.resource.specs.Values.{carried, pieces, fieldsOf, divides, pieceFields, ownPieces}
 use Rattle.resource.specs.Index.{indexOf, resourceAt, positionOf, placeOf}
 use Rattle.resource.specs.Tones.{tonesAt, tonesOf}
-use Rattle.plan.specs.Fields.{fieldsIn}
-use Rattle.plan.specs.Kinds.{kinds, kindAt, family, span, mask, takes, takesBlock, blankAt, mustName}
-use Rattle.plan.specs.Engine.{kindOf, nameOf, orElse, tells, choose, onlyPlan}
+use Rattle.kinds.specs.Fields.{fieldsIn}
+use Rattle.kinds.specs.Kinds.{kinds, kindAt, family, span, mask, takes, takesBlock, blankAt, mustName}
+use Rattle.kinds.specs.Engine.{sought, kindOf, nameOf, settled}
+use Rattle.segments.specs.Engine.{orElse, tells, choose, segmentPlan}
+use Rattle.spans.specs.Engine.{named, search, spansIn, partPlan}
+use Rattle.plan.specs.Engine.{onlyPlan}
 use Rattle.records.specs.Records.{lead, listAt}
 use Rattle.records.specs.Engine.{lowest, ownerAt, ownerOf}
 use Rattle.channel.specs.Layout.{positions, present, firsts, seconds, firstBits, secondAt, secondBits, hasSecond, common, subfields, subfieldsIn}
@@ -39,9 +42,9 @@ pub worked-listing :
     ≡ codes "answer=0\nbw=1\nresources=2\nfields1=2\nfields2=0\nstations=2\n" ++ ruText ++ codes "sta=11 resource=1\nsta=12 resource=2\n")
     × (listing 1 one second
     ≡ codes "answer=0\nbw=1\nresources=2\nfields1=2\nfields2=0\nstations=1\n" ++ ruText ++ codes "sta=11 resource=1\nsta=none resource=2\n")
-unfolding count total present subfieldsIn subfields fieldsOf pieces carried positions row build rowAt value valueAt firsts seconds secondAt
-    firstBits secondBits field bit common hasSecond userAt onlyPlan choose tells orElse nameOf kindOf mustName blankAt takesBlock takes mask
-    span family kindAt kinds least fieldsIn dec signed upto ownPieces indexOf resourceAt positionOf placeOf tonesAt tonesOf divides
-    pieceFields lead listAt lowest ownerAt ownerOf nameText comma tonesText ruName ruHead ruLine idText staLine headText ruLines ownerIn staLineAt
-    staLines stationsIn listingOf listing
+unfolding count total present subfieldsIn subfields fieldsOf pieces carried positions row build rowAt value valueAt firsts seconds
+    secondAt firstBits secondBits field bit common hasSecond userAt onlyPlan partPlan spansIn search named settled segmentPlan choose
+    tells orElse nameOf kindOf sought mustName blankAt takesBlock takes mask span family kindAt kinds least fieldsIn dec signed upto
+    ownPieces indexOf resourceAt positionOf placeOf tonesAt tonesOf divides pieceFields lead listAt lowest ownerAt ownerOf nameText comma
+    tonesText ruName ruHead ruLine idText staLine headText ruLines ownerIn staLineAt staLines stationsIn listingOf listing
 worked-listing = (refl, refl)

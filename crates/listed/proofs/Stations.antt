@@ -19,7 +19,7 @@ use Rattle.words.specs.Engine.{fieldIn, userField}
 use Rattle.channel.specs.Layout.{row, count, userAt}
 use Rattle.stations.specs.Stations.{stationAt, stationOf}
 use Rattle.plan.specs.Worked.{thePlan}
-use Rattle.plan.proofs.Tests.{Tested, eqb-decides, move}
+use Rattle.kinds.proofs.Tests.{Tested, eqb-decides, move}
 use Rattle.records.specs.Owns.{fieldsBefore}
 use Rattle.records.specs.Worked.{Worked, theOwner}
 use Rattle.records.proofs.Shares.{counts-of}

@@ -7,7 +7,7 @@ ghost use Prim.Native.Nat.{_≤_};
 ghost use lib.ListN.{length};
 ghost use Rattle.halves.specs.Table.{outcome11};
 ghost use Rattle.both_halves.specs.Engine.{Given};
-ghost use Rattle.listed.specs.Longest.{longestAt};
+ghost use Rattle.listing_size.specs.Longest.{longestAt};
 ghost use Rattle.listed.specs.Listing.{listAnswer, listAfter};
 
 // The bytes of a bandwidth's longest listing.

@@ -20,7 +20,7 @@ ghost use Rattle.listed.specs.Listing.{resources, staLines, listing};
 fn put_records(out: &mut [u8], at: usize, row: &[u16], kinds: &[u16; 16]) -> usize
     requires { ⌜ (at ≤ 1000) × (length (now row) ≤ 16) × (now kinds ≡ kindsOf (now row)) ⌝ }
     ensures { λ r. ⌜ Wrote (now (out .entry)) at (runsLines (length (now (row .entry))) (resources (now (row .entry)))) (now (out .exit)) r ⌝ }
-    ensures bounded { λ r. ⌜ r ≤ at + 240 * length (resources (now (row .entry))) ⌝ }
+    ensures bounded { λ r. ⌜ r ≤ at + 460 * length (resources (now (row .entry))) ⌝ }
 {
     let n = row.len();
     let mut o = at;
@@ -45,7 +45,7 @@ fn put_stations(
     m: usize,
     k: usize,
 ) -> usize
-    requires { ⌜ (at ≤ 40000) × (m ≤ 72) × (k ≤ 72) × (length (now row) ≤ 16) × (now kinds ≡ kindsOf (now row)) × (now before ≡ numbersOf (now row)) ⌝ }
+    requires { ⌜ (at ≤ 68000) × (m ≤ 72) × (k ≤ 72) × (length (now row) ≤ 16) × (now kinds ≡ kindsOf (now row)) × (now before ≡ numbersOf (now row)) ⌝ }
     ensures { λ r. ⌜ Wrote (now (out .entry)) at (staLines bw (now (row .entry)) (now (a .entry)) (now (b .entry)) m (m + k)) (now (out .exit)) r ⌝ }
 {
     let o = put_owned(out, at, bw, a, row, kinds, before, 1, m);

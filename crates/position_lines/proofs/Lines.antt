@@ -11,7 +11,7 @@ use lib.ListN.{length, getD, length-append, List·getD-append}
 use lib.Seq.{getD-append-add}
 use Rattle.text.specs.Text.{upto, Wrote}
 use Rattle.text.proofs.Laws.{no-item, upto-cong, upto-append}
-use Rattle.plan.specs.Kinds.{span}
+use Rattle.kinds.specs.Kinds.{span}
 use Rattle.records.specs.declared.Record.{Record}
 use Rattle.records.specs.Records.{lead, largerRecord, listAt, blank}
 use Rattle.records.specs.Engine.{listed}

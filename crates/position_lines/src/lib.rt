@@ -13,7 +13,7 @@ ghost use Rattle.position_lines.specs.Engine.{listedAt, runsLine, runsLi
 fn put_record(out: &mut [u8], at: usize, n: u16, x: Record, tones: Tones) -> usize
     requires { ⌜ (at ≤ 700000) × (tones ≡ held (runsOf n (x .segment) (x .resource))) ⌝ }
     ensures { λ r. ⌜ Wrote (now (out .entry)) at (runsLine n x) (now (out .exit)) r ⌝ }
-    ensures bounded { λ r. ⌜ r ≤ at + 240 ⌝ }
+    ensures bounded { λ r. ⌜ r ≤ at + 460 ⌝ }
 {
     let users = x.fields1 as u64 + x.fields2 as u64;
     let resource = x.resource;
@@ -24,7 +24,7 @@ fn put_record(out: &mut [u8], at: usize, n: u16, x: Record, tones: Tones) -> usi
 pub fn put_piece(out: &mut [u8], at: usize, n: u16, v: u16, p: usize, k: u16) -> usize
     requires { ⌜ (at ≤ 700000) × (p < 4096) × (k < length (ownPieces v)) ⌝ }
     ensures { λ r. ⌜ Wrote (now (out .entry)) at (runsLine n (pieceRecord (λ q. v) p (pieceAt v k))) (now (out .exit)) r ⌝ }
-    ensures bounded { λ r. ⌜ r ≤ at + 240 ⌝ }
+    ensures bounded { λ r. ⌜ r ≤ at + 460 ⌝ }
 {
     let x = resource::piece_at(v, k);
     let tones = resource::piece_tones(n, p as u16, x);
@@ -35,7 +35,7 @@ pub fn put_piece(out: &mut [u8], at: usize, n: u16, v: u16, p: usize, k: u16) ->
 fn put_pieces(out: &mut [u8], at: usize, n: u16, v: u16, p: usize) -> usize
     requires { ⌜ (at ≤ 600000) × (p < 4096) ⌝ }
     ensures { λ r. ⌜ Wrote (now (out .entry)) at (runsLines n (listAt 0 (λ q. v) p)) (now (out .exit)) r ⌝ }
-    ensures bounded { λ r. ⌜ r ≤ at + 240 * length (listAt 0 (λ q. v) p) ⌝ }
+    ensures bounded { λ r. ⌜ r ≤ at + 460 * length (listAt 0 (λ q. v) p) ⌝ }
 {
     let here = resource::pieces_of(v);
     let mut e = at;
@@ -49,9 +49,9 @@ fn put_pieces(out: &mut [u8], at: usize, n: u16, v: u16, p: usize) -> usize
 
 // The line of the larger resource of this kind, where p is its lowest position.
 pub fn put_larger(out: &mut [u8], at: usize, row: &[u16], kind: u16, p: usize) -> usize
-    requires { ⌜ (at ≤ 600000) × (length (now row) ≤ 16) × (p < length (now row)) × (kind < 7) × (kind ≡ 0 → ⊥) ⌝ }
+    requires { ⌜ (at ≤ 600000) × (length (now row) ≤ 16) × (p < length (now row)) × (kind < 36) × (kind ≡ 0 → ⊥) ⌝ }
     ensures { λ r. ⌜ Wrote (now (out .entry)) at (runsLines (length (now (row .entry))) (listedAt (now (row .entry)) kind p)) (now (out .exit)) r ⌝ }
-    ensures bounded { λ r. ⌜ r ≤ at + 240 * length (listedAt (now (row .entry)) kind p) ⌝ }
+    ensures bounded { λ r. ⌜ r ≤ at + 460 * length (listedAt (now (row .entry)) kind p) ⌝ }
 {
     if records::listed_of(kind, p, row[p]) == 0 {
         return at;
@@ -63,9 +63,9 @@ pub fn put_larger(out: &mut [u8], at: usize, row: &[u16], kind: u16, p: usize) -
 
 // A line for each of the resources whose lowest position is p, which is given to this kind.
 pub fn put_position(out: &mut [u8], at: usize, row: &[u16], kind: u16, p: usize) -> usize
-    requires { ⌜ (at ≤ 600000) × (length (now row) ≤ 16) × (p < length (now row)) × (kind < 7) ⌝ }
+    requires { ⌜ (at ≤ 600000) × (length (now row) ≤ 16) × (p < length (now row)) × (kind < 36) ⌝ }
     ensures { λ r. ⌜ Wrote (now (out .entry)) at (runsLines (length (now (row .entry))) (listedAt (now (row .entry)) kind p)) (now (out .exit)) r ⌝ }
-    ensures bounded { λ r. ⌜ r ≤ at + 240 * length (listedAt (now (row .entry)) kind p) ⌝ }
+    ensures bounded { λ r. ⌜ r ≤ at + 460 * length (listedAt (now (row .entry)) kind p) ⌝ }
 {
     if kind == 0 {
         return put_pieces(out, at, row.len() as u16, row[p], p);

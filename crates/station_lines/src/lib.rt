@@ -21,7 +21,7 @@ fn number_at(owners: &[u16; 72], i: usize) -> u16
 
 // A line for each of the n User fields of a channel, with the numbers of their owners, from 0.
 fn put_channel(out: &mut [u8], at: usize, bw: u32, s: &[u8], owners: &[u16; 72], n: usize) -> usize
-    requires { ⌜ (at ≤ 44000) × (n ≤ 72) ⌝ }
+    requires { ⌜ (at ≤ 72000) × (n ≤ 72) ⌝ }
     ensures { λ r. ⌜ Wrote (now (out .entry)) at (upto (ownedLine bw (now (s .entry)) (now (owners .entry))) n) (now (out .exit)) r ⌝ }
     ensures bounded { λ r. ⌜ r ≤ at + 55 * n ⌝ }
 {
@@ -47,7 +47,7 @@ pub fn put_owned(
     channel: usize,
     n: usize,
 ) -> usize
-    requires { ⌜ (at ≤ 44000) × (n ≤ 72) × (length (now row) ≤ 16) × (now kinds ≡ kindsOf (now row)) × (now before ≡ numbersOf (now row)) ⌝ }
+    requires { ⌜ (at ≤ 72000) × (n ≤ 72) × (length (now row) ≤ 16) × (now kinds ≡ kindsOf (now row)) × (now before ≡ numbersOf (now row)) ⌝ }
     ensures { λ r. ⌜ Wrote (now (out .entry)) at (upto (ownedLine bw (now (s .entry)) (ownersIn (now (row .entry)) channel)) n) (now (out .exit)) r ⌝ }
     ensures bounded { λ r. ⌜ r ≤ at + 55 * n ⌝ }
 {

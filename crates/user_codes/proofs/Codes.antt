@@ -5,20 +5,21 @@ use mathlib.Core.List.{List}
 use Prim.Native.Nat.{ℕ, zero, suc, _+_, _*_, _/_, _%_, _≤_, _<_}
 use native.Mathlib.Omega.{arith}
 use borrow.Author.Tests.{eq-eqb, ne-eqb}
-use lib.Dec.{ltb, eqb}
+use lib.Dec.{T, ltb, leb, eqb, leb→le}
 use lib.ListN.{length, getD, set, replicate}
 use Rattle.answer.specs.Lists.{build, filled, at}
 use Rattle.answer.proofs.Lists.{filled-step, filled-cong, getD-build}
-use Rattle.resource.specs.declared.Size.the-variants.{S26, S52, S106, S242, S484, S996}
+use Rattle.resource.specs.declared.Size.the-variants.{S26, S52, S106, S242, S484, S996, S2x996}
 use Rattle.resource.specs.declared.Piece.{Piece}
 use Rattle.resource.specs.declared.Piece.the-variants.{Part, With26}
-use Rattle.resource.specs.declared.Pairing.the-variants.{P106And26, P484And242}
+use Rattle.resource.specs.declared.Pairing.the-variants.{P106And26, P484And242, P996And484, P3x996, P2x996And484, P3x996And484}
 use Rattle.resource.specs.declared.Resource.{Resource}
 use Rattle.resource.specs.declared.Resource.the-variants.{Single, Joined}
 use Rattle.resource.specs.Names.{nameOf, numberOf}
 use Rattle.resource.specs.Index.{indexOf, resourceAt}
 use Rattle.resource.specs.Engine.{pieceAt, numberedOf}
 use Rattle.resource.proofs.Starts.{place-most}
+use Rattle.resource.proofs.Test.{below, every-below}
 use Rattle.plan.specs.Engine.{onlyPlan}
 use Rattle.plan.proofs.Only.{only-known}
 use Rattle.records.specs.declared.Record.{Record}
@@ -29,7 +30,7 @@ use Rattle.bits.specs.Bits.{field}
 use Rattle.channel.specs.Layout.{userAt}
 use Rattle.user_codes.specs.Engine.{recordCode, listedCode, resourceCodes, userCode, codeIn, fieldCode, ownedCode}
 
--- ---- a size is at most 996: 12 bits are enough
+-- ---- a size is at most 3472, that of a 3x996+484: 12 bits are enough
 pub name-most : (r : Resource) → nameOf r < 4096
 name-most (Single S26 i) = omega arith
 name-most (Single S52 i) = omega arith
@@ -37,8 +38,13 @@ name-most (Single S106 i) = omega arith
 name-most (Single S242 i) = omega arith
 name-most (Single S484 i) = omega arith
 name-most (Single S996 i) = omega arith
+name-most (Single S2x996 i) = omega arith
 name-most (Joined P106And26 i) = omega arith
 name-most (Joined P484And242 i) = omega arith
+name-most (Joined P996And484 i) = omega arith
+name-most (Joined P3x996 i) = omega arith
+name-most (Joined P2x996And484 i) = omega arith
+name-most (Joined P3x996And484 i) = omega arith
 
 -- ---- an index is at most 37, the last 26's: 8 bits are enough
 pub piece-index : (q : ℕ) (x : Piece) → q < 4 → numberedOf x ≤ 9 → numberOf (resourceAt q x) ≤ 255
@@ -53,18 +59,19 @@ piece-index q (Part S106 i) h l = omega arith
 piece-index q (Part S242 i) h l = omega arith
 piece-index q (Part S484 i) h l = omega arith
 piece-index q (Part S996 i) h l = omega arith
+piece-index q (Part S2x996 i) h l = omega arith
 piece-index q (With26 i) h l = omega arith
 
-pub larger-index : (c q : ℕ) → c < 7 → q < 4 → numberOf (larger c q) ≤ 255
+abbrev index-test : ℕ → ℕ → Bool
+index-test q c = leb (numberOf (larger c q)) 255
+
+indices-tested : T (below (λ q. below (index-test q) 36) 4)
 unfolding larger resourceColumn resourceAt indexOf
-larger-index zero q h l = omega arith
-larger-index (suc zero) q h l = omega arith
-larger-index (suc (suc zero)) q h l = omega arith
-larger-index (suc (suc (suc zero))) q h l = omega arith
-larger-index (suc (suc (suc (suc zero)))) q h l = omega arith
-larger-index (suc (suc (suc (suc (suc zero))))) q h l = omega arith
-larger-index (suc (suc (suc (suc (suc (suc zero)))))) q h l = omega arith
-larger-index (suc (suc (suc (suc (suc (suc (suc c))))))) q h l = absurd (omega arith)
+indices-tested = tt
+
+pub larger-index : (c q : ℕ) → c < 36 → q < 4 → numberOf (larger c q) ≤ 255
+larger-index c q h l =
+    leb→le (numberOf (larger c q)) 255 (every-below (index-test q) 36 (every-below (λ q. below (index-test q) 36) 4 indices-tested q l) c h)
 
 -- ---- that of the k-th resource that is listed at p, which is given to c
 module _ (c : ℕ) (row : ℕ → ℕ) (p k : ℕ) where
@@ -85,7 +92,7 @@ module _ (c : ℕ) (row : ℕ → ℕ) (p k : ℕ) where
       go true = refl
       go false = refl
 
-  pub listed-index : c < 7 → numberOf (recordAt c row p k .resource) ≤ 255
+  pub listed-index : c < 36 → numberOf (recordAt c row p k .resource) ≤ 255
   unfolding recordAt
   listed-index h = go (eqb c 0)
     where

@@ -9,7 +9,7 @@ use Rattle.answer.specs.Lists.{filled, at}
 use Rattle.answer.proofs.Lists.{getD-filled}
 use Rattle.bits.specs.Bits.{field}
 use Rattle.resource.specs.Names.{numberOf}
-use Rattle.plan.specs.Signals.{Signals}
+use Rattle.kinds.specs.Signals.{Signals}
 use Rattle.plan.specs.Worked.{thePlan}
 use Rattle.records.specs.declared.Record.{Record}
 use Rattle.records.specs.Records.{recordsFrom, recordsOf, blank}

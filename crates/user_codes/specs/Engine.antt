@@ -10,7 +10,7 @@ use Rattle.bits.specs.Bits.{field}
 use Rattle.resource.specs.declared.Resource.{Resource}
 use Rattle.resource.specs.Names.{nameOf, numberOf}
 use Rattle.resource.specs.Engine.{pieceAt}
-use Rattle.plan.specs.Kinds.{itself}
+use Rattle.kinds.specs.Kinds.{itself}
 use Rattle.plan.specs.Engine.{onlyPlan}
 use Rattle.records.specs.declared.Record.{Record}
 use Rattle.records.specs.Records.{pieceRecord, largerRecord, recordsOf, blank}

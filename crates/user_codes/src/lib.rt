@@ -23,7 +23,7 @@ fn code_of(r: Resource, segment: u16) -> u32
 
 // Of the k-th resource whose lowest position is p, which is given to this kind.
 fn code_at(kind: u16, row: &[u16], p: usize, k: u16) -> u32
-    requires { ⌜ (length (now row) ≤ 16) × (p < length (now row)) × (kind < 7) ⌝ }
+    requires { ⌜ (length (now row) ≤ 16) × (p < length (now row)) × (kind < 36) ⌝ }
     ensures { λ x. ⌜ x ≡ listedCode kind (at (now (row .entry))) p k ⌝ }
 {
     if kind == 0 {
@@ -38,7 +38,7 @@ fn code_at(kind: u16, row: &[u16], p: usize, k: u16) -> u32
 
 // Enters those of the resources whose lowest position is p, from number i on; returns the number after them.
 fn enter_codes(codes: &mut [u32; 144], row: &[u16], kind: u16, p: usize, i: usize) -> usize
-    requires { ⌜ (length (now row) ≤ 16) × (p < length (now row)) × (kind ≡ onlyPlan (at (now row)) p) × (kind < 7) ⌝ }
+    requires { ⌜ (length (now row) ≤ 16) × (p < length (now row)) × (kind ≡ onlyPlan (at (now row)) p) × (kind < 36) ⌝ }
     requires { ⌜ (i ≡ length (recordsFrom (onlyPlan (at (now row))) (at (now row)) p))
         × (now codes ≡ filled (resourceCodes (now row)) i (replicate 144 0)) ⌝ }
     ensures { λ r. ⌜ r ≡ length (recordsFrom (onlyPlan (at (now (row .entry)))) (at (now (row .entry))) (p + 1)) ⌝ }

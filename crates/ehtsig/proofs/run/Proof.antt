@@ -3,7 +3,7 @@ use mathlib.Core.Path.{sym}
 use lib.Seq.{length-take-le}
 use native.Mathlib.Omega.{arith}
 use Rattle.text.proofs.Laws.{kept}
-use Rattle.listed.proofs.Longest.{respond-most}
+use Rattle.listing_size.proofs.Longest.{respond-most}
 use borrow.Author.Needs.{needs}
 use Rattle.ehtsig.proofs.run.Statement.{statement}
 use Rattle.ehtsig.proofs.run.Tie as tie

@@ -2,7 +2,7 @@
 use native.Mathlib.Omega.{arith}
 use Rattle.listing.proofs.Outcome.{too-short, at-once, listed}
 use Rattle.both_halves.proofs.Accepted.{known-code}
-use Rattle.listed.proofs.Longest.{listing-within}
+use Rattle.listing_size.proofs.Longest.{listing-within}
 use Rattle.text.proofs.Laws.{count}
 use borrow.Author.Needs.{needs}
 use Rattle.listing.proofs.list_given.Statement.{statement}

@@ -1,6 +1,6 @@
 -- `listing::longest_of` meets its contract.
 use mathlib.Core.Path.{_≡_}
-use Rattle.listed.specs.Longest.{longestAt}
+use Rattle.listing_size.specs.Longest.{longestAt}
 use borrow.Author.Needs.{needs}
 use Rattle.listing.proofs.longest_of.Statement.{statement}
 use Rattle.listing.proofs.longest_of.Tie as tie

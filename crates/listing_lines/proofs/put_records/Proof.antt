@@ -19,7 +19,7 @@ abbrev Inv-loop : tie.InvT-loop
 Inv-loop out₀ at row kinds n o₀ p₀ out o p =
     (p ≤ n)
     × Wrote out₀ at (runsLines (length row) (recordsFrom (onlyPlan (value row)) (value row) p)) out o
-    × (o ≤ at + 240 * length (recordsFrom (onlyPlan (value row)) (value row) p))
+    × (o ≤ at + 460 * length (recordsFrom (onlyPlan (value row)) (value row) p))
 
 abbrev μ-loop : tie.MeasureT-loop
 μ-loop out₀ at row kinds n o₀ p₀ out o p = n - p

@@ -17,7 +17,7 @@ use Rattle.position_lines.proofs.put_pieces.Tie as tie
 
 abbrev Inv-loop : tie.InvT-loop
 Inv-loop out₀ at n v p here e₀ k₀ out e k =
-    (k ≤ here) × Wrote out₀ at (upto (λ i. runsLine n (getD (listAt 0 (λ q. v) p) i blank)) k) out e × (e ≤ at + 240 * k)
+    (k ≤ here) × Wrote out₀ at (upto (λ i. runsLine n (getD (listAt 0 (λ q. v) p) i blank)) k) out e × (e ≤ at + 460 * k)
 
 abbrev μ-loop : tie.MeasureT-loop
 μ-loop out₀ at n v p here e₀ k₀ out e k = here - k

@@ -1,52 +1,32 @@
--- The most bytes of each line of a listing: of the six before the resources, and of a resource's; and the bytes of the resources' lines,
--- position by position.
+-- The most bytes of each line of a listing: of the six before the resources, and of a resource of whole positions; and the bytes of the
+-- resources' lines, position by position.
 use mathlib.Core.Path.{_≡_, refl, _∙_}
 use mathlib.Core.Bool.{Bool, true, false, cond}
 use mathlib.Core.List.{List, [], _∷_, _++_}
-use Prim.Native.Nat.{ℕ, zero, suc, _+_, _*_, _≤_, _<_}
-use native.Mathlib.Nat.{suc-mul, add-zero, add-suc}
+use Prim.Native.Nat.{ℕ, zero, suc, _+_, _/_, _%_, _^_, _≤_, _<_}
 use native.Mathlib.Omega.{arith}
-use lib.Dec.{ltb}
+use lib.Dec.{T, ltb, leb, leb→le}
 use lib.ListN.{length, getD, length-append}
 use borrow.Author.Tests.{ltb-true}
-use Rattle.resource.specs.declared.Size.the-variants.{S26, S52, S106, S242, S484, S996}
-use Rattle.resource.specs.declared.Pairing.the-variants.{P106And26, P484And242}
+use Rattle.resource.specs.declared.Size.the-variants.{S26, S52, S106, S242, S484, S996, S2x996}
+use Rattle.resource.specs.declared.Pairing.the-variants.{P106And26, P484And242, P996And484, P3x996, P2x996And484, P3x996And484}
 use Rattle.resource.specs.declared.Resource.{Resource}
 use Rattle.resource.specs.declared.Resource.the-variants.{Single, Joined}
 use Rattle.resource.specs.Names.{numberOf}
-use Rattle.resource.specs.Tones.{noSpan, tonesOf}
-use Rattle.resource.proofs.Few.{tones-few}
+use Rattle.resource.specs.Places.{segmentsOf, placesOf}
+use Rattle.resource.specs.Index.{indexOf, resourceAt, positionOf, placeOf}
+use Rattle.resource.specs.Tones.{Span, tonesAt, tonesLeavingOut, tonesJoined, tonesOf}
+use Rattle.resource.proofs.Test.{below, every-below}
 use Rattle.records.specs.declared.Record.{Record}
-use Rattle.records.specs.Records.{listAt, recordsFrom, blank}
-use Rattle.records.proofs.Sums.{sumTo}
-use Rattle.text.specs.Text.{dec, upto}
-use Rattle.text.proofs.Laws.{dec-short, dec-fit, upto-short}
-use Rattle.resource_line.specs.ResourceLine.{nameText, spanText, tonesText, ruName, ruHead, ruLine}
+use Rattle.records.specs.Records.{resourceColumn, larger, listAt, recordsFrom, blank}
+use Rattle.records.proofs.Sums.{sumTo, sum-first}
+use Rattle.text.specs.Text.{dec, signed, upto}
+use Rattle.text.proofs.Laws.{dec-short, dec-fit}
+use Rattle.resource_line.specs.ResourceLine.{nameText, comma, tonesText, ruName, ruHead, ruLine}
 use Rattle.lines.specs.Lines.{headText}
-use Rattle.resource_line.proofs.LineLaws.{span-short}
 use Rattle.listed.specs.Listing.{recordLine, ruLines}
 
--- ---- sums
-sum-front : (g : ℕ → ℕ) (n : ℕ) → sumTo g (suc n) ≡ g 0 + sumTo (λ i. g (suc i)) n
-sum-front g zero = omega arith
-sum-front g (suc n) = omega (arith, sum-front g n)
-
-pub sum-split : (g : ℕ → ℕ) (a b : ℕ) → sumTo g (a + b) ≡ sumTo g a + sumTo (λ k. g (a + k)) b
-sum-split g a zero = rw (add-zero a) (omega arith)
-sum-split g a (suc b) = rw (add-suc a b) (omega (arith, sum-split g a b))
-
-pub sum-most : (g h : ℕ → ℕ) (n : ℕ) → ((i : ℕ) → i < n → g i ≤ h i) → sumTo g n ≤ sumTo h n
-sum-most g h zero e = omega arith
-sum-most g h (suc n) e = omega (arith, sum-most g h n (λ i l. e i (omega arith)), e n (omega arith))
-
-pub sum-each : (g : ℕ → ℕ) (m n : ℕ) → ((i : ℕ) → i < n → g i ≤ m) → sumTo g n ≤ n * m
-sum-each g m zero e = omega arith
-sum-each g m (suc n) e = let h = sum-each g m n (λ i l. e i (omega arith)) in let k = e n (omega arith) in rw (suc-mul n m) (omega arith)
-
-pub sum-both : (g h f : ℕ → ℕ) (n : ℕ) → ((i : ℕ) → i < n → g i + h i ≤ f i) → sumTo g n + sumTo h n ≤ sumTo f n
-sum-both g h f zero e = omega arith
-sum-both g h f (suc n) e = omega (arith, sum-both g h f n (λ i l. e i (omega arith)), e n (omega arith))
-
+-- ---- a text of n parts
 pub upto-sum : (f : ℕ → List ℕ) (n : ℕ) → length (upto f n) ≡ sumTo (λ i. length (f i)) n
 unfolding upto
 upto-sum f zero = refl
@@ -83,8 +63,8 @@ head-most bw r m k s r′ m′ k′ l a b c d x y z =
       dec-most s (m′ + k′) (omega arith) (omega arith),
     ))
 
--- ---- a line of any resource
-name-short : (r : Resource) → length (nameText r) ≤ 7
+-- ---- the line of a resource of whole positions
+name-short : (r : Resource) → length (nameText r) ≤ 9
 unfolding nameText
 name-short (Single S26 i) = omega arith
 name-short (Single S52 i) = omega arith
@@ -92,22 +72,34 @@ name-short (Single S106 i) = omega arith
 name-short (Single S242 i) = omega arith
 name-short (Single S484 i) = omega arith
 name-short (Single S996 i) = omega arith
+name-short (Single S2x996 i) = omega arith
 name-short (Joined P106And26 i) = omega arith
 name-short (Joined P484And242 i) = omega arith
+name-short (Joined P996And484 i) = omega arith
+name-short (Joined P3x996 i) = omega arith
+name-short (Joined P2x996And484 i) = omega arith
+name-short (Joined P3x996And484 i) = omega arith
 
-tones-short : (n g : ℕ) (r : Resource) → length (tonesText (tonesOf n g r)) ≤ 176
-unfolding tonesText
-tones-short n g r =
-    let ss = tonesOf n g r in
-    let h = upto-short (λ i. spanText i (getD ss i noSpan)) 44 (length ss) (λ i l. span-short i (getD ss i noSpan)) in
-    omega (arith, tones-few n g r)
-
-ru-short : (n : ℕ) (x : Record) → length (recordLine n x) ≤ 280
+ru-short : (g u : ℕ) (r : Resource) (ss : List Span) → length (tonesText ss) ≤ 96 → length (ruLine g r u ss) ≤ 200
 unfolding ruLine ruHead ruName
-ru-short n x =
-    let r = x .resource in
-    simp length-append
-    (omega (arith, name-short r, dec-short (numberOf r), dec-short (x .segment), dec-short (x .fields1 + x .fields2), tones-short n (x .segment) r))
+ru-short g u r ss l = simp length-append (omega (arith, name-short r, dec-short (numberOf r), dec-short g, dec-short u))
+
+-- eight runs at most, "-2036:-1540" with a comma each
+abbrev tones-test : ℕ → ℕ → ℕ → Bool
+tones-test n p c = leb (length (tonesText (tonesOf n (p / 4) (larger c (p % 4))))) 96
+
+tones-tested : T (below (λ b. below (λ p. below (tones-test (2 ^ b) p) 36) (2 ^ b)) 5)
+unfolding dec signed upto comma tonesText larger resourceColumn resourceAt indexOf positionOf placeOf segmentsOf placesOf tonesAt
+    tonesLeavingOut tonesJoined tonesOf
+tones-tested = tt
+
+-- the one of kind c at position p, with u User fields
+pub whole-short : (b p c u : ℕ) → b < 5 → p < 2 ^ b → c < 36
+    → length (ruLine (p / 4) (larger c (p % 4)) u (tonesOf (2 ^ b) (p / 4) (larger c (p % 4)))) ≤ 200
+whole-short b p c u h l i =
+    let t = every-below (λ b. below (λ p. below (tones-test (2 ^ b) p) 36) (2 ^ b)) 5 tones-tested b h in
+    ru-short (p / 4) u (larger c (p % 4)) (tonesOf (2 ^ b) (p / 4) (larger c (p % 4)))
+    (leb→le _ 96 (every-below (tones-test (2 ^ b) p) 36 (every-below (λ p. below (tones-test (2 ^ b) p) 36) (2 ^ b) t p l) c i))
 
 -- ---- the lines of the resources, by position
 abbrev pub sizes : ℕ → List Record → ℕ
@@ -120,15 +112,11 @@ lines-sizes n rs = upto-sum (λ i. recordLine n (getD rs i blank)) (length rs) �
   where
     go : (rs : List Record) → sumTo (λ i. length (recordLine n (getD rs i blank))) (length rs) ≡ sizes n rs
     go [] = refl
-    go (x ∷ xs) = sum-front (λ i. length (recordLine n (getD (x ∷ xs) i blank))) (length xs) ∙ omega (arith, go xs)
+    go (x ∷ xs) = sum-first (λ i. length (recordLine n (getD (x ∷ xs) i blank))) (length xs) ∙ omega (arith, go xs)
 
 sizes-append : (n : ℕ) (rs ss : List Record) → sizes n (rs ++ ss) ≡ sizes n rs + sizes n ss
 sizes-append n [] ss = omega arith
 sizes-append n (x ∷ rs) ss = omega (arith, sizes-append n rs ss)
-
-pub sizes-short : (n : ℕ) (rs : List Record) → sizes n rs ≤ 280 * length rs
-sizes-short n [] = omega arith
-sizes-short n (x ∷ rs) = omega (arith, sizes-short n rs, ru-short n x)
 
 module _ (o row : ℕ → ℕ) where
   pub sizes-positions : (n m : ℕ) → sizes n (recordsFrom o row m) ≡ sumTo (λ p. sizes n (listAt (o p) row p)) m

@@ -5,9 +5,8 @@ use mathlib.Core.Bool.{Bool, true, false, cond}
 use mathlib.Core.List.{List, [], _∷_, _++_}
 use Prim.Native.Nat.{ℕ, zero, suc, _+_, _-_, _*_, _%_, _^_, _≤_, _<_}
 use native.Mathlib.Omega.{arith}
-use lib.Dec.{leb, eqb, leb→le}
+use lib.Dec.{ltb, leb, eqb, leb→le}
 use lib.ListN.{length, getD, length-append}
-use borrow.Author.Tests.{lt-ltb, le-ltb}
 use Rattle.answer.specs.declared.Outcome.{Outcome}
 use Rattle.answer.specs.declared.Outcome.the-variants.{Pass, Refuse}
 use Rattle.answer.specs.Lists.{build, at}
@@ -19,10 +18,9 @@ use Rattle.resource.specs.Tones.{tonesAt, tonesOf}
 use Rattle.resource.specs.Values.{carried, pieces, fieldsOf, divides, pieceFields, ownPieces}
 use Rattle.resource.proofs.Test.{every-below}
 use Rattle.resource.proofs.Fields.{fields-most}
-use Rattle.plan.specs.Signals.{Signals}
+use Rattle.kinds.specs.Signals.{Signals}
 use Rattle.plan.specs.Engine.{onlyPlan}
 use Rattle.records.specs.Records.{listAt}
-use Rattle.records.specs.Engine.{ownerOf}
 use Rattle.records.specs.Owns.{fieldsBefore}
 use Rattle.records.proofs.Sums.{sumTo}
 use Rattle.records.proofs.Listing.{records-most}
@@ -36,13 +34,14 @@ use Rattle.text.proofs.Laws.{count as written, dec-short}
 use Rattle.input.specs.Worked.{Said, wrong, frame, said}
 use Rattle.resource_line.specs.ResourceLine.{nameText, comma, tonesText, ruName, ruHead, ruLine}
 use Rattle.lines.specs.Lines.{assigned, refusalText, headText}
 use Rattle.listed.specs.Listing.{resources, ruLines, ownerIn, staLineAt, staLines, stationsIn, listingOf}
 use Rattle.listed.specs.Listing.{listing, outcomeText, frameText, saidText, programText}
 use Rattle.both_halves.proofs.Accepted.{known-code, accepted-signals}
 use Rattle.listed.proofs.Stations.{fields-1, fields-2}
-use Rattle.listed.specs.Longest.{longestAt}
-use Rattle.listed.proofs.Lengths.{sum-split, sum-most, upto-sum, headMost, head-most, sizes, lines-sizes, sizes-positions}
-use Rattle.listed.proofs.Charged.{staMost, sta-most, stas, stas-positions, both-channels, most, positions-charge}
+use Rattle.listing_size.specs.Longest.{longestAt}
+use Rattle.listed.proofs.ByPosition.{sum-most, owners-sum}
+use Rattle.listing_size.proofs.Lengths.{upto-sum, headMost, head-most, sizes, lines-sizes, sizes-positions}
+use Rattle.listing_size.proofs.Charged.{staMost, sta-most, stas, most, positions-charge}
 
 -- ---- the counts of the head
 fields-zeros : (c : ℕ) (row : ℕ → ℕ) (n : ℕ) → fieldsBefore c row n ≤ fieldsBefore c (λ p. 0) n
@@ -71,33 +70,22 @@ module _ (bw : ℕ) (r a b : List ℕ) where
   abbrev second : ℕ
   second = fieldsBefore 2 (at r) (length r)
 
-  abbrev found-in : ℕ → ℕ → ℕ
-  found-in c j = ownerOf (onlyPlan (at r)) (at r) c (length r) j
-
-  line-1 : (i : ℕ) → i < first → length (staLineAt bw r a b first i) ≤ staMost (found-in 1 i)
-  unfolding staLineAt ownerIn
-  line-1 i l = rw (lt-ltb i first l) (sta-most (stationAt bw a i) (found-in 1 i) (field-lt a (userAt bw i) 11))
-
-  line-2 : (j : ℕ) → length (staLineAt bw r a b first (first + j)) ≤ staMost (found-in 2 j)
-  unfolding staLineAt ownerIn
-  line-2 j =
-      let e : first + j - first ≡ j = omega arith in
-      rw (le-ltb (first + j) first (omega arith), e) (sta-most (stationAt bw b j) (found-in 2 j) (field-lt b (userAt bw j) 11))
+  line-most : (i : ℕ) → length (staLineAt bw r a b first i) ≤ staMost (ownerIn r first i)
+  unfolding staLineAt
+  line-most i = sta-most (stationOf bw a b first i) (ownerIn r first i) (go (ltb i first))
+    where
+      go : (t : Bool) → cond t (stationAt bw a i) (stationAt bw b (i - first)) < 2048
+      go true = field-lt a (userAt bw i) 11
+      go false = field-lt b (userAt bw (i - first)) 11
 
   stations-most : length (staLines bw r a b first (first + second)) ≤ sumTo (stas (onlyPlan (at r)) (at r)) (length r)
   unfolding staLines
   stations-most =
-      let f : ℕ → ℕ = λ i. length (staLineAt bw r a b first i) in
-      let e : length (upto (staLineAt bw r a b first) (first + second)) ≡ sumTo f first + sumTo (λ j. f (first + j)) second =
-      upto-sum (staLineAt bw r a b first) (first + second) ∙ sum-split f first second in
       omega (
         arith,
-        e,
-        sum-most f (λ j. staMost (found-in 1 j)) first line-1,
-        sum-most (λ j. f (first + j)) (λ j. staMost (found-in 2 j)) second (λ j l. line-2 j),
-        stas-positions (onlyPlan (at r)) (at r) (length r) 1 (length r) (omega arith),
-        stas-positions (onlyPlan (at r)) (at r) (length r) 2 (length r) (omega arith),
-        both-channels (stas (onlyPlan (at r)) (at r)) (length r),
+        upto-sum (staLineAt bw r a b first) (first + second),
+        sum-most (λ i. length (staLineAt bw r a b first i)) (λ i. staMost (ownerIn r first i)) (first + second) (λ i l. line-most i),
+        owners-sum staMost r,
       )
 
   row-most : bw < 5 → length r ≡ 2 ^ bw → Signals (onlyPlan (at r)) (at r) 0 (length r) → length (listingOf bw r a b first second) ≤ longest (length r)

@@ -1,14 +1,15 @@
 -- The text of a listing is charged to the positions: to each the lines of the resources that are listed there, and a line for each User
 -- field that its value gives. At most nine resources are listed at a position, so the numbers of those at position p are at most 9 p + 9.
 -- No value has more text than 0, whose nine 26s have a field each.
-use mathlib.Core.Path.{_≡_, refl, ap, _∙_}
+use mathlib.Core.Path.{_≡_, refl, ap}
 use mathlib.Core.Bool.{Bool, true, false, cond, _&&_, _||_}
-use mathlib.Core.List.{[], _∷_, map}
-use Prim.Native.Nat.{ℕ, zero, suc, _+_, _*_, _%_, _^_, _≤_, _<_}
+use mathlib.Core.List.{List, [], _∷_, map}
+use Prim.Native.Nat.{ℕ, _+_, _*_, _%_, _^_, _≤_, _<_}
 use native.Mathlib.Omega.{arith}
-use lib.Dec.{T, ltb, leb, eqb, leb→le}
+use lib.Dec.{T, leb, eqb, leb→le}
 use lib.ListN.{length, length-append}
 use Rattle.resource.specs.declared.Size.the-variants.{S242}
+use Rattle.resource.specs.declared.Piece.{Piece}
 use Rattle.resource.specs.declared.Piece.the-variants.{Part}
 use Rattle.resource.specs.Index.{indexOf, resourceAt, positionOf, placeOf}
 use Rattle.resource.specs.Tones.{tonesAt, tonesOf}
@@ -16,14 +17,16 @@ use Rattle.resource.specs.Values.{between, carried, pieces, fieldsOf, divides, 
 use Rattle.resource.proofs.Test.{both-left, both-right, wherever, met, below, every-below}
 use Rattle.resource.proofs.Fields.{fields-most}
 use Rattle.resource.proofs.Pieces.{divided-low, none-left}
-use Rattle.plan.specs.Kinds.{span}
-use Rattle.plan.specs.Signals.{Signals}
-use Rattle.records.specs.Records.{inChannel, pieceRecord, lead, listAt}
-use Rattle.records.specs.Engine.{listed, ownerAt, ownerOf}
-use Rattle.records.specs.Owns.{fieldsBefore, number}
-use Rattle.records.proofs.Sums.{sumTo, sum-cong}
-use Rattle.records.proofs.Listing.{own-list, list-length, records-most}
-use Rattle.records.proofs.Owners.{found-left, divided-itself}
+use Rattle.kinds.specs.Kinds.{span}
+use Rattle.kinds.specs.Signals.{Signals}
+use Rattle.kinds.proofs.Fitting.{known}
+use Rattle.records.specs.declared.Record.{Record}
+use Rattle.records.specs.Records.{pieceRecord, lead, resourceColumn, larger, largerRecord, listAt}
+use Rattle.records.specs.Engine.{ownerAt}
+use Rattle.records.specs.Owns.{number}
+use Rattle.records.proofs.Sums.{sumTo}
+use Rattle.records.proofs.Listing.{own-list, records-most}
+use Rattle.records.proofs.Owners.{divided-itself}
 use Rattle.channel.specs.Layout.{positions}
 use Rattle.channel.proofs.Laws.{positions-le}
 use Rattle.text.specs.Text.{dec, signed, upto}
@@ -31,8 +34,10 @@ use Rattle.text.proofs.Laws.{dec-fit}
 use Rattle.resource_line.specs.ResourceLine.{nameText, comma, tonesText, ruName, ruHead, ruLine}
 use Rattle.lines.specs.Lines.{staLine}
 use Rattle.lines.proofs.LineLaws.{id-short}
-use Rattle.listed.proofs.Owner.{at-small}
-use Rattle.listed.proofs.Lengths.{sum-split, sum-most, sum-each, sum-both, digits, dec-most, sizes, sizes-short}
+use Rattle.listed.specs.Listing.{recordLine}
+use Rattle.listing_size.proofs.Owner.{at-small}
+use Rattle.listed.proofs.ByPosition.{sum-most, sum-each, sum-both, owned, fields-whole}
+use Rattle.listing_size.proofs.Lengths.{digits, dec-most, sizes, whole-short}
 
 -- ---- the lines of the stations, by position
 -- a STA-ID has at most four digits, and none has four letters
@@ -43,45 +48,17 @@ pub sta-most : (id x : ℕ) → id < 2048 → length (staLine id (x + 1)) ≤ st
 unfolding staLine
 sta-most id x l = simp length-append (omega (arith, id-short id (omega arith)))
 
-module _ (o row : ℕ → ℕ) where
-  abbrev pub stas : ℕ → ℕ
-  stas p = sumTo (λ k. staMost (ownerAt o row p k)) (fieldsOf (row p))
-
-  pub stas-positions : (n c m : ℕ) → m ≤ n
-      → sumTo (λ j. staMost (ownerOf o row c n j)) (fieldsBefore c row m) ≡ sumTo (λ p. inChannel c p (stas p)) m
-  stas-positions n c zero h = refl
-  stas-positions n c (suc m) h =
-      sum-split (λ j. staMost (ownerOf o row c n j)) (fieldsBefore c row m) (inChannel c m (fieldsOf (row m)))
-      ∙ omega (arith, stas-positions n c m (omega arith), last (eqb (m % 2 + 1) c) refl)
-    where
-      last : (t : Bool) → eqb (m % 2 + 1) c ≡ t
-          → sumTo (λ k. staMost (ownerOf o row c n (fieldsBefore c row m + k))) (inChannel c m (fieldsOf (row m))) ≡ inChannel c m (stas m)
-      last true e =
-          rw e
-          (sum-cong (λ k. staMost (ownerOf o row c n (fieldsBefore c row m + k))) (λ k. staMost (ownerAt o row m k)) (fieldsOf (row m))
-          (λ k l. ap staMost (found-left o row c m n (fieldsBefore c row m + k) k (omega arith) refl (rw e l))))
-      last false e = rw e
-
-each-channel : (p f : ℕ) → inChannel 1 p f + inChannel 2 p f ≡ f
-each-channel p f = go (p % 2) (omega arith)
-  where
-    go : (t : ℕ) → t < 2 → cond (eqb (t + 1) 1) f 0 + cond (eqb (t + 1) 2) f 0 ≡ f
-    go zero l = omega arith
-    go (suc zero) l = omega arith
-    go (suc (suc t)) l = absurd (omega arith)
-
-pub both-channels : (g : ℕ → ℕ) (n : ℕ) → sumTo (λ p. inChannel 1 p (g p)) n + sumTo (λ p. inChannel 2 p (g p)) n ≡ sumTo g n
-both-channels g zero = refl
-both-channels g (suc n) = omega (arith, both-channels g n, each-channel n (g n))
+abbrev pub stas : (ℕ → ℕ) → (ℕ → ℕ) → ℕ → ℕ
+stas o row p = owned staMost o row p
 
 -- ---- the most text of a position
 -- of a value v that divides position p of n
 abbrev pub most : ℕ → ℕ → ℕ → ℕ
 most n p v = sizes n (map (pieceRecord (λ q. v) p) (ownPieces v)) + sumTo (λ k. 19 + digits (9 * p + k + 1)) (fieldsOf v)
 
--- no value has more than 0; one that divides nothing lists at most one resource, and gives it at most eight fields: 280 + 8 * 22 bytes
+-- no value has more than 0; one that divides nothing lists at most one resource, and gives it at most eight fields: 200 + 8 * 22 bytes
 abbrev position-test : ℕ → ℕ → Bool
-position-test n p = leb 456 (most n p 0) && below (λ v. wherever (divides v) (leb (most n p v) (most n p 0))) 51
+position-test n p = leb 376 (most n p 0) && below (λ v. wherever (divides v) (leb (most n p v) (most n p 0))) 51
 
 tested : T (below (λ b. below (position-test (2 ^ b)) (2 ^ b)) 5)
 unfolding dec signed upto carried pieces fieldsOf ownPieces indexOf resourceAt positionOf placeOf tonesAt tonesOf divides pieceFields
@@ -92,35 +69,35 @@ module _ (b p : ℕ) (h : b < 5) (l : p < 2 ^ b) where
   here : T (position-test (2 ^ b) p)
   here = every-below (position-test (2 ^ b)) (2 ^ b) (every-below (λ b. below (position-test (2 ^ b)) (2 ^ b)) 5 tested b h) p l
 
-  zero-least : 456 ≤ most (2 ^ b) p 0
-  zero-least = leb→le 456 (most (2 ^ b) p 0) (both-left (leb 456 (most (2 ^ b) p 0)) _ here)
+  zero-least : 376 ≤ most (2 ^ b) p 0
+  zero-least = leb→le 376 (most (2 ^ b) p 0) (both-left (leb 376 (most (2 ^ b) p 0)) _ here)
 
   zero-most : (v : ℕ) → divides v ≡ true → most (2 ^ b) p v ≤ most (2 ^ b) p 0
   zero-most v d =
       leb→le (most (2 ^ b) p v) (most (2 ^ b) p 0)
       (met (divides v) (leb (most (2 ^ b) p v) (most (2 ^ b) p 0))
       (every-below (λ v. wherever (divides v) (leb (most (2 ^ b) p v) (most (2 ^ b) p 0))) 51
-      (both-right (leb 456 (most (2 ^ b) p 0)) _ here) v (divided-low v d))
+      (both-right (leb 376 (most (2 ^ b) p 0)) _ here) v (divided-low v d))
       (rw d tt))
 
-pub one-listed : (c p v : ℕ) → divides v ≡ false → listed c p v ≤ 1
-unfolding listed ownPieces
-one-listed c p v d = go (eqb c 0) (eqb v 28 || between 64 71 v) (eqb (p % span c) (lead c))
-  where
-    go : (s t u : Bool) → cond s (length (cond t (Part S242 1 ∷ []) (pieces v))) (cond u 1 0) ≤ 1
-    go true true u = omega arith
-    go true false u = omega (arith, none-left v d)
-    go false t true = omega arith
-    go false t false = omega arith
+-- which is one of whole positions
+no-sizes : (n : ℕ) (f : Piece → Record) (xs : List Piece) → length xs ≡ 0 → sizes n (map f xs) ≤ 200
+no-sizes n f [] e = omega arith
+no-sizes n f (x ∷ xs) e = absurd (omega arith)
 
-pub fields-whole : (v : ℕ) → divides v ≡ false → fieldsOf v ≤ 8
-unfolding fieldsOf
-fields-whole v d = go (ltb v 64) (carried v)
+one-size : (n : ℕ) (x : Record) → length (recordLine n x) ≤ 200 → sizes n (x ∷ []) ≤ 200
+one-size n x l = omega arith
+
+whole-sizes : (c : ℕ) (row : ℕ → ℕ) (b p : ℕ) → b < 5 → p < 2 ^ b → c < 36 → divides (row p) ≡ false → sizes (2 ^ b) (listAt c row p) ≤ 200
+unfolding listAt ownPieces larger resourceColumn
+whole-sizes c row b p h l i d = go (eqb c 0) (eqb (row p) 28 || between 64 71 (row p)) (eqb (p % span c) (lead c))
   where
-    go : (s t : Bool) → cond s (length (pieces v)) (cond t (v % 8 + 1) 0) ≤ 8
-    go true t = omega (arith, none-left v d)
-    go false true = omega arith
-    go false false = omega arith
+    go : (s t u : Bool) → sizes (2 ^ b)
+        (cond s (map (pieceRecord row p) (cond t (Part S242 1 ∷ []) (pieces (row p)))) (cond u (largerRecord c row p ∷ []) [])) ≤ 200
+    go true true u = one-size (2 ^ b) (pieceRecord row p (Part S242 1)) (whole-short b p 0 _ h l (omega arith))
+    go true false u = no-sizes (2 ^ b) (pieceRecord row p) (pieces (row p)) (none-left (row p) d)
+    go false t true = one-size (2 ^ b) (largerRecord c row p) (whole-short b p c _ h l i)
+    go false t false = omega arith
 
 below-16 : (b p : ℕ) → b < 5 → p < 2 ^ b → p < 16
 unfolding positions
@@ -149,7 +126,8 @@ module _ (o row : ℕ → ℕ) (b : ℕ) (h : b < 5) (s : Signals o row 0 (2 ^ b
       let t : stas o row p ≤ fieldsOf (row p) * 22 =
       sum-each (λ k. staMost (ownerAt o row p k)) 22 (fieldsOf (row p))
       (λ k m. omega (arith, dec-fit 2 (ownerAt o row p k + 1) (omega (arith, at-small o row p k, below-16 b p h l, fields-most (row p))))) in
-      omega (arith, fields-whole (row p) d, sizes-short (2 ^ b) (listAt (o p) row p), list-length (o p) row p, one-listed (o p) p (row p) d, zero-least b p h l)
+      let c = known (o p) p (row p) (s .fits p (omega arith) l) in
+      omega (arith, fields-whole (row p) d, whole-sizes (o p) row b p h l c d, zero-least b p h l)
 
   position-charge : (p : ℕ) → p < 2 ^ b → charge p ≤ most (2 ^ b) p 0
   position-charge p l = go (divides (row p)) refl

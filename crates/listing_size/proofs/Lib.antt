@@ -1,0 +1,5 @@
+pub mod Owner
+pub mod Lengths
+pub mod Charged
+pub mod Longest
+pub mod Attained
