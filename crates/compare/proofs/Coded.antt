@@ -16,7 +16,7 @@ use Rattle.bits.proofs.Fields.{field-lt}
 use Rattle.resource.specs.Names.{nameOf, numberOf}
 use Rattle.resource.proofs.Names.{named-back}
 use Rattle.plan.specs.Worked.{thePlan}
-use Rattle.plan.specs.Signals.{Signals}
+use Rattle.kinds.specs.Signals.{Signals}
 use Rattle.records.specs.declared.Record.{Record}
 use Rattle.records.specs.Records.{recordsOf, blank}
 use Rattle.records.specs.Owns.{fieldsBefore}

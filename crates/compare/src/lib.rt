@@ -17,7 +17,7 @@ ghost use Rattle.plan.specs.Engine.{kindsOf};
 ghost use Rattle.halves.specs.Table.{outcome11};
 ghost use Rattle.both_halves.specs.Engine.{Given};
 ghost use Rattle.compared.specs.Differences.{longer};
-ghost use Rattle.compared.specs.Size.{compareSize};
+ghost use Rattle.compare_size.specs.Size.{compareSize};
 ghost use Rattle.compared.specs.Text.{comparisonText, compareAnswer, compareAfter};
 ghost use Rattle.compare.specs.Engine.{overflowTurn, valueTurn, commonText, bandwidthText, refusalsText};
 ghost use Rattle.compare.specs.Engine.{sameCode, codeIf, codeTurn, codeIn72, codeAt, codeTurns, fieldsText};
@@ -111,7 +111,7 @@ fn put_common(
     requires { ⌜ (length (now row) ≤ 16) × (length (now row2) ≡ length (now row)) × (now kinds ≡ kindsOf (now row))
         × (now kinds2 ≡ kindsOf (now row2)) ⌝ }
     ensures { λ r. ⌜ Wrote (now (out .entry)) 0 (commonText v w (now (row .entry)) (now (row2 .entry))) (now (out .exit)) r ⌝ }
-    ensures bounded { λ r. ⌜ r ≤ 80000 ⌝ }
+    ensures bounded { λ r. ⌜ r ≤ 140000 ⌝ }
 {
     let a = put_overflows(out, v, w);
     let b = put_values(out, a, row, row2);
@@ -188,7 +188,7 @@ fn put_users(
     n1: usize,
     n: usize,
 ) -> usize
-    requires { ⌜ (at ≤ 80000) × (m ≤ 144) × (n ≤ 144) ⌝ }
+    requires { ⌜ (at ≤ 140000) × (m ≤ 144) × (n ≤ 144) ⌝ }
     ensures { λ r. ⌜ Wrote (now (out .entry)) at
         (codeTurns (codeAt (now (x1 .entry)) (now (x2 .entry)) m1) m (codeAt (now (y1 .entry)) (now (y2 .entry)) n1) n) (now (out .exit)) r ⌝ }
 {
@@ -228,7 +228,7 @@ fn put_fields(
     m2: usize,
     k2: usize,
 ) -> usize
-    requires { ⌜ (at ≤ 80000) × (length (now row) ≤ 16) × (length (now row2) ≤ 16) × (now kinds ≡ kindsOf (now row))
+    requires { ⌜ (at ≤ 140000) × (length (now row) ≤ 16) × (length (now row2) ≤ 16) × (now kinds ≡ kindsOf (now row))
         × (now kinds2 ≡ kindsOf (now row2)) × (m ≤ 72) × (k ≤ 72) × (m2 ≤ 72) × (k2 ≤ 72) ⌝ }
     ensures { λ r. ⌜ Wrote (now (out .entry)) at
         (fieldsText bw (now (a .entry)) (now (b .entry)) (now (row .entry)) m k (now (c .entry)) (now (d .entry)) (now (row2 .entry)) m2 k2)

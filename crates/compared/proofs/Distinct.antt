@@ -10,8 +10,8 @@ use lib.ListN.{length, getD}
 use lib.Signed.{mag, leZ, leZ-yes, ≤ℤ-refl}
 use Rattle.answer.specs.declared.Outcome.the-variants.{Pass}
 use Rattle.answer.specs.Lists.{at}
-use Rattle.resource.specs.declared.Size.the-variants.{S26, S52, S106, S242, S484, S996}
-use Rattle.resource.specs.declared.Pairing.the-variants.{P106And26, P484And242}
+use Rattle.resource.specs.declared.Size.the-variants.{S26, S52, S106, S242, S484, S996, S2x996}
+use Rattle.resource.specs.declared.Pairing.the-variants.{P106And26, P484And242, P996And484, P3x996, P2x996And484, P3x996And484}
 use Rattle.resource.specs.declared.Resource.{Resource}
 use Rattle.resource.specs.declared.Resource.the-variants.{Single, Joined}
 use Rattle.resource.specs.Names.{nameOf}
@@ -37,8 +37,13 @@ some-named (Single S106 i) = omega arith
 some-named (Single S242 i) = omega arith
 some-named (Single S484 i) = omega arith
 some-named (Single S996 i) = omega arith
+some-named (Single S2x996 i) = omega arith
 some-named (Joined P106And26 i) = omega arith
 some-named (Joined P484And242 i) = omega arith
+some-named (Joined P996And484 i) = omega arith
+some-named (Joined P3x996 i) = omega arith
+some-named (Joined P2x996And484 i) = omega arith
+some-named (Joined P3x996And484 i) = omega arith
 
 some-tone : (r : Resource) (ss : List Span) → RightSpans r ss → (k : ℤ) × Among k ss
 some-tone r [] w = absurd (let e : 0 ≡ nameOf r = ap mag (w .named) in omega (arith, some-named r))

@@ -13,8 +13,3 @@ pub mod Pairwise
 pub mod Apart
 pub mod Once
 pub mod InOrder
-pub mod LineLengths
-pub mod ResourceLengths
-pub mod Beside
-pub mod Charges
-pub mod Within

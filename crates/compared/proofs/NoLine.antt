@@ -13,7 +13,7 @@ use Rattle.bits.specs.Bits.{field}
 use Rattle.bits.specs.Pack.{pack, unpack}
 use Rattle.bits.proofs.Fields.{field-lt}
 use Rattle.bits.proofs.Pack.{pack-unpack}
-use Rattle.plan.specs.Fields.{fieldsTo}
+use Rattle.kinds.specs.Fields.{fieldsTo}
 use Rattle.records.specs.Records.{blank}
 use Rattle.channel.specs.Layout.{positions, overflow, row, count, userAt}
 use Rattle.channel.specs.Fields.{overflowWidths}

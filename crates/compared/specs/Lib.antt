@@ -1,7 +1,6 @@
 pub mod Reading
 pub mod Differences
 pub mod Text
-pub mod Size
 pub mod Program
 pub mod Exact
 pub mod InOrder

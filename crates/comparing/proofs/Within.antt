@@ -9,9 +9,9 @@ use Rattle.text.proofs.Laws.{count, dec-short}
 use Rattle.captures.specs.Worked.{SaidTwo, wrong-six, frames, saidTwo}
 use Rattle.lines.specs.Lines.{refusalText}
 use Rattle.listed.specs.Listing.{refusalOf}
-use Rattle.compared.specs.Size.{compareSize}
+use Rattle.compare_size.specs.Size.{compareSize}
 use Rattle.compared.specs.Program.{saidOfTwo, comparedText}
-use Rattle.compared.proofs.Within.{comparison-within}
+use Rattle.compare_size.proofs.Within.{comparison-within}
 
 wrong-short : (k : ℕ) → length (refusalOf (no 22 0 k)) ≤ 84
 unfolding refusalText

@@ -137,8 +137,13 @@ fn resource_named(size: u32, index: u16) -> Resource
         242 => Resource::Single(Size::S242, index),
         484 => Resource::Single(Size::S484, index),
         996 => Resource::Single(Size::S996, index),
+        1992 => Resource::Single(Size::S2x996, index),
         132 => Resource::Joined(Pairing::P106And26, index),
-        _ => Resource::Joined(Pairing::P484And242, index),
+        726 => Resource::Joined(Pairing::P484And242, index),
+        1480 => Resource::Joined(Pairing::P996And484, index),
+        2988 => Resource::Joined(Pairing::P3x996, index),
+        2476 => Resource::Joined(Pairing::P2x996And484, index),
+        _ => Resource::Joined(Pairing::P3x996And484, index),
     }
 }
 

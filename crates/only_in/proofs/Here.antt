@@ -10,9 +10,9 @@ use lib.ListN.{length, getD}
 use Rattle.resource.specs.Values.{ownPieces}
 use Rattle.resource.specs.Engine.{pieceAt}
 use Rattle.resource.proofs.Pieces.{own-piece}
-use Rattle.plan.specs.Kinds.{span}
-use Rattle.plan.proofs.Table.{spans}
-use Rattle.plan.proofs.Tests.{equal-or}
+use Rattle.kinds.specs.Kinds.{span}
+use Rattle.kinds.proofs.Table.{powers}
+use Rattle.kinds.proofs.Tests.{equal-or}
 use Rattle.records.specs.declared.Record.{Record}
 use Rattle.records.specs.Records.{listAt, recordsFrom, blank}
 use Rattle.records.proofs.Listing.{recordAt, list-at, own-length, own-record, larger-record, once-lead}
@@ -28,12 +28,14 @@ home z = 4 * z .segment + placeIn (z .resource)
 pub own-here : (v k : ℕ) → k < length (ownPieces v) → Own (pieceAt v k)
 own-here v k l = let w = own-piece v k l in record { there = w .0; single = omega (arith, w .1) }
 
-within-segment : (p s : ℕ) → (s ≡ 1) ⊎ ((s ≡ 2) ⊎ (s ≡ 4)) → p % 4 % s ≡ p % s
+within-segment : (p s : ℕ) → (s ≡ 1) ⊎ ((s ≡ 2) ⊎ ((s ≡ 4) ⊎ ((s ≡ 8) ⊎ (s ≡ 16)))) → p % 4 % s ≡ p % s % 4
 within-segment p s (inl e) = rw e (omega arith)
 within-segment p s (inr (inl e)) = rw e (omega arith)
-within-segment p s (inr (inr e)) = rw e (omega arith)
+within-segment p s (inr (inr (inl e))) = rw e (omega arith)
+within-segment p s (inr (inr (inr (inl e)))) = rw e (omega arith)
+within-segment p s (inr (inr (inr (inr e)))) = rw e (omega arith)
 
-module _ (c : ℕ) (row : ℕ → ℕ) (p k : ℕ) (h : c < 7) (l : k < length (listAt c row p)) where
+module _ (c : ℕ) (row : ℕ → ℕ) (p k : ℕ) (h : c < 36) (l : k < length (listAt c row p)) where
   own-home : c ≡ 0 → home (recordAt c row p k) ≡ p
   own-home e =
       let f = piece-place (p % 4) (pieceAt (row p) k) (omega arith) (own-here (row p) k (omega (arith, own-length c row p e))) in
@@ -41,7 +43,7 @@ module _ (c : ℕ) (row : ℕ → ℕ) (p k : ℕ) (h : c < 7) (l : k < length (
 
   larger-home : c ≢ 0 → home (recordAt c row p k) ≡ p
   larger-home n =
-      let f = larger-place c (p % 4) h n (omega arith) (within-segment p (span c) (spans c h) ∙ once-lead c row p k l) in
+      let f = larger-place c (p % 4) h n (omega arith) (within-segment p (span c) (powers c h) ∙ ap (λ (x : ℕ). x % 4) (once-lead c row p k l)) in
       rw (larger-record c row p k n, f) (omega arith)
 
   pub listed-home : home (getD (listAt c row p) k blank) ≡ p
@@ -67,7 +69,7 @@ has-none z (w ∷ ws) h = go (sameResource z w) refl (has-none z ws (λ k l. h (
     go false e f = f
 
 -- ---- in a plan o
-module _ (o row : ℕ → ℕ) (known : (q : ℕ) → o q < 7) (z : Record) where
+module _ (o row : ℕ → ℕ) (known : (q : ℕ) → o q < 36) (z : Record) where
   elsewhere : (q : ℕ) → q ≢ home z → hasSame z (listAt (o q) row q) ≡ false
   elsewhere q n =
       has-none z (listAt (o q) row q)

@@ -15,7 +15,7 @@ use Rattle.resource.specs.Values.{ownPieces}
 use Rattle.resource.specs.Engine.{pieceAt}
 use Rattle.plan.specs.Engine.{onlyPlan}
 use Rattle.plan.proofs.Only.{only-known}
-use Rattle.plan.proofs.Tests.{equal-or}
+use Rattle.kinds.proofs.Tests.{equal-or}
 use Rattle.records.specs.declared.Record.{Record}
 use Rattle.records.specs.Records.{pieceRecord, largerRecord, listAt, blank}
 use Rattle.records.specs.Engine.{listed}
@@ -37,7 +37,7 @@ use Rattle.only_in.proofs.There.{piece-there, larger-there}
 use Rattle.only_in.proofs.Lines.{linesBy, by-none, by-one, by-position, by-cong, onlyLine, no-sided, one-sided, kept-lines}
 
 -- ---- at position p of the row r, which is given to c; in the row t it is given to d
-module _ (s : ℕ) (r t : List ℕ) (p c d : ℕ) (h : c < 7) (i : d < 7) where
+module _ (s : ℕ) (r t : List ℕ) (p c d : ℕ) (h : c < 36) (i : d < 36) where
   abbrev line : Record → List ℕ
   line z = onlyLine s (runsLine (length r)) (listAt d (at t) p) z
 

@@ -13,8 +13,8 @@ use Rattle.resource.specs.Names.{nameOf}
 use Rattle.resource.specs.Values.{set-at, ownPieces}
 use Rattle.resource.specs.Index.{resourceAt}
 use Rattle.resource.specs.Engine.{noPiece, pieceAt}
-use Rattle.plan.specs.Kinds.{span}
-use Rattle.plan.proofs.Tests.{equal-or}
+use Rattle.kinds.specs.Kinds.{span}
+use Rattle.kinds.proofs.Tests.{equal-or}
 use Rattle.records.specs.declared.Record.{Record}
 use Rattle.records.specs.Records.{lead, pieceRecord, larger, largerRecord, listAt}
 use Rattle.records.specs.Engine.{listed}
@@ -64,7 +64,7 @@ module _ (row row′ : ℕ → ℕ) (p : ℕ) (x : Piece) (h : Own x) where
       (in-segment (pieceRecord row p x) (pieceRecord row′ p y) refl ∙ piece-alike (p % 4) x y (omega arith) h (o 0 (omega arith)))
       (has-piece ys (λ k l. o (suc k) (omega arith)))
 
-  pub piece-there : (d : ℕ) → d < 7 → hasSame (pieceRecord row p x) (listAt d row′ p) ≡ set-at (pieceNumber x) (shapeIn d (row′ p))
+  pub piece-there : (d : ℕ) → d < 36 → hasSame (pieceRecord row p x) (listAt d row′ p) ≡ set-at (pieceNumber x) (shapeIn d (row′ p))
   unfolding shapeIn
   piece-there d i = ⊎-elim own other (equal-or d 0)
     where
@@ -77,7 +77,7 @@ module _ (row row′ : ℕ → ℕ) (p : ℕ) (x : Piece) (h : Own x) where
           (no-larger (pieceRecord row p x) d row′ p refl n (piece-not-larger d (p % 4) i n (omega arith) x h) ∙ sym (none-set x h))
 
 -- ---- the larger resource of kind c whose lowest position is p
-module _ (c : ℕ) (row row′ : ℕ → ℕ) (p : ℕ) (h : c < 7) (n : c ≢ 0) (e : p % span c ≡ lead c) where
+module _ (c : ℕ) (row row′ : ℕ → ℕ) (p : ℕ) (h : c < 36) (n : c ≢ 0) (e : p % span c ≡ lead c) where
   some-listed : listed c p (row′ p) ≡ 0 → ⊥
   unfolding listed
   some-listed f = let g = rw (ne-eqb c 0 n, eq-eqb (p % span c) (lead c) e) at f in omega arith
@@ -89,7 +89,7 @@ module _ (c : ℕ) (row row′ : ℕ → ℕ) (p : ℕ) (h : c < 7) (n : c ≢ 0
       (ap (λ (t : Bool). t || false)
       (in-segment (largerRecord c row p) (largerRecord c row′ p) refl ∙ larger-alike c (p % 4) h n (omega arith) c h n ∙ eq-eqb c c refl))
 
-  pub larger-there : (d : ℕ) → d < 7 → hasSame (largerRecord c row p) (listAt d row′ p) ≡ eqb c d
+  pub larger-there : (d : ℕ) → d < 36 → hasSame (largerRecord c row p) (listAt d row′ p) ≡ eqb c d
   larger-there d i = ⊎-elim own other (equal-or d 0)
     where
       own : d ≡ 0 → hasSame (largerRecord c row p) (listAt d row′ p) ≡ eqb c d

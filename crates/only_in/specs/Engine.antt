@@ -8,12 +8,12 @@ use lib.ListN.{length, getD}
 use Rattle.answer.specs.Lists.{at}
 use Rattle.text.specs.Text.{upto}
 use Rattle.resource.specs.declared.Size.{Size}
-use Rattle.resource.specs.declared.Size.the-variants.{S26, S52, S106, S242, S484, S996}
+use Rattle.resource.specs.declared.Size.the-variants.{S26, S52, S106, S242, S484, S996, S2x996}
 use Rattle.resource.specs.declared.Piece.{Piece}
 use Rattle.resource.specs.declared.Piece.the-variants.{Part, With26}
 use Rattle.resource.specs.Values.{ownPieces}
 use Rattle.resource.specs.Engine.{pieceAt}
-use Rattle.plan.specs.Kinds.{itself}
+use Rattle.kinds.specs.Kinds.{itself}
 use Rattle.plan.specs.Engine.{onlyPlan}
 use Rattle.records.specs.declared.Record.{Record}
 use Rattle.records.specs.Records.{pieceRecord, listAt, blank}
@@ -28,6 +28,7 @@ partNumber S106 i = 13 + i
 partNumber S242 i = 16
 partNumber S484 i = 16
 partNumber S996 i = 16
+partNumber S2x996 i = 16
 
 unfoldable pub pieceNumber : Piece → ℕ
 pieceNumber (Part s i) = partNumber s i

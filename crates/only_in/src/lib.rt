@@ -23,6 +23,7 @@ fn part_number(size: Size, i: u16) -> u16
         Size::S242 => 16,
         Size::S484 => 16,
         Size::S996 => 16,
+        Size::S2x996 => 16,
     }
 }
 
@@ -73,7 +74,7 @@ fn put_only_piece(
 ) -> usize
     requires { ⌜ (at ≤ 500000) × (side < 10) × (p < 4096) × (k < length (ownPieces v)) ⌝ }
     ensures { λ r. ⌜ Wrote (now (out .entry)) at (onlyPiece side n v p others k) (now (out .exit)) r ⌝ }
-    ensures bounded { λ r. ⌜ r ≤ at + 248 ⌝ }
+    ensures bounded { λ r. ⌜ r ≤ at + 468 ⌝ }
 {
     if (others >> piece_number(resource::piece_at(v, k))) % 2 == 1 {
         return at;
@@ -93,7 +94,7 @@ fn put_only_pieces(
 ) -> usize
     requires { ⌜ (at ≤ 400000) × (side < 10) × (p < 4096) ⌝ }
     ensures { λ r. ⌜ Wrote (now (out .entry)) at (upto (onlyPiece side n v p others) (length (ownPieces v))) (now (out .exit)) r ⌝ }
-    ensures bounded { λ r. ⌜ r ≤ at + 2232 ⌝ }
+    ensures bounded { λ r. ⌜ r ≤ at + 4212 ⌝ }
 {
     let here = resource::pieces_of(v);
     let mut e = at;
@@ -115,9 +116,9 @@ fn put_only_larger(
     p: usize,
     other: u16,
 ) -> usize
-    requires { ⌜ (at ≤ 400000) × (side < 10) × (length (now row) ≤ 16) × (p < length (now row)) × (kind < 7) × (kind ≡ 0 → ⊥) ⌝ }
+    requires { ⌜ (at ≤ 400000) × (side < 10) × (length (now row) ≤ 16) × (p < length (now row)) × (kind < 36) × (kind ≡ 0 → ⊥) ⌝ }
     ensures { λ r. ⌜ Wrote (now (out .entry)) at (onlyLarger side (now (row .entry)) kind p other) (now (out .exit)) r ⌝ }
-    ensures bounded { λ r. ⌜ r ≤ at + 2232 ⌝ }
+    ensures bounded { λ r. ⌜ r ≤ at + 4212 ⌝ }
 {
     if kind == other {
         return at;
@@ -140,9 +141,9 @@ fn put_only_at(
     other: u16,
     v: u16,
 ) -> usize
-    requires { ⌜ (at ≤ 400000) × (side < 10) × (length (now row) ≤ 16) × (p < length (now row)) × (kind < 7) ⌝ }
+    requires { ⌜ (at ≤ 400000) × (side < 10) × (length (now row) ≤ 16) × (p < length (now row)) × (kind < 36) ⌝ }
     ensures { λ r. ⌜ Wrote (now (out .entry)) at (onlyAt side (now (row .entry)) kind p other v) (now (out .exit)) r ⌝ }
-    ensures bounded { λ r. ⌜ r ≤ at + 2232 ⌝ }
+    ensures bounded { λ r. ⌜ r ≤ at + 4212 ⌝ }
 {
     if kind == 0 {
         let others = shape_in(other, v);
@@ -164,7 +165,7 @@ pub fn put_only(
     requires { ⌜ (at ≤ 300000) × (side < 10) × (length (now row) ≤ 16) × (length (now other) ≡ length (now row)) ⌝ }
     requires { ⌜ (now kinds ≡ kindsOf (now row)) × (now theirs ≡ kindsOf (now other)) ⌝ }
     ensures { λ r. ⌜ Wrote (now (out .entry)) at (onlyLines side (now (row .entry)) (now (other .entry))) (now (out .exit)) r ⌝ }
-    ensures bounded { λ r. ⌜ r ≤ at + 35712 ⌝ }
+    ensures bounded { λ r. ⌜ r ≤ at + 67392 ⌝ }
 {
     let n = row.len();
     let mut e = at;

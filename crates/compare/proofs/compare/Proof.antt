@@ -1,6 +1,6 @@
 use Rattle.compare.proofs.Outcomes.{too-short, at-once, counted}
 use Rattle.text.proofs.Laws.{count}
-use Rattle.compared.proofs.Within.{comparison-within}
+use Rattle.compare_size.proofs.Within.{comparison-within}
 use native.Mathlib.Omega.{arith}
 use borrow.Author.Needs.{needs}
 use Rattle.compare.proofs.compare.Statement.{statement}

@@ -1,4 +1,4 @@
-use Rattle.compared.specs.Size.{compareSize}
+use Rattle.compare_size.specs.Size.{compareSize}
 use mathlib.Core.Path.{refl}
 use Rattle.compare.proofs.longest.Statement.{statement}
 use Rattle.compare.proofs.longest.Tie as tie

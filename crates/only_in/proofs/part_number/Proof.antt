@@ -29,6 +29,9 @@ enum-told-5 c = search needs
 enum-told-6 : tie.Need-enum-told-6
 enum-told-6 c = search needs
 
+enum-told-7 : tie.Need-enum-told-7
+enum-told-7 c = search needs
+
 returns : tie.Need-returns
 unfolding partNumber
 returns c = (rw (c .enum-told .given .1), omega arith)
@@ -53,6 +56,10 @@ returns-6 : tie.Need-returns-6
 unfolding partNumber
 returns-6 c = (rw (c .enum-told6 .given .1), omega arith)
 
+returns-7 : tie.Need-returns-7
+unfolding partNumber
+returns-7 c = (rw (c .enum-told7 .given .1), omega arith)
+
 pub part-number-spec : {M : Type 1} → statement M
 part-number-spec =
     tie.close
@@ -65,9 +72,11 @@ part-number-spec =
     enum-told-4
     enum-told-5
     enum-told-6
+    enum-told-7
     returns
     returns-2
     returns-3
     returns-4
     returns-5
-    returns-6)
+    returns-6
+    returns-7)

@@ -16,7 +16,7 @@ abbrev Inv-loop : tie.InvT-loop
 Inv-loop out₀ at side row kinds other theirs n e₀ p₀ out e p =
     (p ≤ n)
     × Wrote out₀ at (upto (λ q. onlyAt side row (onlyPlan (value row) q) q (onlyPlan (value other) q) (value other q)) p) out e
-    × (e ≤ at + 2232 * p)
+    × (e ≤ at + 4212 * p)
 
 abbrev μ-loop : tie.MeasureT-loop
 μ-loop out₀ at side row kinds other theirs n e₀ p₀ out e p = n - p

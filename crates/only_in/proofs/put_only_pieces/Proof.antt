@@ -14,7 +14,7 @@ use Rattle.only_in.proofs.put_only_pieces.Tie as tie
 
 abbrev Inv-loop : tie.InvT-loop
 Inv-loop out₀ at side n v p others here e₀ k₀ out e k =
-    (k ≤ here) × Wrote out₀ at (upto (onlyPiece side n v p others) k) out e × (e ≤ at + 248 * k)
+    (k ≤ here) × Wrote out₀ at (upto (onlyPiece side n v p others) k) out e × (e ≤ at + 468 * k)
 
 abbrev μ-loop : tie.MeasureT-loop
 μ-loop out₀ at side n v p others here e₀ k₀ out e k = here - k

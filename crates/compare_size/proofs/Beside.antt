@@ -7,9 +7,10 @@ use mathlib.Core.Logic.{⊎-elim}
 use Prim.Native.Nat.{ℕ, zero, suc, _+_, _*_, _≤_, _<_}
 use native.Mathlib.Omega.{arith}
 use native.Mathlib.Nat.{eq-or-lt-of-le, le-of-suc-le-suc}
-use lib.Dec.{T, leb, eqb, leb→le}
+use lib.Dec.{T, leb, eqb, leb→le, eqb→eq}
+use lib.ListN.{length}
 use borrow.Author.Tests.{eqb-true}
-use Rattle.resource.specs.declared.Size.the-variants.{S26, S52, S106, S242, S484, S996}
+use Rattle.resource.specs.declared.Size.the-variants.{S26, S52, S106, S242, S484, S996, S2x996}
 use Rattle.resource.specs.declared.Piece.{Piece}
 use Rattle.resource.specs.declared.Piece.the-variants.{Part, With26}
 use Rattle.resource.specs.Names.{sizeOf}
@@ -20,10 +21,10 @@ use Rattle.resource.proofs.Pieces.{divided-low}
 use Rattle.records.specs.declared.Record.{Record}
 use Rattle.records.specs.Records.{pieceRecord, listAt, recordsFrom}
 use Rattle.records.proofs.Listing.{own-list}
 use Rattle.compared.specs.Reading.{hasSame}
 use Rattle.compared.proofs.Same.{of-both, says-same, has-same-left, member-has}
 use Rattle.compared.proofs.Keep.{map-member}
-use Rattle.compared.proofs.ResourceLengths.{pieceMost}
+use Rattle.compare_size.proofs.ResourceLengths.{pieceMost}
 
 -- ---- a piece is known by its size and its number
 abbrev sizeIn : Piece → ℕ
@@ -35,7 +36,8 @@ pieceOf s i =
     cond (eqb s 26) (Part S26 i)
     (cond (eqb s 52) (Part S52 i)
     (cond (eqb s 106) (Part S106 i)
-    (cond (eqb s 242) (Part S242 i) (cond (eqb s 484) (Part S484 i) (cond (eqb s 996) (Part S996 i) (With26 i))))))
+    (cond (eqb s 242) (Part S242 i)
+    (cond (eqb s 484) (Part S484 i) (cond (eqb s 996) (Part S996 i) (cond (eqb s 1992) (Part S2x996 i) (With26 i)))))))
 
 piece-back : (x : Piece) → pieceOf (sizeIn x) (numberedOf x) ≡ x
 piece-back (Part S26 i) = refl
@@ -44,6 +46,7 @@ piece-back (Part S106 i) = refl
 piece-back (Part S242 i) = refl
 piece-back (Part S484 i) = refl
 piece-back (Part S996 i) = refl
+piece-back (Part S2x996 i) = refl
 piece-back (With26 i) = refl
 
 abbrev samePiece : Piece → Piece → Bool
@@ -80,7 +83,7 @@ abbrev beside-test : ℕ → ℕ → Bool
 beside-test v w = wherever (divides w) (leb (besideOf v w) 1758)
 
 abbrev value-test : ℕ → Bool
-value-test v = leb (onlyOf (ownPieces v) []) 531 && below (beside-test v) 51
+value-test v = leb (onlyOf (ownPieces v) []) 531 && (eqb (fieldsOf v) (length (ownPieces v)) && below (beside-test v) 51)
 
 tested : T (below (λ v. wherever (divides v) (value-test v)) 51)
 unfolding carried pieces fieldsOf ownPieces divides
@@ -95,11 +98,18 @@ module _ (v : ℕ) (d : divides v ≡ true) where
   pub alone-most : onlyOf (ownPieces v) [] ≤ 531
   alone-most = leb→le (onlyOf (ownPieces v) []) 531 (both-left (leb (onlyOf (ownPieces v) []) 531) _ value-tested)
 
+  rest-tested : T (eqb (fieldsOf v) (length (ownPieces v)) && below (beside-test v) 51)
+  rest-tested = both-right (leb (onlyOf (ownPieces v) []) 531) _ value-tested
+
+  -- a field for each piece
+  pub field-each : fieldsOf v ≡ length (ownPieces v)
+  field-each = eqb→eq _ _ (both-left (eqb (fieldsOf v) (length (ownPieces v))) _ rest-tested)
+
   pub beside-most : (w : ℕ) → divides w ≡ true → besideOf v w ≤ 1758
   beside-most w e =
       leb→le (besideOf v w) 1758
       (met (divides w) (leb (besideOf v w) 1758)
-      (every-below (beside-test v) 51 (both-right (leb (onlyOf (ownPieces v) []) 531) _ value-tested) w (divided-low w e))
+      (every-below (beside-test v) 51 (both-right (eqb (fieldsOf v) (length (ownPieces v))) _ rest-tested) w (divided-low w e))
       (rw e tt))
 
 -- ---- what is listed at a position is in the plan

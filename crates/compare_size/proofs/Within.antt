@@ -5,20 +5,18 @@
 use mathlib.Core.Path.{_≡_, refl, ap, _∙_, subst}
 use mathlib.Core.Bool.{Bool, true, false, cond, not}
 use mathlib.Core.List.{List, [], _∷_, _++_}
-use Prim.Native.Nat.{ℕ, zero, suc, _+_, _*_, _^_, _≤_, _<_}
+use Prim.Native.Nat.{ℕ, _+_, _*_, _^_, _≤_, _<_}
 use native.Mathlib.Omega.{arith}
 use lib.Dec.{eqb}
-use lib.ListN.{length, length-append}
+use lib.ListN.{length, getD, length-append}
 use borrow.Author.Tests.{eqb-true}
 use Rattle.answer.specs.declared.Outcome.{Outcome}
 use Rattle.answer.specs.declared.Outcome.the-variants.{Pass, Refuse}
 use Rattle.answer.specs.Lists.{at}
-use Rattle.resource.specs.Values.{fieldsOf}
-use Rattle.plan.specs.Signals.{Signals}
+use Rattle.kinds.specs.Signals.{Signals}
 use Rattle.plan.specs.Engine.{onlyPlan}
 use Rattle.records.specs.declared.Record.{Record}
-use Rattle.records.specs.Records.{inChannel, recordsFrom}
-use Rattle.records.specs.Owns.{fieldsBefore}
+use Rattle.records.specs.Records.{recordsFrom, blank}
 use Rattle.records.proofs.Sums.{sumTo}
 use Rattle.channel.specs.Layout.{positions, overflow, row, count}
 use Rattle.channel.proofs.Laws.{positions-le, row-length, row-at, row-lt, count-le}
@@ -26,18 +24,17 @@ use Rattle.halves.specs.Table.{outcome11}
 use Rattle.both_halves.proofs.Accepted.{known-code, accepted-signals}
 use Rattle.listed.specs.Listing.{ownerIn}
 use Rattle.listed.proofs.Stations.{fields-1, fields-2}
-use Rattle.listed.proofs.Charged.{both-channels}
+use Rattle.listed.proofs.ByPosition.{owners-sum}
 use Rattle.compared.specs.Reading.{refused-with, bandwidth-is, Reading, readingOf, hasSame, tells}
 use Rattle.compared.specs.Differences.{Difference, by, overflowItem, valueItem, userItem, resourceItem, overflowTurns, valueTurns}
 use Rattle.compared.specs.Differences.{resourceItems, userTurns, allSaid, differs, keep, differences, refusedBy, judgedBoth}
 use Rattle.compared.specs.Differences.{comparison}
 use Rattle.compared.specs.Text.{differenceLine, differenceLines, comparisonText}
-use Rattle.compared.specs.Size.{compareSize}
-use Rattle.compared.proofs.Keep.{keep-append}
-use Rattle.compared.proofs.LineLengths.{overflow-low, refused-most, bandwidth-most, overflow-most, value-most, user-most}
-use Rattle.compared.proofs.LineLengths.{lines-both, turns-most}
-use Rattle.compared.proofs.ResourceLengths.{plan-name}
-use Rattle.compared.proofs.Charges.{linesOnly, onlyHere, only-positions, positions-charge}
+use Rattle.compare_size.specs.Size.{compareSize}
+use Rattle.compare_size.proofs.LineLengths.{overflow-low, refused-most, bandwidth-most, overflow-most, value-most, user-most}
+use Rattle.compare_size.proofs.LineLengths.{kept-both, turns-sum, turns-most}
+use Rattle.compare_size.proofs.ResourceLengths.{nameLength}
+use Rattle.compare_size.proofs.Charges.{linesOnly, onlyHere, userLength, usersHere, only-positions, positions-charge}
 
 -- ---- an accepted frame: the value at each position, and to what its plan gives it
 abbrev rowOf : ℕ → List ℕ → List ℕ → ℕ → ℕ
@@ -45,10 +42,6 @@ rowOf bw a b = at (row bw a b)
 
 abbrev planOf : ℕ → List ℕ → List ℕ → ℕ → ℕ
 planOf bw a b = onlyPlan (rowOf bw a b)
-
-fields-positions : (c : ℕ) (row : ℕ → ℕ) (n : ℕ) → fieldsBefore c row n ≡ sumTo (λ p. inChannel c p (fieldsOf (row p))) n
-fields-positions c row zero = refl
-fields-positions c row (suc n) = omega (arith, fields-positions c row n)
 
 module _ (bw : ℕ) (a b : List ℕ) (e : outcome11 bw a b ≡ Pass) where
   row-power : length (row bw a b) ≡ 2 ^ bw
@@ -73,21 +66,15 @@ module _ (bw : ℕ) (a b : List ℕ) (e : outcome11 bw a b ≡ Pass) where
   resources-sum s t =
       ap (linesOnly (2 ^ bw) s t) plan-power ∙ only-positions (2 ^ bw) s t (planOf bw a b) (rowOf bw a b) (2 ^ bw)
 
-  fields-sum : readingOf bw a b .fields ≡ sumTo (λ p. fieldsOf (rowOf bw a b p)) (2 ^ bw)
+  -- the lines of its User fields too, each charged to the position that its field comes from
+  users-sum : sumTo (λ i. 39 + nameLength (readingOf bw a b .owner i)) (readingOf bw a b .fields) ≡ sumTo (usersHere bw (planOf bw a b) (rowOf bw a b)) (2 ^ bw)
   unfolding readingOf
-  fields-sum =
-      let r = rowOf bw a b in
-      let n = length (row bw a b) in
+  users-sum =
       let l = known-code bw a b e in
-      rw (← row-power)
-      (omega (
-        arith,
-        fields-1 bw a b l,
-        fields-2 bw a b l,
-        fields-positions 1 r n,
-        fields-positions 2 r n,
-        both-channels (λ p. fieldsOf (r p)) n,
-      ))
+      let r = row bw a b in
+      let here = usersHere bw (planOf bw a b) (rowOf bw a b) in
+      ap (λ (zs : List Record). sumTo (λ i. 39 + nameLength (getD zs (ownerIn r (count bw 1 a) i) blank)) (count bw 1 a + count bw 2 b)) plan-power
+      ∙ rw (← fields-1 bw a b l, ← fields-2 bw a b l) (owners-sum (userLength bw (planOf bw a b) (rowOf bw a b)) r ∙ ap (sumTo here) row-power)
 
   overflow-line : (n s k : ℕ) → s < 10 → k < length (readingOf bw a b .overflows)
       → length (differenceLine n (by s (overflowItem (readingOf bw a b) k))) ≤ 27
@@ -102,19 +89,11 @@ module _ (bw : ℕ) (a b : List ℕ) (e : outcome11 bw a b ≡ Pass) where
       value-most n s l p _ (omega (arith, few)) (omega (arith, row-at bw a b p k, row-lt bw a b p))
 
   user-line : (n s i : ℕ) → s < 10 → i < readingOf bw a b .fields
-      → length (differenceLine n (by s (userItem (readingOf bw a b) i))) ≤ 67
+      → length (differenceLine n (by s (userItem (readingOf bw a b) i))) ≤ 39 + nameLength (readingOf bw a b .owner i)
   unfolding readingOf
-  user-line n s i l h =
-      user-most n s l i _ _ (omega (arith, count-le bw 1 a, count-le bw 2 b))
-      (rw row-power
-      (plan-name bw (planOf bw a b) (rowOf bw a b) (omega (arith, known-code bw a b e)) signals-power (ownerIn (row bw a b) (count bw 1 a) i)))
+  user-line n s i l h = user-most n s l i _ _ (omega (arith, count-le bw 1 a, count-le bw 2 b))
 
 -- ---- two of one bandwidth
-kept-both : (n : ℕ) (t : Difference → Bool) (ds es : List Difference)
-    → length (differenceLines n (keep t (ds ++ es))) ≡ length (differenceLines n (keep t ds)) + length (differenceLines n (keep t es))
-kept-both n t ds es =
-    ap (λ (fs : List Difference). length (differenceLines n fs)) (keep-append t ds es) ∙ lines-both n (keep t ds) (keep t es)
-
 module _ (bw : ℕ) (a b a′ b′ : List ℕ) (e : outcome11 bw a b ≡ Pass) (e′ : outcome11 bw a′ b′ ≡ Pass) where
   abbrev x : Reading
   x = readingOf bw a b
@@ -138,10 +117,12 @@ module _ (bw : ℕ) (a b a′ b′ : List ℕ) (e : outcome11 bw a b ≡ Pass) (
       (λ p l. value-line bw a b e (2 ^ bw) 1 p (omega arith) l) (λ p l. value-line bw a′ b′ e′ (2 ^ bw) 2 p (omega arith) l) in
       omega (arith, h, row-power bw a b e, row-power bw a′ b′ e′, few bw a b e)
 
-  users-most : bytes (userTurns x y) ≤ (x .fields + y .fields) * 67
+  users-most : bytes (userTurns x y)
+      ≤ sumTo (λ i. 39 + nameLength (x .owner i)) (x .fields) + sumTo (λ i. 39 + nameLength (y .owner i)) (y .fields)
   unfolding userTurns
   users-most =
-      turns-most (differs x y) (2 ^ bw) 67 (userItem x) (x .fields) (userItem y) (y .fields)
+      turns-sum (differs x y) (2 ^ bw) (userItem x) (x .fields) (userItem y) (y .fields)
+      (λ i. 39 + nameLength (x .owner i)) (λ i. 39 + nameLength (y .owner i))
       (λ i l. user-line bw a b e (2 ^ bw) 1 i (omega arith) l) (λ i l. user-line bw a′ b′ e′ (2 ^ bw) 2 i (omega arith) l)
 
   -- what both have has no line
@@ -179,7 +160,7 @@ module _ (bw : ℕ) (a b a′ b′ : List ℕ) (e : outcome11 bw a b ≡ Pass) (
   resources-users-most : bytes resourcesAndUsers ≤ 2 ^ bw * 1758
   resources-users-most =
       let all = positions-charge bw (omega (arith, known-code bw a b e)) (planOf bw a b) (rowOf bw a b) (signals-power bw a b e)
-      (planOf bw a′ b′) (rowOf bw a′ b′) (signals-power bw a′ b′ e′) (differs x y) not-kept-1 not-kept-2 (2 ^ bw) (omega arith) in
+      (planOf bw a′ b′) (rowOf bw a′ b′) (signals-power bw a′ b′ e′) (differs x y) not-kept-1 not-kept-2 in
       omega (
         arith,
         all,
@@ -187,8 +168,8 @@ module _ (bw : ℕ) (a b a′ b′ : List ℕ) (e : outcome11 bw a b ≡ Pass) (
         users-most,
         resources-sum bw a b e 1 (differs x y),
         resources-sum bw a′ b′ e′ 2 (differs x y),
-        fields-sum bw a b e,
-        fields-sum bw a′ b′ e′,
+        users-sum bw a b e,
+        users-sum bw a′ b′ e′,
       )
 
   accepted-most : bytes (allSaid x y) ≤ 29466
