@@ -13,11 +13,15 @@ use Rattle.answer.specs.declared.Outcome.{Outcome}
 use Rattle.answer.specs.declared.Outcome.the-variants.{Pass, Refuse}
 use Rattle.answer.proofs.Order.{or-refuse, or-next, or-pass, if-pass, pass-not-refuse}
 use Rattle.bits.specs.Bits.{Small}
-use Rattle.plan.specs.Answers.{segments, SomePlanOfEight, SegmentPlan, SegmentPlanOfEight, Laid, accepted, no-plan, over-eight}
+use Rattle.answer.specs.Lists.{at}
+use Rattle.kinds.specs.Signals.{Signals}
+use Rattle.plan.specs.Answers.{segments, SomePlanOfEight, Held, Over, NarrowRow, SegmentPlan, SegmentPlanOfEight}
+use Rattle.plan.specs.Answers.{Laid, LaidBySegments, accepted, no-plan, over-eight}
 use Rattle.plan.specs.Engine.{planOutcome}
 use Rattle.plan.specs.Worked.{outcome7, outcome8}
 use Rattle.plan.proofs.Worked.{outcome-is}
-use Rattle.plan.proofs.Laid.{outcome-laid, part-signals}
+use Rattle.plan.proofs.Laid.{outcome-laid, over-same}
+use Rattle.plan.proofs.Narrow.{as-before, held-segment, none-eight}
 use Rattle.plan.proofs.Demand.{plan-accepted, plan-parts}
 use Rattle.channel.specs.Layout.{row}
 use Rattle.halves.specs.Table.{check7, check8, outcome11}
@@ -32,6 +36,13 @@ use Rattle.reader.proofs.Exactly.{refused-exactly}
 use Rattle.claims.specs.Calls.{Call, Reads, reads}
 use Rattle.claims.specs.Rows.{CarriedRow, CarryRow, Lowest, ForLayout, ReadAccepts}
 use Rattle.claims.proofs.Channels.{some-channels}
+
+-- a row with a plan of at most eight has no plan with a resource over eight
+none-of-eight : (r : List ℕ) → SomePlanOfEight r 0 (length r) → (o : ℕ → ℕ) → Signals o (at r) 0 (length r) → (s : ℕ) → Over o r s → ⊥
+none-of-eight r p o w s v =
+    let x = over-same r o (p .0) w (p .1) s v in
+    let l = p .2 (x .0) (omega arith) (x .1) in
+    omega (arith, x .3)
 
 module _ (bw : ℕ) (r a b : List ℕ) (room : ℕ) (h : CarryRow bw r a b) where
   abbrev x : Answer
@@ -79,7 +90,7 @@ module _ (bw : ℕ) (r a b : List ℕ) (room : ℕ) (h : CarryRow bw r a b) wher
       go : (o : Outcome) → planOutcome r ≡ o → Laid r o → SomePlanOfEight r 0 (length r)
       go o e (accepted w) = w
       go o e (no-plan s l n f) = absurd (p (its-number 7 s e))
-      go o e (over-eight s l w n f) = absurd (q (its-number 8 s e))
+      go o e (over-eight m w s v f) = absurd (q (its-number 8 s e))
 
   signalled-neither : SomePlanOfEight r 0 (length r) → (x .number ≢ 7) × (x .number ≢ 8)
   signalled-neither w =
@@ -91,41 +102,75 @@ module _ (bw : ℕ) (r a b : List ℕ) (room : ℕ) (h : CarryRow bw r a b) wher
       go : (o : Outcome) → planOutcome r ≡ o → Laid r o → (x .number ≡ 7) ⊎ (x .number ≡ 8)
       go o e (accepted w) = absurd (p w)
       go o e (no-plan s l n f) = inl (its-number 7 s e)
-      go o e (over-eight s l w n f) = inr (its-number 8 s e)
+      go o e (over-eight m w s v f) = inr (its-number 8 s e)
 
-  seven-says : x .number ≡ 7 → (s : ℕ) × (x ≡ no 7 0 s) × Lowest (SegmentPlan r) (segments r) s
+  seven-says : x .number ≡ 7 → (s : ℕ) × (x ≡ no 7 0 s) × Lowest (Held r) (segments r) s
   seven-says g = go (planOutcome r) refl laid
     where
-      go : (o : Outcome) → planOutcome r ≡ o → Laid r o → (s : ℕ) × (x ≡ no 7 0 s) × Lowest (SegmentPlan r) (segments r) s
+      go : (o : Outcome) → planOutcome r ≡ o → Laid r o → (s : ℕ) × (x ≡ no 7 0 s) × Lowest (Held r) (segments r) s
       go o e (accepted w) = absurd (pass-not-refuse e (of-7 g))
       go o e (no-plan s l n f) = (s, refused (no 7 0 s) e, (l, n, f))
-      go o e (over-eight s l w n f) = let z = its-number 8 s e in absurd (omega arith)
+      go o e (over-eight m w s v f) = let z = its-number 8 s e in absurd (omega arith)
 
-  has-7 : (s : ℕ) → s < segments r → (SegmentPlan r s → ⊥) → x .number ≡ 7
+  has-7 : (s : ℕ) → s < segments r → (Held r s → ⊥) → x .number ≡ 7
   has-7 t m k = go (planOutcome r) refl laid
     where
       go : (o : Outcome) → planOutcome r ≡ o → Laid r o → x .number ≡ 7
       go o e (accepted w) = absurd (k (plan-parts r (w .0, w .1) t m))
       go o e (no-plan s l n f) = its-number 7 s e
-      go o e (over-eight s l w n f) = absurd (k (w t m))
+      go o e (over-eight o′ w s v f) = absurd (k (plan-parts r (o′, w) t m))
 
   eight-says : x .number ≡ 8
-      → ((t : ℕ) → t < segments r → SegmentPlan r t) × (s : ℕ) × (x ≡ no 8 0 s) × Lowest (SegmentPlanOfEight r) (segments r) s
+      → (o : ℕ → ℕ) × Signals o (at r) 0 (length r) × (s : ℕ) × (x ≡ no 8 0 s) × Over o r s × ((t : ℕ) → t < s → Over o r t → ⊥)
   eight-says g = go (planOutcome r) refl laid
     where
       go : (o : Outcome) → planOutcome r ≡ o → Laid r o
-          → ((t : ℕ) → t < segments r → SegmentPlan r t) × (s : ℕ) × (x ≡ no 8 0 s) × Lowest (SegmentPlanOfEight r) (segments r) s
+          → (o : ℕ → ℕ) × Signals o (at r) 0 (length r) × (s : ℕ) × (x ≡ no 8 0 s) × Over o r s × ((t : ℕ) → t < s → Over o r t → ⊥)
       go o e (accepted w) = absurd (pass-not-refuse e (of-8 g))
       go o e (no-plan s l n f) = let z = its-number 7 s e in absurd (omega arith)
-      go o e (over-eight s l w n f) = (w, s, refused (no 8 0 s) e, (l, n, f))
+      go o e (over-eight o′ w s v f) = (o′, w, s, refused (no 8 0 s) e, v, f)
 
-  has-8 : ((t : ℕ) → t < segments r → SegmentPlan r t) → (s : ℕ) → s < segments r → (SegmentPlanOfEight r s → ⊥) → x .number ≡ 8
-  has-8 p t m k = go (planOutcome r) refl laid
+  has-8 : (o : ℕ → ℕ) → Signals o (at r) 0 (length r) → (s : ℕ) → Over o r s → x .number ≡ 8
+  has-8 m w t v = go (planOutcome r) refl laid
     where
       go : (o : Outcome) → planOutcome r ≡ o → Laid r o → x .number ≡ 8
-      go o e (accepted w) = absurd (k (w .0, part-signals r t (w .0) (w .1), λ q i u. w .2 q (omega arith) (omega arith)))
-      go o e (no-plan s l n f) = absurd (n (p s l))
-      go o e (over-eight s l w n f) = its-number 8 s e
+      go o e (accepted a) = absurd (none-of-eight r a m w t v)
+      go o e (no-plan s l n f) = absurd (n (plan-parts r (m, w) s l))
+      go o e (over-eight o′ w′ s v′ f) = its-number 8 s e
+
+  -- ---- by segments, of a row without the values that T-07 adds
+  module _ (narrow : NarrowRow r) where
+    laid-before : LaidBySegments r (planOutcome r)
+    laid-before = as-before r narrow (planOutcome r) .0 laid
+
+    seven-before-says : x .number ≡ 7 → (s : ℕ) × (x ≡ no 7 0 s) × Lowest (SegmentPlan r) (segments r) s
+    seven-before-says g = go (planOutcome r) refl laid-before
+      where
+        go : (o : Outcome) → planOutcome r ≡ o → LaidBySegments r o → (s : ℕ) × (x ≡ no 7 0 s) × Lowest (SegmentPlan r) (segments r) s
+        go o e (accepted w) = absurd (pass-not-refuse e (of-7 g))
+        go o e (no-plan s l n f) = (s, refused (no 7 0 s) e, (l, n, f))
+        go o e (over-eight s l w n f) = let z = its-number 8 s e in absurd (omega arith)
+
+    has-7-before : (s : ℕ) → s < segments r → (SegmentPlan r s → ⊥) → x .number ≡ 7
+    has-7-before t m k = has-7 t m (λ w. k (held-segment r narrow t w))
+
+    eight-before-says : x .number ≡ 8
+        → ((t : ℕ) → t < segments r → SegmentPlan r t) × (s : ℕ) × (x ≡ no 8 0 s) × Lowest (SegmentPlanOfEight r) (segments r) s
+    eight-before-says g = go (planOutcome r) refl laid-before
+      where
+        go : (o : Outcome) → planOutcome r ≡ o → LaidBySegments r o
+            → ((t : ℕ) → t < segments r → SegmentPlan r t) × (s : ℕ) × (x ≡ no 8 0 s) × Lowest (SegmentPlanOfEight r) (segments r) s
+        go o e (accepted w) = absurd (pass-not-refuse e (of-8 g))
+        go o e (no-plan s l n f) = let z = its-number 7 s e in absurd (omega arith)
+        go o e (over-eight s l w n f) = (w, s, refused (no 8 0 s) e, (l, n, f))
+
+    has-8-before : ((t : ℕ) → t < segments r → SegmentPlan r t) → (s : ℕ) → s < segments r → (SegmentPlanOfEight r s → ⊥) → x .number ≡ 8
+    has-8-before p t m k = go (planOutcome r) refl laid-before
+      where
+        go : (o : Outcome) → planOutcome r ≡ o → LaidBySegments r o → x .number ≡ 8
+        go o e (accepted w) = absurd (k (none-eight r narrow (w .0) (w .1) t (λ v. none-of-eight r w (w .0) (w .1) t v)))
+        go o e (no-plan s l n f) = absurd (n (p s l))
+        go o e (over-eight s l w n f) = its-number 8 s e
 
   -- whatever the room
   pub for-layout : ForLayout r x
@@ -137,6 +182,10 @@ module _ (bw : ℕ) (r a b : List ℕ) (room : ℕ) (h : CarryRow bw r a b) wher
     gets-7 = has-7;
     eight = eight-says;
     gets-8 = has-8;
+    seven-before = seven-before-says;
+    gets-7-before = has-7-before;
+    eight-before = eight-before-says;
+    gets-8-before = has-8-before;
   }
 
 -- of any answer that the contract of `reader::read` allows, and any words lent

@@ -34,11 +34,11 @@ use Rattle.candidate.proofs.Built.{sealed-carries, sealed-length, sealed-small}
 use Rattle.candidate.proofs.Held.{blank}
 use Rattle.claims.specs.Rows.{CarriedRow, CarryRow}
 
--- a carried value has nine bits, of which seven are used
+-- a carried value has nine bits
 nine-bits : (v : ℕ) → carried v ≡ true → v % 2 ^ 9 ≡ v
-nine-bits v e = go (decLt v 128)
+nine-bits v e = go (decLt v 304)
   where
-    go : Dec (v < 128) → v % 2 ^ 9 ≡ v
+    go : Dec (v < 304) → v % 2 ^ 9 ≡ v
     go (yes l) = mod-eq-of-lt (omega arith)
     go (no l) = absurd (false≢true (sym (carried-high v (omega arith)) ∙ e))
 

@@ -27,7 +27,7 @@ use Rattle.captures.proofs.Worked.{worked}
 use Rattle.compared.specs.Reading.{readingOf}
 use Rattle.compared.specs.Differences.{differences, comparison}
 use Rattle.compared.specs.Text.{differenceLines, comparisonText, textAnswer, textAfter}
-use Rattle.compared.specs.Size.{compareSize}
+use Rattle.compare_size.specs.Size.{compareSize}
 use Rattle.compared.specs.Program.{saidOfTwo, comparedText}
 use Rattle.compared.proofs.Exact.{exact}
 use Rattle.compared.proofs.Once.{once}
@@ -35,7 +35,7 @@ use Rattle.compared.proofs.InOrder.{in-order}
 use Rattle.compared.proofs.Exchanged.{frames-exchanged-1, frames-exchanged-2}
 use Rattle.compared.proofs.Words.{frame-words}
 use Rattle.compared.proofs.NoLine.{no-line, with-itself}
-use Rattle.compared.proofs.Within.{comparison-within}
+use Rattle.compare_size.proofs.Within.{comparison-within}
 use Rattle.comparing.proofs.Within.{program-within}
 use Rattle.claims.specs.Calls.{Call, TextCall, CompareCall, Reads, reads, Compares, compares, c-compares, Compare-responds, compare-responds}
 use Rattle.claims.specs.Compared.{Compared, SameReading, listOf, linesIn, Accepted-1, Accepted-2, Equal-readings, Equal-fields, Twice, SameFrames}

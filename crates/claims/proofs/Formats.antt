@@ -17,13 +17,13 @@ use Rattle.bits.specs.Bits.{field}
 use Rattle.resource.specs.Values.{fieldsOf, divides, pieceFields}
 use Rattle.resource.specs.Engine.{pieceAt}
 use Rattle.resource.proofs.Pieces.{some-pieces, no-pieces-left, divided-low}
-use Rattle.plan.specs.Kinds.{span}
+use Rattle.kinds.specs.Kinds.{span}
 use Rattle.answer.specs.Lists.{at}
-use Rattle.plan.specs.Signals.{Place, Fits, Signals}
-use Rattle.plan.specs.Fields.{share, fieldsIn, together, shared}
+use Rattle.kinds.specs.Signals.{Place, Fits, Signals}
+use Rattle.kinds.specs.Fields.{share, fieldsIn, together, shared}
 use Rattle.plan.specs.Answers.{Laid}
 use Rattle.plan.specs.Engine.{planOutcome}
-use Rattle.plan.proofs.Tests.{equal-or}
+use Rattle.kinds.proofs.Tests.{equal-or}
 use Rattle.plan.proofs.Laid.{outcome-laid}
 use Rattle.plan.proofs.Demand.{accepted-plan, only-plan}
 use Rattle.records.specs.declared.Record.{Record}

@@ -4,23 +4,22 @@ use mathlib.Core.Bool.{Bool, true, false, cond, _&&_, _||_}
 use mathlib.Core.List.{List, [], _∷_}
 use Prim.Native.Nat.{ℕ, suc, _+_, _-_, _*_, _/_, _%_, _^_, _≤_, _<_}
 use native.Mathlib.Omega.{arith}
-use lib.Dec.{T, leb, eqb, eqb→eq}
+use lib.Dec.{T, leb, leb→le, eqb, eqb→eq}
 use lib.ListN.{length, getD}
-use Rattle.answer.specs.Answer.{_or_, passes}
 use Rattle.answer.specs.Least.{least}
 use Rattle.answer.specs.Lists.{at, build}
 use Rattle.answer.proofs.Lists.{length-build}
-use Rattle.answer.proofs.Order.{passes-true}
 use Rattle.resource.specs.declared.Resource.{Resource}
 use Rattle.resource.specs.Names.{nameOf, numberOf}
 use Rattle.resource.specs.Values.{carried, pieces, fieldsOf, divides, pieceFields, ownPieces, smallerAt}
 use Rattle.resource.specs.Index.{indexOf, positionOf, fromPositions, resourceAt}
 use Rattle.resource.proofs.Test.{both-left, both-right, wherever, met, below, every-below}
-use Rattle.plan.specs.Kinds.{kinds, kindAt, family, span, mask, takes, takesBlock, blankAt, mustName}
-use Rattle.plan.specs.Fields.{gives, share, fieldsIn}
-use Rattle.plan.specs.Engine.{nameOf as kindNamed, kindOf, orElse, tells, choose, onlyPlan, fitting, within, rightAt, firstWrong, firstOver, planOutcome}
-use Rattle.plan.proofs.Laid.{outcome-laid}
-use Rattle.plan.proofs.Demand.{accepted-plan, only-plan}
+use Rattle.kinds.specs.Kinds.{kinds, kindAt as lineOf, family, span, mask, takes, takesBlock, blankAt, mustName}
+use Rattle.kinds.specs.Fields.{gives, share, fieldsIn}
+use Rattle.segments.specs.Engine.{fitting}
+use Rattle.plan.specs.Engine.{given, entirely}
+use Rattle.plan.proofs.Demand.{one-plan}
+use Rattle.bench_checks.proofs.ByList.{signals, atMost, list-signals}
 use Rattle.records.specs.declared.Record.{Record}
 use Rattle.records.specs.Records.{lead, resourceColumn, larger, listAt, recordsOf, blank}
 use Rattle.records.proofs.Listing.{same-records}
@@ -45,6 +44,18 @@ valueAt v p =
 abbrev rowOf : ℕ → ℕ → List ℕ
 rowOf bw v = build (valueAt v) (2 ^ bw)
 
+-- and the kind that its plan gives each position to
+abbrev kindAt : ℕ → ℕ → ℕ
+kindAt v p =
+    cond (leb v 64) 0
+    (cond (leb v 66) 1
+    (cond (leb v 67) 2
+    (cond (leb v 89) 0
+    (cond (eqb p (v - 90)) 0 (3 + (v - 90))))))
+
+abbrev kindsOf : ℕ → ℕ → List ℕ
+kindsOf bw v = build (kindAt v) (2 ^ bw)
+
 -- one of the records has the resource
 abbrev has : Resource → List Record → Bool
 has r [] = false
@@ -68,29 +79,28 @@ has-at r (x ∷ xs) t = go (same (x .resource) r) refl t (has-at r xs)
 
 abbrev held-test : ℕ → ℕ → Bool
 held-test bw v =
-    wherever (taken bw v) (passes (planOutcome (rowOf bw v)) && has (resourceOf v) (recordsOf (onlyPlan (at (rowOf bw v))) (rowOf bw v)))
+    wherever (taken bw v)
+    (signals (rowOf bw v) (kindsOf bw v) (length (rowOf bw v))
+    && (below (atMost (rowOf bw v) (kindsOf bw v)) (length (rowOf bw v)) && has (resourceOf v) (recordsOf (at (kindsOf bw v)) (rowOf bw v))))
 
 all-held : T (below (λ bw. below (held-test bw) 94) 3)
-unfolding planOutcome firstWrong firstOver least rightAt within fitting onlyPlan choose tells orElse kindNamed kindOf mustName blankAt
-    takesBlock takes mask span family kindAt kinds gives share fieldsIn _or_ listAt lead resourceColumn larger pieceFields divides pieces
-    fieldsOf ownPieces smallerAt indexOf positionOf fromPositions resourceAt carried build named resourceOf reaches taken
+unfolding entirely given fitting least mustName blankAt takesBlock takes mask span family lineOf kinds gives share fieldsIn listAt lead resourceColumn
+    larger pieceFields divides pieces fieldsOf ownPieces smallerAt indexOf positionOf fromPositions resourceAt carried build named resourceOf reaches taken
 all-held = tt
 
 pub held-by-some : (bw : ℕ) → bw ≤ 2 → (v : ℕ) → T (taken bw v) → HeldBySome bw (resourceOf v)
 held-by-some bw h v t =
     let row = rowOf bw v in
-    let rs = recordsOf (onlyPlan (at row)) row in
-    let u = met (taken bw v) (passes (planOutcome row) && has (resourceOf v) rs)
-    (every-below (held-test bw) 94 (every-below (λ bw. below (held-test bw) 94) 3 all-held bw (omega arith)) v (named-low v (taken-named bw v t))) t in
-    let e = passed (passes (planOutcome row)) (both-left (passes (planOutcome row)) (has (resourceOf v) rs) u) in
-    let w = has-at (resourceOf v) rs (both-right (passes (planOutcome row)) (has (resourceOf v) rs) u) in
+    let ks = kindsOf bw v in
+    let rs = recordsOf (at ks) row in
+    let u = met (taken bw v) _ (every-below (held-test bw) 94 (every-below (λ bw. below (held-test bw) 94) 3 all-held bw (omega arith)) v
+    (named-low v (taken-named bw v t))) t in
+    let s = list-signals row ks (length row) (both-left (signals row ks (length row)) _ u) in
+    let r = both-right (signals row ks (length row)) _ u in
+    let w = has-at (resourceOf v) rs (both-right (below (atMost row ks) (length row)) (has (resourceOf v) rs) r) in
     record {
       row = row;
       as-many = length-build (valueAt v) (2 ^ bw);
-      plan = accepted-plan row (rw (passes-true (planOutcome row) e) at (outcome-laid row));
-      held = λ o s. rw (same-records o (onlyPlan (at row)) (at row) (length row) (λ p l. only-plan row o s p l)) w;
+      plan = (at ks, s, λ p l m. leb→le _ _ (every-below (atMost row ks) (length row) (both-left (below (atMost row ks) (length row)) _ r) p m));
+      held = λ o z. rw (same-records o (at ks) (at row) (length row) (λ p l. one-plan row o (at ks) z s p l)) w;
     }
-  where
-    passed : (b : Bool) → T b → b ≡ true
-    passed true t = refl
-    passed false t = absurd t

@@ -17,10 +17,10 @@ use Rattle.resource.specs.Engine.{noPiece, pieceAt}
 use Rattle.resource.proofs.Apart.{no-pieces}
 use Rattle.resource.proofs.Pieces.{own-piece}
 use Rattle.resource.proofs.Test.{below-or, both-left, both-right, wherever, met, below, every-below}
-use Rattle.plan.specs.Kinds.{kinds, kindAt, span, family}
-use Rattle.plan.specs.Signals.{Signals, Fits, own, blank, smaller}
-use Rattle.plan.proofs.Tests.{equal-or}
-use Rattle.plan.proofs.Fitting.{known, blank-most}
+use Rattle.kinds.specs.Kinds.{kinds, kindAt, span, family}
+use Rattle.kinds.specs.Signals.{Signals, Fits, own, blank, smaller}
+use Rattle.kinds.proofs.Tests.{equal-or}
+use Rattle.kinds.proofs.Fitting.{known, blank-most}
 use Rattle.records.specs.Records as R
 use Rattle.records.specs.Records.{resourceColumn, larger, listAt, recordsFrom}
 use Rattle.records.proofs.Listing.{recordAt, Somewhere, located, located-record, own-length, own-record, larger-record}
@@ -72,7 +72,7 @@ fits-stands p v (smaller t) = or-right (not (eqb v 48) && not (eqb v 50)) (small
 abbrev larger-test : ℕ → ℕ → ℕ → Bool
 larger-test b c q = wherever (leb (span c) (2 ^ b)) (wherever (ltb q (2 ^ b)) (there (2 ^ b) (larger c q)))
 
-all-larger : T (below (λ b. below (λ c. below (larger-test b c) 4) 7) 3)
+all-larger : T (below (λ b. below (λ c. below (larger-test b c) 4) 36) 3)
 unfolding span kindAt kinds larger resourceColumn allowedAt smallerAt exists resourceAt isPiece indexOf fromPositions positionOf placeOf
 all-larger = tt
 
@@ -106,7 +106,7 @@ module _ (o row : ℕ → ℕ) (b : ℕ) (h : b ≤ 2) (s : Signals o row 0 (2 ^
       let u = known c p (row p) (s .fits p (omega arith) l) in
       let w = whole-span o row b (omega arith) s p l in
       let t = every-below (larger-test b c) 4
-      (every-below (λ c. below (larger-test b c) 4) 7 (every-below (λ b. below (λ c. below (larger-test b c) 4) 7) 3 all-larger b (omega arith)) c u) q
+      (every-below (λ c. below (larger-test b c) 4) 36 (every-below (λ b. below (λ c. below (larger-test b c) 4) 36) 3 all-larger b (omega arith)) c u) q
       (omega arith) in
       rw (larger-record c row p m n)
       (there-is (2 ^ b) (larger c q)

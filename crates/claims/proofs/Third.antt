@@ -7,7 +7,7 @@ use native.Mathlib.Omega.{arith}
 use lib.ListN.{length}
 use Rattle.answer.specs.declared.Outcome.the-variants.{Pass}
 use Rattle.answer.specs.Lists.{at}
-use Rattle.plan.specs.Signals.{Signals}
+use Rattle.kinds.specs.Signals.{Signals}
 use Rattle.plan.specs.Answers.{Laid, accepted}
 use Rattle.plan.proofs.Laid.{laid-same}
 use Rattle.plan.proofs.Demand.{accepted-plan, one-plan, refused-layout}

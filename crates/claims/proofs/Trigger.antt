@@ -11,7 +11,7 @@ use Rattle.bits.specs.Bits.{Small}
 use Rattle.word_bytes.specs.Bytes.{wordAt}
 use Rattle.resource.specs.declared.Resource.{Resource}
 use Rattle.resource.specs.Names.{nameOf, numberOf}
-use Rattle.plan.specs.Signals.{Signals}
+use Rattle.kinds.specs.Signals.{Signals}
 use Rattle.records.specs.Records.{recordsFrom, blank}
 use Rattle.trigger_values.specs.Values.{resourceOf, taken, ResourceOf}
 use Rattle.trigger.specs.Reading.{entryAnswer, recordRead}

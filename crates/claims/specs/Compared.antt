@@ -24,7 +24,7 @@ use Rattle.compared.specs.Differences.{Difference, by, differences, comparison}
 use Rattle.compared.specs.Exact.{Exact, Once, linesOf, exchange}
 use Rattle.compared.specs.InOrder.{InOrder}
 use Rattle.compared.specs.Text.{differenceLines, roomOutcome}
-use Rattle.compared.specs.Size.{compareSize}
+use Rattle.compare_size.specs.Size.{compareSize}
 use Rattle.compare.proofs.compare.Reads as compare
 use Rattle.brachymel.proofs.brachymel_compare.Reads as c-compare
 use Rattle.comparing.proofs.respond.Reads as compare-respond

@@ -9,7 +9,7 @@ use Prim.Native.Nat.{ℕ, _+_, _≤_, _<_}
 use lib.ListN.{length, getD}
 use Rattle.bits.specs.Bits.{field}
 use Rattle.answer.specs.Lists.{at}
-use Rattle.plan.specs.Signals.{Signals}
+use Rattle.kinds.specs.Signals.{Signals}
 use Rattle.plan.specs.Answers.{SomePlanOfEight}
 use Rattle.records.specs.declared.Record.{Record}
 use Rattle.records.specs.Records.{recordsOf, blank}

@@ -12,7 +12,8 @@ use Rattle.answer.specs.declared.Answer.{Answer}
 use Rattle.answer.specs.declared.Outcome.the-variants.{Pass}
 use Rattle.resource.specs.Values.{carried}
 use Rattle.answer.specs.Lists.{at}
-use Rattle.plan.specs.Answers.{segments, SomePlanOfEight, SegmentPlan, SegmentPlanOfEight}
+use Rattle.kinds.specs.Signals.{Signals}
+use Rattle.plan.specs.Answers.{segments, SomePlanOfEight, Held, Over, NarrowRow, SegmentPlan, SegmentPlanOfEight}
 use Rattle.channel.specs.Layout.{positions, row}
 use Rattle.halves.specs.Table.{outcome6}
 use Rattle.claims.specs.Calls.{Call, Reads}
@@ -40,14 +41,23 @@ pub record ForLayout (r : List ℕ) (x : Answer) : Type 0 where
   pub signalled : SomePlanOfEight r 0 (length r) → (x .number ≢ 7) × (x .number ≢ 8)
   -- "Otherwise it is refused, for its layout." (the third demand)
   pub otherwise : (SomePlanOfEight r 0 (length r) → ⊥) → (x .number ≡ 7) ⊎ (x .number ≡ 8)
-  -- "7 | no plan, even with any number of fields | 0, lowest such segment": exactly when some segment has none
-  pub seven : x .number ≡ 7 → (s : ℕ) × (x ≡ no 7 0 s) × Lowest (SegmentPlan r) (segments r) s
-  pub gets-7 : (s : ℕ) → s < segments r → (SegmentPlan r s → ⊥) → x .number ≡ 7
-  -- "8 | plan, but a resource over eight fields | 0, lowest such segment": exactly when each segment has a plan, and some segment none
-  -- that keeps to eight
+  -- "7 | no plan, even with any number of fields": "the lowest segment that lies in no such part with a plan" (02, T-07), exactly when
+  -- some segment lies in none
+  pub seven : x .number ≡ 7 → (s : ℕ) × (x ≡ no 7 0 s) × Lowest (Held r) (segments r) s
+  pub gets-7 : (s : ℕ) → s < segments r → (Held r s → ⊥) → x .number ≡ 7
+  -- "8 | plan, but a resource over eight fields": "the lowest segment of a resource over eight fields" (02, T-07), exactly when a plan
+  -- signals the row and has such a resource
   pub eight : x .number ≡ 8
+      → (o : ℕ → ℕ) × Signals o (at r) 0 (length r) × (s : ℕ) × (x ≡ no 8 0 s) × Over o r s × ((t : ℕ) → t < s → Over o r t → ⊥)
+  pub gets-8 : (o : ℕ → ℕ) → Signals o (at r) 0 (length r) → (s : ℕ) → Over o r s → x .number ≡ 8
+  -- of a row without the values that T-07 adds 7 and 8 are what they were, by its segments alone: "7 | no plan, even with any number of
+  -- fields | 0, lowest such segment"; "8 | plan, but a resource over eight fields | 0, lowest such segment"
+  pub seven-before : NarrowRow r → x .number ≡ 7 → (s : ℕ) × (x ≡ no 7 0 s) × Lowest (SegmentPlan r) (segments r) s
+  pub gets-7-before : NarrowRow r → (s : ℕ) → s < segments r → (SegmentPlan r s → ⊥) → x .number ≡ 7
+  pub eight-before : NarrowRow r → x .number ≡ 8
       → ((t : ℕ) → t < segments r → SegmentPlan r t) × (s : ℕ) × (x ≡ no 8 0 s) × Lowest (SegmentPlanOfEight r) (segments r) s
-  pub gets-8 : ((t : ℕ) → t < segments r → SegmentPlan r t) → (s : ℕ) → s < segments r → (SegmentPlanOfEight r s → ⊥) → x .number ≡ 8
+  pub gets-8-before : NarrowRow r → ((t : ℕ) → t < segments r → SegmentPlan r t) → (s : ℕ) → s < segments r → (SegmentPlanOfEight r s → ⊥)
+      → x .number ≡ 8
 
 -- all that the contract of `reader::read` allows, for these channels and room for 154 words, is an acceptance
 abbrev pub ReadAccepts : ℕ → List ℕ → List ℕ → Type 0

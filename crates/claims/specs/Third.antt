@@ -18,7 +18,7 @@ use Rattle.answer.specs.declared.Outcome.{Outcome}
 use Rattle.answer.specs.declared.Outcome.the-variants.{Pass, Refuse}
 use Rattle.bits.specs.Bits.{Small}
 use Rattle.answer.specs.Lists.{at}
-use Rattle.plan.specs.Signals.{Signals}
+use Rattle.kinds.specs.Signals.{Signals}
 use Rattle.plan.specs.Answers.{SomePlanOfEight, Laid}
 use Rattle.records.specs.Records.{recordsFrom, recordsOf, HasTone, Punctured, blank, RightRecord}
 use Rattle.records.specs.Owns.{Owns, fieldsBefore}

@@ -16,7 +16,7 @@ use Rattle.word_bytes.specs.Bytes.{wordAt}
 use Rattle.resource.specs.declared.Resource.{Resource}
 use Rattle.resource.specs.Names.{nameOf, numberOf}
 use Rattle.answer.specs.Lists.{at}
-use Rattle.plan.specs.Signals.{Signals}
+use Rattle.kinds.specs.Signals.{Signals}
 use Rattle.plan.specs.Answers.{SomePlanOfEight}
 use Rattle.records.specs.Records.{recordsFrom, recordsOf, blank}
 use Rattle.trigger_values.specs.Values.{resourceOf, taken, ResourceOf, OneToOne}

@@ -1,0 +1,2 @@
+pub mod ByList
+pub mod Bench
