@@ -298,6 +298,34 @@ static void shifts(chance *c)
         }
 }
 
+/* A frame of this resource, wider than a segment (02, T-07), with a few fields, and anything beside it. */
+static void wide_frame(chance *c, unsigned bandwidth, wide_resource w, frame *f)
+{
+    unsigned row[16];
+    draw_rest(c, positions_of(bandwidth), w.places, row);
+    put_empty(w, row);
+    for (unsigned n = 1 + (unsigned)below(c, 2); n > 0; n--)
+        row[draw_place(c, w.places)] = w.value + (unsigned)below(c, 3);
+    build_frame(c, bandwidth, row, f);
+}
+
+/* Every two of these resources, of which one is mostly where the other is, and each beside itself told at other places. */
+static void wide_shifts(chance *c)
+{
+    static frame x, y;
+    for (unsigned bandwidth = 3; bandwidth <= 4; bandwidth++)
+        for (unsigned i = 0; i < WIDE; i++)
+            for (unsigned j = 0; j < WIDE; j++) {
+                if (!wide_lies_in(wide_of(i), positions_of(bandwidth)) || !wide_lies_in(wide_of(j), positions_of(bandwidth)))
+                    continue;
+                wide_frame(c, bandwidth, wide_of(i), &x);
+                wide_frame(c, bandwidth, wide_of(j), &y);
+                if (!one_in(c, 5))
+                    make_alike(&x, &y);
+                pair(c, &x, &y);
+            }
+}
+
 /* Nobody has the fields of channel 1, of channel 2, of both (02, T-01). */
 static void unassigned(chance *c)
 {
@@ -316,15 +344,18 @@ static void flip(frame *f, unsigned ch, size_t i)
     f->cc[ch][i / 8] ^= (uint8_t)(1u << i % 8);
 }
 
+static const unsigned rows_of_bits[5][16] = {
+    {25}, {48, 65}, {64, 96, 29, 29}, {26, 97, 29, 29, 120, 29, 28, 50},
+    {80, 30, 30, 30, 72, 29, 64, 24, 26, 97, 29, 29, 48, 25, 28, 65}};
+static const unsigned wide_rows_of_bits[2][16] = {
+    {30, 144, 30, 30, 25, 64, 144, 29}, {30, 152, 30, 30, 29, 29, 29, 257, 30, 30, 30, 30, 30, 30, 256, 30}};
+
 /* Each bit of a frame turned over, on one side and on the other; then with the checks made right again, an overflow's bit
  * in both channels, so that the frame is read and has just this bit's difference. */
-static void every_bit(chance *c, unsigned bandwidth)
+static void every_bit(chance *c, const unsigned *row, unsigned bandwidth)
 {
-    static const unsigned rows[5][16] = {
-        {25}, {48, 65}, {64, 96, 29, 29}, {26, 97, 29, 29, 120, 29, 28, 50},
-        {80, 30, 30, 30, 72, 29, 64, 24, 26, 97, 29, 29, 48, 25, 28, 65}};
     static frame x, y;
-    build_frame(c, bandwidth, rows[bandwidth], &x);
+    build_frame(c, bandwidth, row, &x);
     for (unsigned ch = 0; ch < channels_of(bandwidth); ch++) {
         x.length[ch] = bytes_told(&x, ch) + 1;
         for (size_t i = 0; i < 8 * x.length[ch]; i++) {
@@ -358,9 +389,12 @@ void every_comparison(chance *c, unsigned long drawn)
     bandwidths(c);
     refusals(c);
     shifts(c);
+    wide_shifts(c);
     unassigned(c);
     for (unsigned bandwidth = 0; bandwidth <= 4; bandwidth++)
-        every_bit(c, bandwidth);
+        every_bit(c, rows_of_bits[bandwidth], bandwidth);
+    for (unsigned bandwidth = 3; bandwidth <= 4; bandwidth++)
+        every_bit(c, wide_rows_of_bits[bandwidth - 3], bandwidth);
     for (unsigned long n = 0; n < drawn; n++)
         any_pair(c);
 }

@@ -109,7 +109,7 @@ void hold(int holds, const char *what)
         printf("driver: WRONG, %s\n", what);
 }
 
-static void call_read(chance *c, const frame *f, size_t bytes)
+void call_read(chance *c, const frame *f, size_t bytes)
 {
     answer should;
     brachymel_answer is;
@@ -126,7 +126,7 @@ static void call_read(chance *c, const frame *f, size_t bytes)
     }
 }
 
-static void call_list(chance *c, const frame *f, size_t room)
+void call_list(chance *c, const frame *f, size_t room)
 {
     answer should;
     brachymel_answer is;
@@ -141,7 +141,7 @@ static void call_list(chance *c, const frame *f, size_t room)
         print_frame('L', f, room);
 }
 
-static void call_write(chance *c, const words_case *w)
+void call_write(chance *c, const words_case *w)
 {
     answer should;
     brachymel_answer is;
@@ -303,7 +303,8 @@ static void unassigned(chance *c)
     static const struct {
         unsigned bandwidth, row[16];
     } of[] = {{0, {71}}, {0, {24}}, {1, {75, 75}}, {1, {75, 76}}, {2, {83, 83, 30, 30}}, {2, {83, 84, 30, 30}},
-              {3, {26, 97, 29, 29, 120, 29, 28, 50}}, {4, {0}}};
+              {3, {26, 97, 29, 29, 120, 29, 28, 50}}, {4, {0}}, {3, {30, 91, 30, 30, 91, 30, 30, 30}},
+              {3, {30, 91, 30, 30, 92, 30, 30, 30}}, {4, {30, 153, 30, 30, 29, 152, 29, 257, 30, 30, 30, 258, 30, 30, 256, 30}}};
     static frame f;
     for (size_t k = 0; k < sizeof of / sizeof of[0]; k++)
         for (unsigned channels = 1; channels <= 3; channels++) {
@@ -315,32 +316,37 @@ static void unassigned(chance *c)
         }
 }
 
-/* A good frame of each bandwidth with each of its bits turned over, one by one; and its words. */
-static void every_bit(chance *c, unsigned bandwidth)
+void turn_every_bit(chance *c, frame *f)
 {
-    static frame f;
     static words_case w;
-    unsigned row[16];
-    answer a;
-    do {
-        draw_good_row(c, positions_of(bandwidth), row);
-        build_frame(c, bandwidth, row, &f);
-        a = reference_read_bytes(bandwidth, f.cc[0], f.length[0], f.cc[1], f.length[1], w.bytes, sizeof w.bytes);
-    } while (a.number != 0);
-    w.bandwidth = bandwidth;
-    w.length = 4 * (size_t)a.place;
+    answer a = reference_read_bytes(f->bandwidth, f->cc[0], f->length[0], f->cc[1], f->length[1], w.bytes, sizeof w.bytes);
+    w.bandwidth = f->bandwidth;
+    w.length = a.number == 0 ? 4 * (size_t)a.place : 0;
     w.room[0] = w.room[1] = BRACHYMEL_CHANNEL_SIZE;
     for (unsigned ch = 0; ch < 2; ch++)
-        for (size_t i = 0; i < 8 * f.length[ch]; i++) {
-            f.cc[ch][i / 8] ^= (uint8_t)(1u << i % 8);
-            call_read(c, &f, BRACHYMEL_WORDS_SIZE);
-            f.cc[ch][i / 8] ^= (uint8_t)(1u << i % 8);
+        for (size_t i = 0; i < 8 * f->length[ch]; i++) {
+            f->cc[ch][i / 8] ^= (uint8_t)(1u << i % 8);
+            call_read(c, f, BRACHYMEL_WORDS_SIZE);
+            f->cc[ch][i / 8] ^= (uint8_t)(1u << i % 8);
         }
     for (size_t i = 0; i < 8 * w.length; i++) {
         w.bytes[i / 8] ^= (uint8_t)(1u << i % 8);
         call_write(c, &w);
         w.bytes[i / 8] ^= (uint8_t)(1u << i % 8);
     }
+}
+
+/* Of a good frame of each bandwidth. */
+static void every_bit(chance *c, unsigned bandwidth)
+{
+    static frame f;
+    uint8_t words[BRACHYMEL_WORDS_SIZE];
+    unsigned row[16];
+    do {
+        draw_good_row(c, positions_of(bandwidth), row);
+        build_frame(c, bandwidth, row, &f);
+    } while (reference_read_bytes(bandwidth, f.cc[0], f.length[0], f.cc[1], f.length[1], words, sizeof words).number != 0);
+    turn_every_bit(c, &f);
 }
 
 /* ---- the run */
@@ -412,6 +418,7 @@ int main(int argc, char **argv)
         every_length(&c, bandwidth);
         every_bit(&c, bandwidth);
     }
+    every_wide(&c);
     for (unsigned long n = 0; n < count; n++)
         any_call(&c);
     c = chance_from(seed, 'G');

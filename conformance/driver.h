@@ -45,6 +45,17 @@ int is_told(void);
 /* A check that is no call. */
 void hold(int holds, const char *what);
 
+/* Calls of a frame's entries, held to the reference; rooms in bytes. */
+void call_read(chance *c, const frame *f, size_t bytes);
+void call_list(chance *c, const frame *f, size_t room);
+void call_write(chance *c, const words_case *w);
+
+/* Each bit of a frame turned over, one by one; and of its words, if it is a good one. */
+void turn_every_bit(chance *c, frame *f);
+
+/* wides.c: resources wider than a segment (T-07). */
+void every_wide(chance *c);
+
 /* triggers.c: the calls of T-02, and then so many that are drawn. */
 void every_trigger(chance *c, unsigned long drawn);
 

@@ -46,6 +46,103 @@ static uint64_t other_place(answer a, unsigned bandwidth, const uint8_t *s, size
     return a.place;
 }
 
+/* ---- resources wider than a segment (02, T-07) */
+
+static void row_in(unsigned bandwidth, const uint8_t *cc1, size_t cc1_len, const uint8_t *cc2, size_t cc2_len, unsigned row[16])
+{
+    for (unsigned p = 0; p < positions_of(bandwidth); p++)
+        row[p] = p % 2 == 0 ? field_of(cc1, cc1_len, subfield_at(bandwidth, p / 2), 9)
+                            : field_of(cc2, cc2_len, subfield_at(bandwidth, p / 2), 9);
+}
+
+static int is_wide(const record *r)
+{
+    return r->size >= TONES_2X996;
+}
+
+static unsigned wide_ones(const layout *l)
+{
+    unsigned n = 0;
+    for (unsigned r = 0; r < l->records; r++)
+        n += (unsigned)is_wide(&l->record[r]);
+    return n;
+}
+
+/* The fields of a resource that stand in one segment. */
+static unsigned fields_in_segment(const record *r, const unsigned *row, unsigned segment)
+{
+    unsigned n = 0;
+    for (unsigned p = 4 * segment; p < 4 * segment + 4; p++)
+        n += r->places >> p & 1 ? fields_of(row[p]) : 0;
+    return n;
+}
+
+/* Whether the row is accepted, with a wide resource. */
+static int is_good_and_wide(const unsigned *row, unsigned positions)
+{
+    static layout l;
+    lay_out(row, positions, &l);
+    return l.outcome.number == 0 && wide_ones(&l) != 0;
+}
+
+/* What a wrong search finds of the row. */
+static answer sought_wrongly(answer a, unsigned *row, unsigned positions)
+{
+    static layout l;
+    lay_out(row, positions, &l);
+    for (unsigned r = 0; r < l.records; r++) {
+        const record *x = &l.record[r];
+        unsigned nearest = fields_in_segment(x, row, x->segment);
+        if (!is_wide(x))
+            continue;
+        if (FAULT == 80 && a.number == 0 && x->size == TONES_2X996_484 && x->index > 6 && fields_in_segment(x, row, 3) == 0)
+            return answer_of(7, 0, 1); /* the lower one of its family, unless a value stands where that has no place */
+        if (FAULT == 81 && a.number == 0 && (x->places & 0xFF) != 0 && x->places >> 8 != 0 && wide_ones(&l) > 1)
+            return answer_of(7, 0, 0); /* beside one of the whole width nothing wide is sought in the halves */
+        if (FAULT == 82 && a.number == 8 && x->fields[0] + x->fields[1] > 8 && nearest <= 8)
+            return answer_of(0, 0, 10); /* the fields of a far segment are not counted for eight */
+        if (FAULT == 83 && a.number == 8 && x->fields[0] + x->fields[1] > 8 && nearest == 0)
+            return answer_of(8, 0, x->segment + 1); /* not the lowest segment of the resource, but that of its fields */
+    }
+    for (unsigned p = 0; FAULT == 84 && a.number == 7 && p < positions; p += 2)
+        if (row[p] == 30 && row[p + 1] == 30) {
+            row[p] = row[p + 1] = 29;
+            if (is_good_and_wide(row, positions))
+                return answer_of(0, 0, 10); /* 30 in a segment half its own */
+            row[p] = row[p + 1] = 30;
+        }
+    for (unsigned p = 0; FAULT == 85 && a.number == 7 && p < positions; p++)
+        if (row[p] == 28) {
+            row[p] = 29;
+            if (is_good_and_wide(row, positions))
+                return answer_of(0, 0, 10); /* 28 on a pair */
+            row[p] = 28;
+        }
+    if (FAULT == 86 && a.number == 7 && positions == 16 && a.place > 0)
+        a.place = 0; /* the first segment of the width */
+    for (unsigned s = 0; FAULT == 87 && a.number == 7 && s < a.place; s++)
+        if (plans_of_part(row, 4 * s, 4) == 0)
+            a.place = s; /* the lowest segment without a plan of its own, though it lies in a part that has one */
+    return a;
+}
+
+/* The words of a wide resource, written wrongly. */
+static void write_wrongly(unsigned bandwidth, const unsigned *row, uint8_t *words)
+{
+    static layout l;
+    unsigned at = 10;
+    lay_out(row, positions_of(bandwidth), &l);
+    for (unsigned p = 1; FAULT == 88 && p < positions_of(bandwidth); p++)
+        if (row[p] >= 256)
+            put_field(words, BRACHYMEL_WORDS_SIZE, 32 * (3 + (p - 1) / 3) + (p - 1) % 3 * 10 + 8, 1, 0); /* a value of eight bits */
+    for (unsigned c = 0; FAULT == 89 && c < 2; c++)
+        for (unsigned j = 0; j < l.fields[c]; j++, at++) {
+            const record *x = &l.record[l.owner[c][j]];
+            if (is_wide(x) && x->fields[c] == 1 && x->fields[1 - c] == 1)
+                words[4 * at] = 0x3F; /* a shared resource taken for one that a field has alone, its places being far apart */
+        }
+}
+
 brachymel_answer brachymel_read(uint32_t bandwidth, const uint8_t *cc1, size_t cc1_len, const uint8_t *cc2, size_t cc2_len,
                                 uint8_t *words, size_t words_len)
 {
@@ -62,6 +159,13 @@ brachymel_answer brachymel_read(uint32_t bandwidth, const uint8_t *cc1, size_t c
         a.number = 3;
     if (FAULT >= 10 && FAULT <= 14 && (a.number == 3 || a.number == 9))
         a.place = a.channel == 1 ? other_place(a, bandwidth, cc1, cc1_len) : other_place(a, bandwidth, cc2, cc2_len);
+    if (FAULT >= 80 && bandwidth >= 3 && (a.number == 0 || a.number == 7 || a.number == 8)) {
+        unsigned row[16];
+        row_in(bandwidth, cc1, cc1_len, cc2, cc2_len, row);
+        if (a.number == 0)
+            write_wrongly(bandwidth, row, words);
+        a = sought_wrongly(a, row, positions_of(bandwidth));
+    }
     return as_answer(a);
 }
 
@@ -76,6 +180,31 @@ brachymel_answer brachymel_write(uint32_t bandwidth, const uint8_t *words, size_
     return as_answer(a);
 }
 
+/* Where the text has this, or NULL. */
+static char *find(char *text, size_t length, const char *what)
+{
+    for (size_t k = 0; k + strlen(what) <= length; k++)
+        if (memcmp(text + k, what, strlen(what)) == 0)
+            return text + k;
+    return NULL;
+}
+
+/* A wide resource listed wrongly, in as many bytes. */
+static void list_wrongly(char *text, size_t length)
+{
+    char *at;
+    if (FAULT == 90 && (at = find(text, length, "ru=2x996+484 index=7 segment=1")) != NULL)
+        memcpy(at, "ru=2x996+484 index=1 segment=0", 30); /* the other one of its family */
+    if (FAULT == 91 && (at = find(text, length, "ru=996+484 index=1 segment=2")) != NULL)
+        at[17] = '5'; /* counted over the whole width */
+    if (FAULT == 92 && (at = find(text, length, "ru=3x996 index=1 segment=1")) != NULL)
+        at[25] = '0'; /* the first segment of the width, which it leaves out */
+    if (FAULT == 93 && (at = find(text, length, "ru=996 index=1 segment=0 users=0 tones=-1012:-515,-509:-12\nru=996 index=1 segment=1 users=0")) != NULL)
+        memcpy(at, "ru=2x996", 8); /* two 996s without a field taken for one resource */
+    if (FAULT == 94 && (at = find(text, length, ",12:509,515:1012,1036:1533,1539:2036")) != NULL)
+        at[4] = '8'; /* a subcarrier less in the third segment */
+}
+
 brachymel_answer brachymel_list(uint32_t bandwidth, const uint8_t *cc1, size_t cc1_len, const uint8_t *cc2, size_t cc2_len,
                                 uint8_t *text, size_t text_len)
 {
@@ -87,6 +216,8 @@ brachymel_answer brachymel_list(uint32_t bandwidth, const uint8_t *cc1, size_t c
             memcpy(text + k + 4, "2046", 4); /* a station that is nobody's */
     if (FAULT == 15 && a.number == 9)
         a.place = 8 * (uint64_t)(a.channel == 1 ? cc1_len : cc2_len); /* the reader's place alone is 02's */
+    if (FAULT >= 90 && a.number == 0)
+        list_wrongly((char *)text, (size_t)a.place);
     return as_answer(a);
 }
 

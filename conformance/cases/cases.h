@@ -8,6 +8,7 @@
 /* chance.c: numbers that follow from a seed alone, the same on every machine. */
 typedef struct {
     uint64_t state;
+    int narrow; /* rows that are drawn have no resource wider than a segment */
 } chance;
 
 chance chance_from(uint64_t seed, uint64_t stream);
@@ -20,13 +21,34 @@ uint8_t draw_byte(chance *c); /* now and then 00 or FF, which any slip of a bit 
 void draw_good_row(chance *c, unsigned positions, unsigned *row);
 void damage_row(chance *c, unsigned positions, unsigned *row);
 void draw_row(chance *c, unsigned positions, unsigned *row); /* mostly good */
+void draw_rest(chance *c, unsigned positions, unsigned taken, unsigned *row); /* all but the places taken, in whole pairs */
 
 typedef struct {
     unsigned bandwidth, row[16];
 } cut_row;
 
-#define CUT_ROWS 25
+#define CUT_ROWS 29
 extern const cut_row cut_rows[CUT_ROWS]; /* good ones, whose channels are cut to every length */
+
+/* wide.c: resources wider than a segment (02, T-07), of those of 320 MHz the k-th. */
+#define WIDE 34
+
+typedef struct {
+    unsigned value;  /* the first of its eight */
+    unsigned places; /* bit p for each position p of the row */
+} wide_resource;
+
+wide_resource wide_of(unsigned k);
+int wide_lies_in(wide_resource w, unsigned positions);
+unsigned draw_place(chance *c, unsigned places);
+unsigned value_without_field(wide_resource w, unsigned p);
+void put_empty(wide_resource w, unsigned *row); /* no field at any of its places */
+void draw_wide_row(chance *c, unsigned positions, int spoilt, unsigned *row); /* of 160 or 320 MHz */
+void draw_part_of_wide_row(chance *c, unsigned positions, unsigned *row);
+
+/* A good row for every place of every wide resource, of 160 MHz and then of 320: how many positions it has. */
+#define WIDE_ROWS 376
+unsigned draw_wide_in_turn(chance *c, unsigned long k, unsigned *row);
 
 /* frames.c: a pair of channels. */
 #define MOST_LENT 640

@@ -3,7 +3,7 @@
 
 chance chance_from(uint64_t seed, uint64_t stream)
 {
-    chance c = {seed * UINT64_C(0x9E3779B97F4A7C15) ^ stream * UINT64_C(0xD1B54A32D192ED03)};
+    chance c = {seed * UINT64_C(0x9E3779B97F4A7C15) ^ stream * UINT64_C(0xD1B54A32D192ED03), 0};
     draw(&c);
     return c;
 }

@@ -2,7 +2,8 @@
 #include "cases.h"
 
 /* Of each bandwidth two rows of few User fields, in odd numbers and even; from 40 MHz on, one of a pair has larger
- * resources. Then rows of none and of many. A row's places that are left out are 0. */
+ * resources. Then rows of none and of many, and rows of resources wider than a segment. A row's places that are left out are
+ * 0. */
 const cut_row cut_rows[CUT_ROWS] = {
     {0, {25}}, {0, {48}}, {1, {48, 25}}, {1, {73, 72}}, {2, {25, 64, 64, 50}}, {2, {26, 97, 96, 29}},
     {3, {26, 97, 29, 29, 120, 29, 28, 50}}, {3, {64, 25, 26, 27, 26, 27, 64, 27}},
@@ -11,6 +12,9 @@ const cut_row cut_rows[CUT_ROWS] = {
     {0, {26}}, {0, {64}}, {0, {71}}, {0, {0}}, {1, {26, 27}}, {1, {75, 75}}, {1, {0, 1}},
     {2, {26, 27, 28, 26}}, {2, {83, 83, 30, 30}}, {2, {1}}, {3, {30, 30, 30, 30, 29, 29, 26, 28}}, {3, {0, 1}},
     {4, {30, 30, 30, 30, 30, 30, 30, 30, 29, 29, 29, 29, 26, 27, 28, 26}}, {4, {1}}, {4, {0}},
+    {3, {88, 30, 30, 30, 30, 30, 30, 90}}, {3, {50, 26, 129, 29, 30, 30, 128, 30}},
+    {4, {30, 30, 30, 30, 30, 30, 30, 30, 30, 241, 30, 30, 25, 64, 240, 29}},
+    {4, {30, 153, 30, 30, 29, 152, 29, 257, 30, 30, 30, 258, 30, 30, 256, 30}},
 };
 
 /* A value for a position given to itself. 48 and 50 are left out where they may not stand. */
@@ -94,11 +98,51 @@ static void draw_segment(chance *c, unsigned *row, unsigned n)
     }
 }
 
-void draw_good_row(chance *c, unsigned positions, unsigned *row)
+static void draw_narrow_row(chance *c, unsigned positions, unsigned *row)
 {
     unsigned n = positions < 4 ? positions : 4;
     for (unsigned p = 0; p < positions; p += n)
         draw_segment(c, row + p, n);
+}
+
+/* The rest of a row of 160 or 320 MHz, some segments or pairs of which are taken. */
+void draw_rest(chance *c, unsigned positions, unsigned taken, unsigned *row)
+{
+    for (unsigned first = 0; first < positions; first += 4) {
+        unsigned segment = taken >> first & 15;
+        if (segment == 0)
+            draw_segment(c, row + first, 4);
+        for (unsigned p = 0; p < 4 && segment != 0; p += 2) {
+            if ((segment >> p & 3) != 0)
+                continue;
+            if (one_in(c, 3))
+                draw_484(c, row + first, p);
+            else
+                draw_own(c, row + first, p, 2, 4);
+        }
+    }
+}
+
+/* One row of three from 160 MHz on has wider resources instead; of those that may be spoilt, one of sixteen in a narrower
+ * channel is a part of such a row. Drawn apart, so that the other rows, and all that is drawn next, are what they would be. */
+static void draw_instead(const chance *c, unsigned positions, int may_be_spoilt, unsigned *row)
+{
+    chance own = chance_from(c->state, 'w');
+    if (c->narrow)
+        return;
+    if (positions >= 8 && one_in(&own, 3)) {
+        draw_wide_row(&own, positions, may_be_spoilt && one_in(&own, 3), row);
+        if (may_be_spoilt && one_in(&own, 12))
+            damage_row(&own, positions, row);
+    } else if (may_be_spoilt && positions < 16 && one_in(&own, 16)) {
+        draw_part_of_wide_row(&own, positions, row);
+    }
+}
+
+void draw_good_row(chance *c, unsigned positions, unsigned *row)
+{
+    draw_narrow_row(c, positions, row);
+    draw_instead(c, positions, 0, row);
 }
 
 /* Another value at one position, near or far; or two positions exchanged. */
@@ -117,9 +161,10 @@ void damage_row(chance *c, unsigned positions, unsigned *row)
 
 void draw_row(chance *c, unsigned positions, unsigned *row)
 {
-    draw_good_row(c, positions, row);
+    draw_narrow_row(c, positions, row);
     if (one_in(c, 4))
         damage_row(c, positions, row);
     if (one_in(c, 40))
         damage_row(c, positions, row);
+    draw_instead(c, positions, 1, row);
 }

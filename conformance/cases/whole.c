@@ -1,4 +1,4 @@
-/* Cases of rows, frames, words and texts: the letters v r w R s W L T. */
+/* Cases of rows, frames, words and texts: the letters v m r w R s W L T. */
 #include "print.h"
 
 #include "../reference/reference.h"
@@ -8,8 +8,23 @@ void print_value(chance *c, unsigned long k)
 {
     (void)c;
     print_letter('r');
-    print_number(k % 128);
+    print_number(k % 512);
     print_end();
+}
+
+static void print_values(const unsigned *row, unsigned positions)
+{
+    print_letter('r');
+    for (unsigned p = 0; p < positions; p++)
+        print_number(row[p]);
+    print_end();
+}
+
+/* A row with a resource wider than a segment, each place of each in turn. */
+void print_wide(chance *c, unsigned long k)
+{
+    unsigned row[16], positions = draw_wide_in_turn(c, k, row);
+    print_values(row, positions);
 }
 
 void print_row(chance *c, unsigned long k)
@@ -17,10 +32,7 @@ void print_row(chance *c, unsigned long k)
     unsigned row[16], positions = 1u << below(c, 5);
     (void)k;
     draw_row(c, positions, row);
-    print_letter('r');
-    for (unsigned p = 0; p < positions; p++)
-        print_number(row[p]);
-    print_end();
+    print_values(row, positions);
 }
 
 static void print_capture(const frame *f)

@@ -1,4 +1,4 @@
-/* What a plan is: found by trying every way of dividing a segment. */
+/* What a plan is: found by trying every way of dividing the positions into resources. */
 #include "reference.h"
 
 #include <stdio.h>
@@ -12,128 +12,277 @@ unsigned positions_of(unsigned bandwidth)
     return 1u << bandwidth;
 }
 
-/* "Each group of four positions is a segment (20 and 40 MHz have one short segment)." */
-static unsigned positions_in_segment(unsigned positions)
+/* A larger resource, one of all that there are at 320 MHz. "A plan gives each position either to itself .. or to one larger
+ * resource". */
+typedef struct {
+    size_name size;
+    unsigned index;
+    unsigned value;  /* the first of the eight of its own family */
+    unsigned places; /* bit p for each position p that is its place */
+} resource;
+
+#define MOST_RESOURCES 62
+
+/* 000's table, in its order: the first of eight values, and what they name, drawn from the lowest position on, [] being left
+ * out. The index counts in the positions that are drawn; a 484 is "1 or 2" in its segment (01). 72 to 127 are 01's own list. */
+static const struct {
+    unsigned value, positions;
+    size_name size;
+    unsigned index;
+    const char *drawn;
+} family[] = {
+    {72, 2, TONES_484, 1, "484"},
+    {80, 4, TONES_996, 1, "996"},
+    {88, 8, TONES_2X996, 1, "996-996"}, /* 000: "2x996" */
+    {96, 4, TONES_484_242, 1, "[]-242-484"},
+    {104, 4, TONES_484_242, 2, "242-[]-484"},
+    {112, 4, TONES_484_242, 3, "484-[]-242"},
+    {120, 4, TONES_484_242, 4, "484-242-[]"},
+    {128, 8, TONES_996_484, 1, "[]-484-996"},
+    {136, 8, TONES_996_484, 2, "484-[]-996"},
+    {144, 8, TONES_996_484, 3, "996-[]-484"},
+    {152, 8, TONES_996_484, 4, "996-484-[]"},
+    {160, 16, TONES_3X996, 1, "[]-996-996-996"},
+    {168, 16, TONES_3X996, 2, "996-[]-996-996"},
+    {176, 16, TONES_3X996, 3, "996-996-[]-996"},
+    {184, 16, TONES_3X996, 4, "996-996-996-[]"},
+    {192, 16, TONES_3X996_484, 1, "[]-484-996-996-996"},
+    {200, 16, TONES_3X996_484, 2, "484-[]-996-996-996"},
+    {208, 16, TONES_3X996_484, 3, "996-[]-484-996-996"},
+    {216, 16, TONES_3X996_484, 4, "996-484-[]-996-996"},
+    {224, 16, TONES_3X996_484, 5, "996-996-[]-484-996"},
+    {232, 16, TONES_3X996_484, 6, "996-996-484-[]-996"},
+    {240, 16, TONES_3X996_484, 7, "996-996-996-[]-484"},
+    {248, 16, TONES_3X996_484, 8, "996-996-996-484-[]"},
+    {256, 12, TONES_2X996_484, 1, "[]-484-996-996"},
+    {264, 12, TONES_2X996_484, 2, "484-[]-996-996"},
+    {272, 12, TONES_2X996_484, 3, "996-[]-484-996"},
+    {280, 12, TONES_2X996_484, 4, "996-484-[]-996"},
+    {288, 12, TONES_2X996_484, 5, "996-996-[]-484"},
+    {296, 12, TONES_2X996_484, 6, "996-996-484-[]"},
+};
+
+/* How many positions the part has that is drawn here: a 996 four, a 484 two, a 242 one. 0 where it is [], which has the rest. */
+static unsigned width_drawn(const char *part)
 {
-    return positions < 4 ? positions : 4;
+    return *part == '9' ? 4 : *part == '4' ? 2 : *part == '2' ? 1 : 0;
 }
 
-/* "A plan gives each position either to itself .. or to one larger resource: a 484 on the lower or upper
- * pair ..; a 996 on all four ..; a 484+242 on three of four". The owners that a position can be given: */
-typedef enum {
-    ITSELF,
-    LOWER_484, UPPER_484,
-    WHOLE_996,
-    BUT_FIRST, BUT_SECOND, BUT_THIRD, BUT_FOURTH, /* a 484+242, by the position left out */
-    OWNERS
-} owner;
-
-/* "484 needs 40 MHz, 996 and 484+242 need 80": the positions that the segment must have. */
-static unsigned owner_needs(owner o)
+static const char *next_drawn(const char *part)
 {
-    if (o == ITSELF)
-        return 1;
-    return o == LOWER_484 ? 2 : 4;
+    part += strcspn(part, "-");
+    return *part == '-' ? part + 1 : part;
 }
 
-/* Whether position p of the segment is a place of the larger resource o. */
-static int has_place(owner o, unsigned p)
+/* The places among the positions that are drawn. */
+static unsigned places_drawn(const char *drawn, unsigned positions)
 {
-    if (o == LOWER_484)
-        return p == 0 || p == 1;
-    if (o == UPPER_484)
-        return p == 2 || p == 3;
-    if (o == WHOLE_996)
-        return 1;
-    return p != (unsigned)(o - BUT_FIRST);
-}
-
-/* "96 to 103, 104 to 111, 112 to 119, 120 to 127: 484+242 leaving out the first, second, third, fourth
- * position": the family of o. */
-static int in_family(owner o, unsigned value)
-{
-    unsigned first = 96 + 8 * (unsigned)(o - BUT_FIRST);
-    return value >= first && value <= first + 7;
-}
-
-/* A 484+242 has one whole pair and one single position: the single one is the left-out one's neighbour. */
-static int is_single_place(owner o, unsigned p)
-{
-    return p / 2 == (unsigned)(o - BUT_FIRST) / 2;
-}
-
-/* Whether the value may stand at position p of a segment of n when p is given to o. */
-static int fits(owner o, unsigned p, unsigned n, unsigned value)
-{
-    if (n < owner_needs(o))
-        return 0;
-    if (o == ITSELF) {
-        /* "48 isn't allowed in a fourth position nor 50 in a third (004), in segments of four." */
-        if (n == 4 && ((value == 48 && p == 3) || (value == 50 && p == 2)))
-            return 0;
-        /* "to itself (values 0 to 28, 48, 50, 64 to 71)" */
-        return value <= 28 || value == 48 || value == 50 || (value >= 64 && value <= 71);
+    unsigned places = 0, p = 0, left_out = positions;
+    for (const char *part = drawn; *part != 0; part = next_drawn(part))
+        left_out -= width_drawn(part);
+    for (const char *part = drawn; *part != 0; part = next_drawn(part)) {
+        unsigned width = width_drawn(part);
+        places |= ((1u << width) - 1) << p;
+        p += width == 0 ? left_out : width;
     }
-    if (!has_place(o, p))
-        return 0;
-    /* "a 484 on the lower or upper pair (each place 29 or 72 to 79)" */
-    if (o == LOWER_484 || o == UPPER_484)
-        return value == 29 || (value >= 72 && value <= 79);
-    /* "a 996 on all four (each 30 or 80 to 87)" */
-    if (o == WHOLE_996)
-        return value == 30 || (value >= 80 && value <= 87);
-    /* "a 484+242 on three of four (each place its own family's value or, with no field, 29 on its whole
-     * pair and 28 on its single position)": of each place by itself (decision). */
-    return in_family(o, value) || value == (is_single_place(o, p) ? 28u : 29u);
+    return places;
 }
 
-/* Whether the owners, one for each of the n positions, signal the row: each value fits its owner, each
- * larger resource has all its places, and a 484+242 "at least one place in its own family". */
-static int signals(const owner *owners, const unsigned *row, unsigned n)
+static resource larger[MOST_RESOURCES];
+
+/* Wherever what is drawn can lie in 320 MHz: beginning at a multiple of its positions. Of a 2x996+484, which is drawn on
+ * three segments, "MRU1 or MRU 7" and so on (000): the lower three segments or the upper three. */
+static void list_resources(void)
 {
-    for (unsigned p = 0; p < n; p++) {
-        int named = 0;
-        if (!fits(owners[p], p, n, row[p]))
+    unsigned n = 0;
+    if (larger[0].value != 0)
+        return;
+    for (unsigned k = 0; k < sizeof family / sizeof family[0]; k++) {
+        unsigned places = places_drawn(family[k].drawn, family[k].positions);
+        unsigned step = family[k].positions == 12 ? 4 : family[k].positions;
+        for (unsigned first = 0; first + family[k].positions <= MOST_POSITIONS; first += step) {
+            resource r = {family[k].size, family[k].index, family[k].value, places << first};
+            if (r.size == TONES_484)
+                r.index = first % 4 / 2 + 1;
+            if (r.size == TONES_2X996_484 && first == 4)
+                r.index += 6;
+            larger[n++] = r;
+        }
+    }
+}
+
+static int has_place(const resource *r, unsigned p)
+{
+    return r->places >> p & 1;
+}
+
+/* Whether the n positions around p, from a multiple of n on, all are places of r. */
+static int has_all_around(const resource *r, unsigned p, unsigned n)
+{
+    for (unsigned q = p / n * n; q < p / n * n + n; q++)
+        if (!has_place(r, q))
             return 0;
-        if (owners[p] == ITSELF)
+    return 1;
+}
+
+/* "(each place its own family's value or, with no field, 29 on its whole pair and 28 on its single position)", "30 in a segment
+ * wholly its own, 29 on a pair, 28 on a single position" (02, T-07); likewise "a 484 .. (each place 29 or 72 to 79); a 996 ..
+ * (each 30 or 80 to 87)". */
+static unsigned value_without_field(const resource *r, unsigned p)
+{
+    return has_all_around(r, p, 4) ? 30 : has_all_around(r, p, 2) ? 29 : 28;
+}
+
+static int in_family(const resource *r, unsigned value)
+{
+    return value >= r->value && value <= r->value + 7;
+}
+
+/* A 484+242 "with at least one place in its own family"; a resource wider than a segment "has at least one place with its own
+ * value, so a row of 30s alone stays single 996s" (02, T-07). */
+static int must_be_named(const resource *r)
+{
+    return r->size != TONES_484 && r->size != TONES_996;
+}
+
+/* A position given to itself is given to no larger resource. */
+#define ITSELF NULL
+
+/* Whether the value may stand at position p when that is given to r: of each place by itself (decision). */
+static int fits(const resource *r, unsigned p, unsigned value)
+{
+    if (r != ITSELF)
+        return has_place(r, p) && (in_family(r, value) || value == value_without_field(r, p));
+    /* "48 isn't allowed in a fourth position nor 50 in a third (004), in segments of four." */
+    if ((value == 48 && p % 4 == 3) || (value == 50 && p % 4 == 2))
+        return 0;
+    /* "to itself (values 0 to 28, 48, 50, 64 to 71)" */
+    return value <= 28 || value == 48 || value == 50 || (value >= 64 && value <= 71);
+}
+
+/* The positions from `first` up to `end`, and to what each is given so far. */
+typedef struct {
+    unsigned first, end;
+    const resource *owner[MOST_POSITIONS];
+    int given[MOST_POSITIONS];
+} division;
+
+/* Whether the division signals the row: each value fits its owner, each larger resource has all its places, here ("484 needs
+ * 40 MHz, 996 and 484+242 need 80"), and is named if it must be. */
+static int signals(const division *d, const unsigned *row)
+{
+    for (unsigned p = d->first; p < d->end; p++) {
+        const resource *r = d->owner[p];
+        int named = 0;
+        if (!fits(r, p, row[p]))
+            return 0;
+        if (r == ITSELF)
             continue;
-        for (unsigned q = 0; q < n; q++) {
-            if (has_place(owners[p], q) != (owners[q] == owners[p]))
+        for (unsigned q = 0; q < MOST_POSITIONS; q++) {
+            int is_given = q >= d->first && q < d->end && d->owner[q] == r;
+            if (has_place(r, q) != is_given)
                 return 0;
-            if (owners[q] == owners[p] && in_family(owners[q], row[q]))
+            if (is_given && in_family(r, row[q]))
                 named = 1;
         }
-        if (owners[p] >= BUT_FIRST && !named)
+        if (must_be_named(r) && !named)
             return 0;
     }
     return 1;
 }
 
-/* Tries every way of giving the positions from p on to owners, the ones below p being given already.
- * Returns how many ways signal the row, and keeps one of them in `found`. (An owner that the
- * value at p does not fit is passed over at once: no way with it signals.) */
-static unsigned try_every_way(const unsigned *row, unsigned n, unsigned p, owner owners[4], owner found[4])
+/* Gives all places of r, or takes them back. */
+static void give(division *d, const resource *r, int given)
+{
+    for (unsigned p = 0; p < MOST_POSITIONS; p++)
+        if (has_place(r, p)) {
+            d->owner[p] = r;
+            d->given[p] = given;
+        }
+}
+
+/* Whether all places of r are here and given to nothing yet, and hold what fits it. (Where one does not, no way with it
+ * signals.) */
+static int can_be_given(const division *d, const resource *r, const unsigned *row)
+{
+    for (unsigned p = 0; p < MOST_POSITIONS; p++)
+        if (has_place(r, p) && (p < d->first || p >= d->end || d->given[p] || !fits(r, p, row[p])))
+            return 0;
+    return 1;
+}
+
+/* Tries every way of dividing the positions from p on that are not given yet: the lowest of them to itself, or to each larger
+ * resource. Returns how many ways signal the row, and keeps one of them in `found`. */
+static unsigned try_every_way(const unsigned *row, unsigned p, division *d, division *found)
 {
     unsigned plans = 0;
-    if (p == n) {
-        if (!signals(owners, row, n))
+    while (p < d->end && d->given[p])
+        p++;
+    if (p == d->end) {
+        if (!signals(d, row))
             return 0;
-        memcpy(found, owners, n * sizeof *owners);
+        *found = *d;
         return 1;
     }
-    for (unsigned o = 0; o < OWNERS; o++) {
-        owners[p] = (owner)o;
-        if (fits(owners[p], p, n, row[p]))
-            plans += try_every_way(row, n, p + 1, owners, found);
+    if (fits(ITSELF, p, row[p])) {
+        d->owner[p] = ITSELF;
+        d->given[p] = 1;
+        plans += try_every_way(row, p + 1, d, found);
+        d->given[p] = 0;
     }
+    for (unsigned k = 0; k < MOST_RESOURCES; k++)
+        if (has_place(&larger[k], p) && can_be_given(d, &larger[k], row)) {
+            give(d, &larger[k], 1);
+            plans += try_every_way(row, p + 1, d, found);
+            give(d, &larger[k], 0);
+        }
     return plans;
 }
 
-/* How many plans signal the values of one segment: 01's third demand says none or one. */
-unsigned plans_of_segment(const unsigned *row, unsigned positions, unsigned segment)
+/* How many plans signal the n values from `first` on: 01's third demand says none or one. */
+static unsigned search(const unsigned *row, unsigned first, unsigned n, division *found)
 {
-    owner owners[4], found[4];
-    return try_every_way(row + 4 * segment, positions_in_segment(positions), 0, owners, found);
+    division d;
+    memset(&d, 0, sizeof d);
+    d.first = first;
+    d.end = first + n;
+    list_resources();
+    return try_every_way(row, first, &d, found);
+}
+
+unsigned plans_of_part(const unsigned *row, unsigned first, unsigned n)
+{
+    division found;
+    return search(row, first, n, &found);
+}
+
+static void third_demand(int holds, const char *broken)
+{
+    if (holds)
+        return;
+    fprintf(stderr, "reference: %s: 01's third demand is broken\n", broken);
+    abort();
+}
+
+static int has_plan(const unsigned *row, unsigned first, unsigned n, division *found)
+{
+    unsigned plans = search(row, first, n, found);
+    third_demand(plans <= 1, "two plans signal one part");
+    return plans == 1;
+}
+
+/* "sought in the whole width, then in each half, down to one segment": whether the segment "lies in .. such part with a plan"
+ * (02, T-07). "Each group of four positions is a segment (20 and 40 MHz have one short segment)." */
+static int lies_in_a_plan(const unsigned *row, unsigned positions, unsigned segment)
+{
+    division found;
+    unsigned n = positions;
+    while (!has_plan(row, 4 * segment / n * n, n, &found)) {
+        if (n <= 4)
+            return 0;
+        n /= 2;
+    }
+    return 1;
 }
 
 /* "At position p of its segment, i the place among the nine, four or two of its kind, from 1: 26 has
@@ -156,6 +305,7 @@ static record *add_record(layout *l, size_name size, unsigned index, unsigned po
     r->index = index;
     r->segment = position / 4;
     r->position = position;
+    r->places = 1u << position;
     return r;
 }
 
@@ -185,60 +335,43 @@ static void lay_out_itself(layout *l, unsigned position, unsigned value)
     }
 }
 
-/* The record of a larger resource. "484 1 or 2; 996 1; 484+242 1 to 4 by the position left out." */
-static void add_larger(layout *l, owner o, unsigned position)
-{
-    if (o == LOWER_484 || o == UPPER_484) {
-        add_record(l, TONES_484, o == LOWER_484 ? 1 : 2, position);
-    } else if (o == WHOLE_996) {
-        add_record(l, TONES_996, 1, position);
-    } else {
-        record *r = add_record(l, TONES_484_242, (unsigned)(o - BUT_FIRST) + 1, position);
-        r->left_out = (unsigned)(o - BUT_FIRST);
-    }
-}
-
 /* "A plan lists resources by lowest position, then frequency". */
-static void lay_out_segment(layout *l, const unsigned *row, unsigned first, unsigned n, const owner *owners)
+static void list_records(layout *l, const unsigned *row, const division *d)
 {
-    int record_of_owner[OWNERS];
-    for (unsigned o = 0; o < OWNERS; o++)
-        record_of_owner[o] = -1;
-    for (unsigned p = 0; p < n; p++) {
-        unsigned value = row[first + p];
-        if (owners[p] == ITSELF) {
-            lay_out_itself(l, first + p, value);
+    unsigned record_at[MOST_POSITIONS];
+    for (unsigned p = d->first; p < d->end; p++) {
+        const resource *r = d->owner[p];
+        int is_lowest = r != ITSELF && (r->places & ((1u << p) - 1)) == 0;
+        if (r == ITSELF) {
+            lay_out_itself(l, p, row[p]);
             continue;
         }
-        if (record_of_owner[owners[p]] < 0) {
-            add_larger(l, owners[p], first + p);
-            record_of_owner[owners[p]] = (int)l->records - 1;
-        }
+        if (is_lowest)
+            add_record(l, r->size, r->index, p)->places = r->places;
+        for (unsigned q = p; q < d->end && is_lowest; q++)
+            if (has_place(r, q))
+                record_at[q] = l->records - 1;
         /* "A resource's fields are those of all its places" */
-        for (unsigned k = 0; k < fields_of(value); k++)
-            add_field(l, first + p, (unsigned)record_of_owner[owners[p]]);
+        for (unsigned k = 0; k < fields_of(row[p]); k++)
+            add_field(l, p, record_at[p]);
     }
 }
 
-/* 7: "no plan, even with any number of fields | 0, lowest such segment"; 8: "plan, but a resource over
- * eight fields | 0, lowest such segment". "Segments count from 0." */
+/* 7: "no plan, even with any number of fields", and "Refusal 7 names the lowest segment that lies in no such part with a
+ * plan, 8 the lowest segment of a resource over eight fields" (02, T-07). "Segments count from 0." */
 void lay_out(const unsigned *row, unsigned positions, layout *l)
 {
-    unsigned n = positions_in_segment(positions);
+    division found;
     memset(l, 0, sizeof *l);
-    for (unsigned first = 0; first < positions; first += n) {
-        owner owners[4], found[4];
-        unsigned plans = try_every_way(row + first, n, 0, owners, found);
-        if (plans > 1) {
-            fprintf(stderr, "reference: two plans signal one segment: 01's third demand is broken\n");
-            abort();
-        }
-        if (plans == 0) {
-            l->outcome = answer_of(7, 0, first / 4);
-            return;
-        }
-        lay_out_segment(l, row, first, n, found);
+    if (!has_plan(row, 0, positions, &found)) {
+        unsigned segment = 0;
+        while (4 * segment < positions && lies_in_a_plan(row, positions, segment))
+            segment++;
+        third_demand(4 * segment < positions, "every part has a plan, and the whole has none");
+        l->outcome = answer_of(7, 0, segment);
+        return;
     }
+    list_records(l, row, &found);
     for (unsigned r = 0; r < l->records; r++) {
         if (l->record[r].fields[0] + l->record[r].fields[1] > 8) {
             l->outcome = answer_of(8, 0, l->record[r].segment);

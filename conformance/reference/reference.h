@@ -32,8 +32,10 @@ answer answer_of(uint32_t number, uint32_t channel, uint64_t place);
 
 /* value.c: the values of the RU Allocation subfield. */
 
-/* "Resources: 26, 52, 106, 242, 484 and 996 subcarriers, and the joined ones 106+26 and 484+242." */
-typedef enum { TONES_26, TONES_52, TONES_106, TONES_242, TONES_484, TONES_996, TONES_106_26, TONES_484_242 } size_name;
+/* "Resources: 26, 52, 106, 242, 484 and 996 subcarriers, and the joined ones 106+26 and 484+242." 02 (T-07): "2x996,
+ * 4x996, 996+484 and the rest", as far as 000's table has values for them. */
+typedef enum { TONES_26, TONES_52, TONES_106, TONES_242, TONES_484, TONES_996, TONES_106_26, TONES_484_242,
+               TONES_2X996, TONES_996_484, TONES_3X996, TONES_2X996_484, TONES_3X996_484 } size_name;
 
 /* One of the pieces into which a value divides its position: its size, and its place among the nine,
  * four or two of its kind, from 1. */
@@ -55,11 +57,11 @@ unsigned fields_of(unsigned value);
 typedef struct {
     size_name size;
     unsigned index;
-    unsigned segment;
+    unsigned segment;   /* of its lowest position */
     unsigned position;  /* its lowest position, in the whole row */
     unsigned fields[2]; /* of channel 1, of channel 2 */
     piece piece;        /* where it is a piece of one position: which */
-    unsigned left_out;  /* where it is a 484+242: the position of the segment left out */
+    unsigned places;    /* where it is a 242 or larger: bit p for each position p of the row that is its place */
 } record;
 
 typedef struct {
@@ -72,7 +74,7 @@ typedef struct {
 
 unsigned positions_of(unsigned bandwidth);
 unsigned index_of_piece(piece x, unsigned p); /* at position p of its segment */
-unsigned plans_of_segment(const unsigned *row, unsigned positions, unsigned segment);
+unsigned plans_of_part(const unsigned *row, unsigned first, unsigned n); /* of the n positions from `first` on */
 void lay_out(const unsigned *row, unsigned positions, layout *l);
 
 /* tones.c: a resource's subcarriers, as maximal runs, rising. */

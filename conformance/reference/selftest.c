@@ -137,7 +137,7 @@ static void one_plan(void)
         for (unsigned p = 0; p < 4; p++, rest /= n)
             row[p] = value[rest % n];
         for (unsigned positions = 1; positions <= 4; positions *= 2) {
-            unsigned plans = plans_of_segment(row, positions, 0);
+            unsigned plans = plans_of_part(row, 0, positions);
             if (plans > most)
                 most = plans;
         }
@@ -147,9 +147,9 @@ static void one_plan(void)
 
 /* Each resource of a row has as many subcarriers as its name says, shares none with another and has none in
  * a punctured position. */
-static void apart(const unsigned *row, unsigned positions, const char *what)
+static int lie_apart(const unsigned *row, unsigned positions)
 {
-    static const int count[] = {26, 52, 106, 242, 484, 996, 132, 726};
+    static const int count[] = {26, 52, 106, 242, 484, 996, 132, 726, 1992, 1480, 2988, 2476, 3472};
     static char taken[4096];
     static layout l;
     int holds = 1;
@@ -173,7 +173,12 @@ static void apart(const unsigned *row, unsigned positions, const char *what)
             }
         holds = holds && tones == count[l.record[r].size];
     }
-    expect(l.outcome.number == 0 && holds, what);
+    return l.outcome.number == 0 && holds;
+}
+
+static void apart(const unsigned *row, unsigned positions, const char *what)
+{
+    expect(lie_apart(row, positions), what);
 }
 
 static void subcarriers(void)
@@ -206,6 +211,268 @@ static void indices(void)
     for (unsigned k = 0; k < 36; k++)
         right = right && l.record[k].index == k + 1 + (k >= 18);
     expect(l.records == 36 && right, "the 26s of a segment, 19 left out");
+}
+
+/* "Add the published values from 88 up"; "6 shrinks to the values still not carried, 52+26 among them" (02, T-07): 31 to 47, 49,
+ * 51 to 63 and 304 to 511. */
+static void carried_values(void)
+{
+    for (unsigned value = 0; value < 512; value++) {
+        int refused = (value >= 31 && value <= 47) || value == 49 || (value >= 51 && value <= 63) || value >= 304;
+        unsigned row[2] = {value, 26};
+        static layout l;
+        expect(value_is_carried(value) == !refused, "a value that is carried, or not");
+        if (value < 72 && value != 29 && value != 30)
+            continue;
+        lay_out(row, 1, &l);
+        expect(l.outcome.number == 7 && (refused || fields_of(value) == (value < 64 ? 0 : value % 8 + 1)), "a value too wide for 20 MHz");
+    }
+}
+
+/* A larger resource of 320 MHz as 001's table 9-31i1 has it, "RU2 (484T) + RU2 (996T)" and so on: which 484, and which 996s,
+ * counted in 160 MHz for a 996+484 and else in 320; a 2x996 is two 996s. */
+static const struct {
+    size_name size;
+    unsigned index, rus_996[3], ru_484;
+} mru_of_001[] = {
+    {TONES_996_484, 1, {2}, 2}, {TONES_996_484, 2, {2}, 1}, {TONES_996_484, 3, {1}, 4}, {TONES_996_484, 4, {1}, 3},
+    {TONES_2X996_484, 1, {2, 3}, 2}, {TONES_2X996_484, 2, {2, 3}, 1}, {TONES_2X996_484, 3, {1, 3}, 4}, {TONES_2X996_484, 4, {1, 3}, 3},
+    {TONES_2X996_484, 5, {1, 2}, 6}, {TONES_2X996_484, 6, {1, 2}, 5}, {TONES_2X996_484, 7, {3, 4}, 4}, {TONES_2X996_484, 8, {3, 4}, 3},
+    {TONES_2X996_484, 9, {2, 4}, 6}, {TONES_2X996_484, 10, {2, 4}, 5}, {TONES_2X996_484, 11, {2, 3}, 8}, {TONES_2X996_484, 12, {2, 3}, 7},
+    {TONES_3X996, 1, {2, 3, 4}, 0}, {TONES_3X996, 2, {1, 3, 4}, 0}, {TONES_3X996, 3, {1, 2, 4}, 0}, {TONES_3X996, 4, {1, 2, 3}, 0},
+    {TONES_3X996_484, 1, {2, 3, 4}, 2}, {TONES_3X996_484, 2, {2, 3, 4}, 1}, {TONES_3X996_484, 3, {1, 3, 4}, 4}, {TONES_3X996_484, 4, {1, 3, 4}, 3},
+    {TONES_3X996_484, 5, {1, 2, 4}, 6}, {TONES_3X996_484, 6, {1, 2, 4}, 5}, {TONES_3X996_484, 7, {1, 2, 3}, 8}, {TONES_3X996_484, 8, {1, 2, 3}, 7},
+};
+
+/* A larger resource of a row: the first of its values, its places, and what each holds with no field. */
+typedef struct {
+    size_name size;
+    unsigned index, value, places, empty[MOST_POSITIONS];
+} known;
+
+static known all_known[62];
+static unsigned known_ones;
+
+/* 000: "corresponding to 242-tone RU .. 28", "484-tone RU .. 29", "996-tone RU .. 30". */
+static void add_part(known *x, unsigned first, unsigned positions, unsigned empty)
+{
+    for (unsigned p = first; p < first + positions; p++) {
+        x->places |= 1u << p;
+        x->empty[p] = empty;
+    }
+}
+
+static known *add_known(size_name size, unsigned index, unsigned value)
+{
+    known *x = &all_known[known_ones++];
+    x->size = size;
+    x->index = index;
+    x->value = value;
+    return x;
+}
+
+/* Those that lie in a segment by 01's words: a pair, four, three of four by the position left out. */
+static void add_segment(unsigned first)
+{
+    for (unsigned k = 0; k < 2; k++)
+        add_part(add_known(TONES_484, k + 1, 72), first + 2 * k, 2, 29);
+    add_part(add_known(TONES_996, 1, 80), first, 4, 30);
+    for (unsigned k = 0; k < 4; k++) {
+        known *x = add_known(TONES_484_242, k + 1, 96 + 8 * k);
+        add_part(x, first + (k < 2 ? 2 : 0), 2, 29);
+        add_part(x, first + (k ^ 1), 1, 28);
+    }
+}
+
+/* An entry of 001's table, its values by 000's: "996+484" from 128 on, "3x996" from 160, "3x996+484" from 192, and of
+ * "2x996+484" from 256 on "MRU1 or MRU 7" to "MRU6 or MRU 12". */
+static void add_mru(unsigned k, unsigned first)
+{
+    unsigned index = mru_of_001[k].index;
+    unsigned from = mru_of_001[k].size == TONES_996_484 ? 128 : mru_of_001[k].size == TONES_3X996 ? 160
+        : mru_of_001[k].size == TONES_3X996_484 ? 192 : 256;
+    known *x = add_known(mru_of_001[k].size, index, from + 8 * (from == 256 ? (index - 1) % 6 : index - 1));
+    for (unsigned j = 0; j < 3 && mru_of_001[k].rus_996[j] != 0; j++)
+        add_part(x, first + 4 * (mru_of_001[k].rus_996[j] - 1), 4, 30);
+    if (mru_of_001[k].ru_484 != 0)
+        add_part(x, first + 2 * (mru_of_001[k].ru_484 - 1), 2, 29);
+}
+
+static void add_all_known(void)
+{
+    for (unsigned first = 0; first < 16; first += 4)
+        add_segment(first);
+    for (unsigned first = 0; first < 16; first += 8)
+        add_part(add_known(TONES_2X996, 1, 88), first, 8, 30);
+    for (unsigned k = 0; k < sizeof mru_of_001 / sizeof mru_of_001[0]; k++) {
+        add_mru(k, 0);
+        if (mru_of_001[k].size == TONES_996_484)
+            add_mru(k, 8);
+    }
+    expect(known_ones == 62, "the larger resources of 320 MHz");
+}
+
+/* A row that this way of dividing signals. Of each resource the lowest place has a field, and the other positions are 242s; or
+ * of each that must be named the highest place has eight, and the other positions are 242s without field; or up to eight of
+ * its places have one, and the other positions are punctured. */
+static void divided_row(const known *const *chosen, unsigned n, unsigned positions, unsigned variant, unsigned *row)
+{
+    static const unsigned other[3] = {64, 28, 26};
+    for (unsigned p = 0; p < positions; p++)
+        row[p] = other[variant];
+    for (unsigned k = 0; k < n; k++) {
+        const known *x = chosen[k];
+        unsigned own = 0, highest = 0, lowest = 16;
+        for (unsigned p = 0; p < positions; p++) {
+            if (!(x->places >> p & 1))
+                continue;
+            lowest = lowest < p ? lowest : p;
+            highest = p;
+            row[p] = variant == 2 && own++ < 8 ? x->value : x->empty[p];
+        }
+        if (variant == 0)
+            row[lowest] = x->value;
+        if (variant == 1 && x->size != TONES_484 && x->size != TONES_996)
+            row[highest] = x->value + 7;
+    }
+}
+
+static int is_chosen(const record *r, const known *const *chosen, unsigned n)
+{
+    for (unsigned k = 0; k < n; k++)
+        if (r->size == chosen[k]->size && r->index == chosen[k]->index && r->places == chosen[k]->places)
+            return 1;
+    return 0;
+}
+
+/* The larger resources are those that were chosen, "by lowest position". */
+static int is_divided_so(const unsigned *row, unsigned positions, const known *const *chosen, unsigned n)
+{
+    static layout l;
+    unsigned larger = 0;
+    lay_out(row, positions, &l);
+    for (unsigned r = 0; r < l.records; r++) {
+        const record *x = &l.record[r];
+        if (!(x->places >> x->position & 1) || (x->places & ((1u << x->position) - 1)) != 0 || x->segment != x->position / 4
+            || (r > 0 && l.record[r - 1].position >= x->position))
+            return 0;
+        larger += x->size != TONES_242;
+        if (x->size != TONES_242 && !is_chosen(x, chosen, n))
+            return 0;
+    }
+    return l.outcome.number == 0 && larger == n;
+}
+
+static unsigned divisions, found_again;
+
+/* Every way of dividing the positions from p on, those that are taken aside. */
+static void divide(unsigned positions, unsigned p, unsigned taken, const known **chosen, unsigned n)
+{
+    while (p < positions && (taken >> p & 1))
+        p++;
+    if (p >= positions) {
+        int right = 1;
+        for (unsigned variant = 0; variant < 3; variant++) {
+            unsigned row[MOST_POSITIONS];
+            divided_row(chosen, n, positions, variant, row);
+            right = right && is_divided_so(row, positions, chosen, n) && lie_apart(row, positions);
+        }
+        divisions++;
+        found_again += (unsigned)right;
+        return;
+    }
+    divide(positions, p + 1, taken, chosen, n);
+    for (unsigned k = 0; k < known_ones; k++) {
+        unsigned places = all_known[k].places;
+        if ((places >> p & 1) && (places & taken) == 0 && (places & ((1u << p) - 1)) == 0 && places >> positions == 0) {
+            chosen[n] = &all_known[k];
+            divide(positions, p + 1, taken | places, chosen, n + 1);
+        }
+    }
+}
+
+static void every_division(void)
+{
+    static const unsigned how_many[5] = {1, 2, 9, 90, 8372};
+    add_all_known();
+    for (unsigned bandwidth = 0; bandwidth <= 4; bandwidth++) {
+        const known *chosen[MOST_POSITIONS];
+        divisions = found_again = 0;
+        divide(positions_of(bandwidth), 0, 0, chosen, 0);
+        expect(divisions == how_many[bandwidth], "the ways of dividing a channel into resources");
+        expect(found_again == divisions, "each way of dividing a channel is found again, its resources apart");
+    }
+}
+
+/* 02, T-07, by hand. */
+static void wide_rows(void)
+{
+    static const struct {
+        unsigned positions, number, place, fields;
+        const char *what;
+        unsigned row[16];
+    } of[] = {
+        {8, 0, 1, 1, "160: one 2x996", {88, 30, 30, 30, 30, 30, 30, 30}},
+        {8, 0, 1, 8, "160: its own value at the last place", {30, 30, 30, 30, 30, 30, 30, 95}},
+        {8, 0, 1, 8, "160: a field at each of its places", {88, 88, 88, 88, 88, 88, 88, 88}},
+        {8, 0, 2, 0, "160: a row of 30s alone stays single 996s", {30, 30, 30, 30, 30, 30, 30, 30}},
+        {8, 0, 2, 1, "160: two 996s", {30, 30, 30, 30, 30, 30, 80, 30}},
+        {8, 7, 0, 0, "160: a 2x996 beside a value of a 996", {88, 30, 30, 30, 30, 80, 30, 30}},
+        {8, 7, 0, 0, "160: 29 where 30 is due", {88, 30, 30, 30, 30, 30, 30, 29}},
+        {8, 7, 1, 0, "160: the same, its own value in the second segment", {30, 30, 30, 30, 88, 30, 30, 29}},
+        {8, 0, 1, 1, "160: a 996+484", {26, 27, 128, 29, 30, 30, 30, 30}},
+        {8, 7, 0, 0, "160: 28 on a pair where 29 is due", {26, 27, 128, 28, 30, 30, 30, 30}},
+        {8, 7, 0, 0, "160: 30 in a segment half its own", {26, 27, 128, 30, 30, 30, 30, 30}},
+        {8, 7, 0, 0, "160: 29 in a segment wholly its own", {26, 27, 128, 29, 30, 30, 29, 29}},
+        {8, 0, 2, 0, "160: a 484 and a 996, as no value is a 996+484's", {26, 27, 29, 29, 30, 30, 30, 30}},
+        {8, 7, 0, 0, "160: two kinds of 996+484", {26, 27, 128, 29, 136, 30, 30, 30}},
+        {8, 0, 5, 5, "160: 48 in a left-out third position, 50 in a fourth", {136, 29, 48, 50, 30, 30, 30, 30}},
+        {8, 7, 0, 0, "160: 50 in a left-out third position", {136, 29, 50, 26, 30, 30, 30, 30}},
+        {8, 0, 2, 3, "160: a 484 in the left-out pair", {30, 144, 30, 30, 72, 29, 144, 29}},
+        {8, 0, 2, 1, "160: a 484 without field there", {30, 144, 30, 30, 29, 29, 29, 29}},
+        {8, 7, 0, 0, "160: half of a 484 there", {30, 144, 30, 30, 29, 28, 29, 29}},
+        {8, 0, 3, 1, "160: two 28s there", {30, 30, 30, 30, 29, 152, 28, 28}},
+        {1, 7, 0, 0, "20: 88", {88}},
+        {2, 7, 0, 0, "40: 88", {88, 88}},
+        {4, 7, 0, 0, "80: 88", {88, 30, 30, 30}},
+        {4, 7, 0, 0, "80: 128", {26, 26, 128, 29}},
+        {8, 7, 0, 0, "160: 184", {184, 30, 30, 30, 30, 30, 30, 30}},
+        {8, 7, 1, 0, "160: 160", {64, 64, 64, 64, 160, 30, 30, 30}},
+        {8, 7, 1, 0, "160: 256 on a 996+484", {26, 26, 29, 29, 30, 30, 30, 256}},
+        {16, 0, 2, 2, "320: two 2x996", {30, 30, 30, 30, 88, 30, 30, 30, 30, 30, 30, 88, 30, 30, 30, 30}},
+        {16, 0, 3, 1, "320: a 2x996 and two 996s", {30, 30, 30, 30, 88, 30, 30, 30, 30, 30, 30, 30, 30, 30, 30, 30}},
+        {16, 7, 1, 0, "320: a 2x996 across the halves", {64, 64, 64, 64, 88, 30, 30, 30, 30, 30, 30, 30, 64, 64, 64, 64}},
+        {16, 7, 1, 0, "320: its own value in both", {64, 64, 64, 64, 88, 30, 30, 30, 88, 30, 30, 30, 64, 64, 64, 64}},
+        {16, 7, 1, 0, "320: a 996+484 across the halves", {64, 64, 64, 64, 26, 26, 128, 29, 30, 30, 30, 30, 64, 64, 64, 64}},
+        {16, 0, 5, 5, "320: a 3x996 around four 242s", {30, 30, 30, 30, 64, 64, 64, 64, 168, 30, 30, 30, 30, 30, 30, 30}},
+        {16, 0, 3, 1, "320: a 3x996+484", {30, 30, 30, 30, 30, 30, 30, 30, 30, 30, 30, 30, 28, 28, 29, 240}},
+        {16, 7, 0, 0, "320: without field, 30 on its pair", {240, 30, 30, 30, 30, 30, 30, 30, 30, 30, 30, 30, 28, 28, 30, 30}},
+        {16, 0, 1, 1, "320: the lower 2x996+484 of 256", {26, 26, 256, 29, 30, 30, 30, 30, 30, 30, 30, 30, 26, 26, 26, 26}},
+        {16, 0, 1, 1, "320: the upper one", {26, 26, 26, 26, 26, 26, 256, 29, 30, 30, 30, 30, 30, 30, 30, 30}},
+        {16, 0, 2, 1, "320: the lower one by a place that both have", {27, 27, 29, 29, 30, 30, 30, 30, 256, 30, 30, 30, 30, 30, 30, 30}},
+        {16, 0, 2, 1, "320: the upper one by the same place", {30, 30, 30, 30, 27, 27, 29, 29, 256, 30, 30, 30, 30, 30, 30, 30}},
+        {16, 7, 2, 0, "320: neither", {30, 30, 30, 30, 30, 30, 30, 30, 256, 30, 30, 30, 30, 30, 30, 30}},
+        {16, 0, 2, 9, "320: a 996+484 and a 2x996+484 in one half",
+         {30, 153, 30, 30, 29, 152, 29, 257, 30, 30, 30, 258, 30, 30, 256, 30}},
+        {16, 8, 0, 0, "320: nine fields in four segments", {26, 26, 193, 29, 194, 30, 30, 30, 30, 193, 30, 30, 30, 30, 30, 193}},
+        {16, 0, 1, 8, "320: eight", {26, 26, 193, 29, 193, 30, 30, 30, 30, 193, 30, 30, 30, 30, 30, 193}},
+        {16, 8, 1, 0, "320: nine from the second segment on", {64, 64, 64, 64, 26, 26, 257, 29, 258, 30, 30, 30, 259, 30, 30, 30}},
+        {16, 8, 0, 0, "320: nine in the upper half, of a resource that begins in the lower",
+         {30, 30, 30, 30, 79, 72, 64, 64, 172, 30, 30, 30, 171, 30, 30, 30}},
+        {16, 8, 1, 0, "320: eight there, and nine of a 484", {30, 30, 30, 30, 79, 72, 64, 64, 171, 30, 30, 30, 171, 30, 30, 30}},
+        {16, 7, 2, 0, "320: 7 in the third segment before 8 in the first", {95, 88, 30, 30, 30, 30, 30, 30, 29, 28, 64, 64, 64, 64, 64, 64}},
+        {16, 7, 2, 0, "320: a half with a plan, then a segment with none", {88, 30, 30, 30, 30, 30, 30, 30, 29, 28, 64, 64, 64, 64, 64, 64}},
+        {16, 7, 1, 0, "320: segments with a plan around one with none", {30, 30, 30, 30, 88, 30, 30, 29, 64, 64, 64, 64, 64, 64, 64, 64}},
+        {16, 7, 2, 0, "320: 29 far from a 3x996's own value", {30, 30, 30, 30, 64, 64, 64, 64, 168, 30, 30, 30, 30, 30, 30, 29}},
+        {16, 7, 0, 0, "320: the same, in the first segment", {30, 30, 30, 29, 64, 64, 64, 64, 168, 30, 30, 30, 30, 30, 30, 30}},
+        {16, 7, 3, 0, "320: a value that is not carried", {30, 30, 30, 30, 30, 30, 30, 30, 30, 30, 30, 30, 304, 30, 30, 30}},
+    };
+    static const unsigned lower[16] = {26, 26, 29, 29, 30, 30, 30, 30, 301, 30, 30, 30, 26, 26, 26, 26};
+    for (unsigned k = 0; k < sizeof of / sizeof of[0]; k++)
+        row_is(of[k].row, of[k].positions, of[k].number, of[k].place, of[k].fields, of[k].what);
+    only_record_is(of[0].row, 8, TONES_2X996, 1, "160: one 2x996");
+    only_record_is(of[8].row, 8, TONES_996_484, 1, "160: a 996+484");
+    row_is(lower, 16, 7, 2, 0, "320: a value of another 2x996+484");
 }
 
 static void answer_is(answer a, uint32_t number, uint32_t channel, uint64_t place, const char *what)
@@ -316,6 +583,38 @@ static void worked_listing(void)
                "ru=106 index=1 segment=0 users=1 tones=-243:-138\n"
                "ru=106+26 index=2 segment=0 users=1 tones=-136:-111,-109:-4\n"
                "sta=11 resource=1\nsta=12 resource=2\n", "01's listing, whole");
+}
+
+/* 02, T-07: two frames listed by hand, a 2x996 with fields in both channels, and two joined resources of which each has places
+ * between the other's; their words, and back. "index= counts in the resource's own span", segment= "is that of its lowest
+ * place". */
+static void wide_frames(void)
+{
+    static const unsigned one[8] = {88, 30, 30, 30, 30, 30, 30, 89},
+        two[16] = {30, 153, 30, 30, 29, 152, 29, 257, 30, 30, 30, 258, 30, 30, 256, 30};
+    static const uint32_t of_one[3] = {11, 12, 13}, of_two[9] = {101, 201, 202, 203, 204, 205, 206, 207, 208};
+    uint8_t cc[2][512], back[2][512];
+    uint32_t words[154];
+    size_t bytes;
+    listing_is(3, one, of_one,
+               "answer=0\nbw=3\nresources=1\nfields1=1\nfields2=2\nstations=3\n"
+               "ru=2x996 index=1 segment=0 users=3 tones=-1012:-515,-509:-12,12:509,515:1012\n"
+               "sta=11 resource=1\nsta=12 resource=1\nsta=13 resource=1\n", "a 2x996, listed");
+    listing_is(4, two, of_two,
+               "answer=0\nbw=4\nresources=2\nfields1=1\nfields2=8\nstations=9\n"
+               "ru=996+484 index=4 segment=0 users=3 tones=-2036:-1539,-1533:-1036,-1012:-771,-765:-524\n"
+               "ru=2x996+484 index=7 segment=1 users=6 tones=-500:-259,-253:-12,12:509,515:1012,1036:1533,1539:2036\n"
+               "sta=101 resource=2\nsta=201 resource=1\nsta=202 resource=1\nsta=203 resource=1\nsta=204 resource=2\n"
+               "sta=205 resource=2\nsta=206 resource=2\nsta=207 resource=2\nsta=208 resource=2\n", "a 996+484 and a 2x996+484, listed");
+    bytes = frame(4, two, of_two, cc);
+    answer_is(reference_read(4, cc[0], bytes, cc[1], bytes, words, 154), 0, 0, 19, "values above 255 are read");
+    expect(words[2] == (30u << 13 | 0x400000) && words[3] == (0x299 | 0x21E << 10 | 0x21E << 20) && words[6] == (0x21E | 0x302 << 10 | 0x21E << 20),
+           "values above 255 stand in the words as they are");
+    expect((words[10] & 0xFF) == 0x47, "alone in its channel, but not on its resource");
+    answer_is(reference_write(4, words, 19, back[0], 512, back[1], 512), 0, 0, bytes, "and back");
+    expect(memcmp(back[0], cc[0], bytes) == 0 && memcmp(back[1], cc[1], bytes) == 0, "the same channels of a wide row");
+    words[6] ^= 1u << 10 ^ 2u << 10; /* one field less and one too many */
+    answer_is(reference_write(4, words, 19, back[0], 512, back[1], 512), 13, 0, 0, "words that tell of another number of fields");
 }
 
 /* 02, T-01: "stations= leaves it out and its line has none for the number, resource= staying". "It keeps its
@@ -1083,6 +1382,41 @@ static void compared_example(void)
     expect(memcmp(x.cc[0], channel_1_mended, 23) == 0 && memcmp(x.cc[1], channel_2, 23) == 0, "004's channels, from its fields");
 }
 
+/* 02, T-07: a wider resource by the same fields at other places; beside others; and beside the other one of its values. */
+static void compared_wide(void)
+{
+    one_frame x = {3, 0, {88, 30, 30, 30, 30, 30, 30, 30}, {11}, {{0}}, {0}}, y = {3, 0, {30, 30, 30, 30, 30, 30, 30, 88}, {11}, {{0}}, {0}};
+    one_frame lower = {4, 0, {26, 26, 29, 29, 30, 30, 30, 30, 257, 30, 30, 30, 26, 26, 26, 26}, {11, 12}, {{0}}, {0}}, upper = lower;
+    frames_differ(x, y,
+                  "frame=1 position=0 value=88\nframe=2 position=0 value=30\n"
+                  "frame=1 position=7 value=30\nframe=2 position=7 value=88\n", "a 2x996's field told in the other channel");
+    y.row[7] = 30;
+    y.row[0] = 80;
+    frames_differ(x, y,
+                  "frame=1 position=0 value=88\nframe=2 position=0 value=80\n"
+                  "frame=1 ru=2x996 index=1 segment=0 users=1 tones=-1012:-515,-509:-12,12:509,515:1012\n"
+                  "frame=2 ru=996 index=1 segment=0 users=1 tones=-1012:-515,-509:-12\n"
+                  "frame=2 ru=996 index=1 segment=1 users=0 tones=12:509,515:1012\n"
+                  "frame=1 user=1 sta=11 bits=00000B ru=2x996 index=1 segment=0\n"
+                  "frame=2 user=1 sta=11 bits=00000B ru=996 index=1 segment=0\n", "a 2x996 beside two 996s");
+    for (unsigned p = 0; p < 16; p++)
+        upper.row[p] = lower.row[(p + 12) % 16];
+    upper.row[8] = 257;
+    upper.row[12] = 30;
+    frames_differ(lower, upper,
+                  "frame=1 position=2 value=29\nframe=2 position=2 value=26\nframe=1 position=3 value=29\nframe=2 position=3 value=26\n"
+                  "frame=1 position=4 value=30\nframe=2 position=4 value=26\nframe=1 position=5 value=30\nframe=2 position=5 value=26\n"
+                  "frame=1 position=6 value=30\nframe=2 position=6 value=29\nframe=1 position=7 value=30\nframe=2 position=7 value=29\n"
+                  "frame=1 position=12 value=26\nframe=2 position=12 value=30\nframe=1 position=13 value=26\nframe=2 position=13 value=30\n"
+                  "frame=1 position=14 value=26\nframe=2 position=14 value=30\nframe=1 position=15 value=26\nframe=2 position=15 value=30\n"
+                  "frame=1 ru=2x996+484 index=1 segment=0 users=2 tones=-1524:-1283,-1277:-1036,-1012:-515,-509:-12,12:509,515:1012\n"
+                  "frame=2 ru=2x996+484 index=7 segment=1 users=2 tones=-500:-259,-253:-12,12:509,515:1012,1036:1533,1539:2036\n"
+                  "frame=1 user=1 sta=11 bits=00000B ru=2x996+484 index=1 segment=0\n"
+                  "frame=2 user=1 sta=11 bits=00000B ru=2x996+484 index=7 segment=1\n"
+                  "frame=1 user=2 sta=12 bits=00000C ru=2x996+484 index=1 segment=0\n"
+                  "frame=2 user=2 sta=12 bits=00000C ru=2x996+484 index=7 segment=1\n", "one family's lower resource beside its upper one");
+}
+
 static void pair_of_texts_is(const char *text, const char *expected)
 {
     static char out[MOST_COMPARISON];
@@ -1126,8 +1460,12 @@ int self_test(void)
     one_plan();
     subcarriers();
     indices();
+    carried_values();
+    every_division();
+    wide_rows();
     example();
     worked_listing();
+    wide_frames();
     unassigned();
     written_fields();
     every_field();
@@ -1145,6 +1483,7 @@ int self_test(void)
     compared_values();
     compared_users();
     compared_example();
+    compared_wide();
     compared_texts();
     printf("reference: held to the papers\n%d passed, %d failed\n", passed, failed);
     return failed != 0;

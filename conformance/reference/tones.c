@@ -4,7 +4,8 @@
 #include <stdio.h>
 #include <string.h>
 
-const char *const name_of_size[] = {"26", "52", "106", "242", "484", "996", "106+26", "484+242"};
+const char *const name_of_size[] = {"26", "52", "106", "242", "484", "996", "106+26", "484+242",
+                                    "2x996", "996+484", "3x996", "2x996+484", "3x996+484"};
 
 /* "Subcarriers are signed numbers, 0 at the channel's centre." Those that a resource takes are marked
  * one by one; a run is read off afterwards. */
@@ -79,9 +80,31 @@ static void take_242(tones *t, unsigned position, unsigned positions)
     }
 }
 
+/* "996 is -500 to -3 and 3 to 500", of its segment's centre. */
+static void take_996(tones *t, unsigned segment, unsigned positions)
+{
+    int centre = centre_of(segment, positions);
+    take(t, centre - 500, centre - 3);
+    take(t, centre + 3, centre + 500);
+}
+
+/* "484 is its two 242s, 484+242 its three"; a wider resource has those of its 996s and 484s (02, T-07), a 996 being a
+ * segment wholly its own. */
+static void take_places(tones *t, unsigned places, unsigned positions)
+{
+    for (unsigned segment = 0; segment < 4; segment++) {
+        if ((places >> 4 * segment & 15) == 15) {
+            take_996(t, segment, positions);
+            continue;
+        }
+        for (unsigned p = 4 * segment; p < 4 * segment + 4; p++)
+            if (places >> p & 1)
+                take_242(t, p, positions);
+    }
+}
+
 static void take_resource(tones *t, const record *r, unsigned positions)
 {
-    unsigned first = r->segment * 4;
     switch (r->size) {
     case TONES_26:
     case TONES_52:
@@ -92,22 +115,8 @@ static void take_resource(tones *t, const record *r, unsigned positions)
         take_piece(t, TONES_106, r->piece.place, r->position, positions);
         take_piece(t, TONES_26, 5, r->position, positions);
         break;
-    case TONES_242:
-        take_242(t, r->position, positions);
-        break;
-    case TONES_484: /* "484 is its two 242s" */
-        take_242(t, r->position, positions);
-        take_242(t, r->position + 1, positions);
-        break;
-    case TONES_484_242: /* "484+242 its three" */
-        for (unsigned p = 0; p < 4; p++)
-            if (p != r->left_out)
-                take_242(t, first + p, positions);
-        break;
-    case TONES_996: /* "996 is -500 to -3 and 3 to 500" */
-        take(t, centre_of(r->segment, positions) - 500, centre_of(r->segment, positions) - 3);
-        take(t, centre_of(r->segment, positions) + 3, centre_of(r->segment, positions) + 500);
-        break;
+    default:
+        take_places(t, r->places, positions);
     }
 }
 

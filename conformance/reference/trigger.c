@@ -58,22 +58,25 @@ static void find_piece(record *r)
         }
 }
 
-/* The lowest position of the resource, which of its pieces it is, and what a 484+242 leaves out: "242 p+1; 484 1 or 2;
- * 996 1; 484+242 1 to 4 by the position left out" (01). */
+/* The lowest position of the resource, and which of its pieces or which positions it is: "242 p+1; 484 1 or 2; 996 1;
+ * 484+242 1 to 4 by the position left out" (01). */
 static void find_place(record *r)
 {
     switch (r->size) {
     case TONES_242:
         r->position = r->index - 1;
+        r->places = 1u << r->position;
         break;
     case TONES_484:
         r->position = 2 * (r->index - 1);
+        r->places = 3u << r->position;
         break;
     case TONES_996:
+        r->places = 15;
         break;
     case TONES_484_242:
-        r->left_out = r->index - 1;
-        r->position = r->left_out == 0 ? 1 : 0;
+        r->position = r->index == 1 ? 1 : 0;
+        r->places = 15 - (1u << (r->index - 1));
         break;
     default:
         find_piece(r);

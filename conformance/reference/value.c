@@ -8,11 +8,12 @@ answer answer_of(uint32_t number, uint32_t channel, uint64_t place)
 }
 
 /* "0 to 15 .. 16 to 19 .. 20 to 23 .. 24 .. 25 .. 26 .. 27 .. 28, 29, 30 .. 48 .. 50 .. 64 to 71 ..
- * 72 to 79 .. 80 to 87 .. 96 to 103, 104 to 111, 112 to 119, 120 to 127 .. All else isn't carried." */
+ * 72 to 79 .. 80 to 87 .. 96 to 103, 104 to 111, 112 to 119, 120 to 127 .. All else isn't carried." 02 (T-07): "Add the
+ * published values from 88 up .. 6 shrinks to the values still not carried": 88 to 95 and 128 to 303 of 000's table. */
 int value_is_carried(unsigned value)
 {
-    return value <= 30 || value == 48 || value == 50 || (value >= 64 && value <= 87)
-        || (value >= 96 && value <= 127);
+    return value <= 30 || value == 48 || value == 50 || (value >= 64 && value <= 87) || (value >= 88 && value <= 95)
+        || (value >= 96 && value <= 127) || (value >= 128 && value <= 303);
 }
 
 static unsigned add(piece *pieces, unsigned n, size_name size, unsigned place)
@@ -79,7 +80,8 @@ unsigned pieces_of(unsigned value, piece pieces[9])
 }
 
 /* "64 to 71: 242 with 1 to 8 fields. 72 to 79: 484. 80 to 87: 996. 96 to 103, .., 120 to 127: 484+242
- * .., each with 1 to 8 fields"; 26, 27 and 28, 29, 30 have none. */
+ * .., each with 1 to 8 fields", as the values of 02 (T-07) from 88 to 303, "with y2y1y0 indicating the number of User fields"
+ * (000); 26, 27 and 28, 29, 30 have none. */
 unsigned fields_of(unsigned value)
 {
     piece pieces[9];

@@ -46,6 +46,7 @@ fn print_size(size: Size) {
         Size::S242 => text(b"242"),
         Size::S484 => text(b"484"),
         Size::S996 => text(b"996"),
+        Size::S2x996 => text(b"2x996"),
     }
 }
 
@@ -53,6 +54,10 @@ fn print_pairing(pairing: Pairing) {
     match pairing {
         Pairing::P106And26 => text(b"106+26"),
         Pairing::P484And242 => text(b"484+242"),
+        Pairing::P996And484 => text(b"996+484"),
+        Pairing::P3x996 => text(b"3x996"),
+        Pairing::P2x996And484 => text(b"2x996+484"),
+        Pairing::P3x996And484 => text(b"3x996+484"),
     }
 }
 
@@ -95,7 +100,7 @@ fn print_comma(i: usize) {
 
 // The runs of a resource, in a channel of n positions.
 fn print_tones(t: Tones, n: u16)
-    requires { ⌜ (t .count ≤ 3) × (length (t .runs) ≡ 3) ⌝ }
+    requires { ⌜ (t .count ≤ 8) × (length (t .runs) ≡ 8) ⌝ }
 {
     let count = t.count as usize;
     let runs = t.runs;
@@ -109,7 +114,7 @@ fn print_tones(t: Tones, n: u16)
 
 // A resource, and its subcarriers in a channel of n positions.
 fn print_record(x: Record, t: Tones, n: u16)
-    requires { ⌜ (t .count ≤ 3) × (length (t .runs) ≡ 3) ⌝ }
+    requires { ⌜ (t .count ≤ 8) × (length (t .runs) ≡ 8) ⌝ }
 {
     let resource = x.resource;
     text(b" | ");
@@ -145,7 +150,7 @@ fn print_pieces(n: u16, v: u16, p: usize)
 
 // The larger resource of this kind, where p is its lowest position.
 fn print_larger(row: &[u16], kind: u16, p: usize)
-    requires { ⌜ (length (now row) ≤ 16) × (p < length (now row)) × (kind < 7) ⌝ }
+    requires { ⌜ (length (now row) ≤ 16) × (p < length (now row)) × (kind < 36) ⌝ }
 {
     if records::listed_of(kind, p, row[p]) == 0 {
         return;
@@ -156,7 +161,7 @@ fn print_larger(row: &[u16], kind: u16, p: usize)
 
 // The resources whose lowest position is p, which is given to this kind.
 fn print_position(row: &[u16], kind: u16, p: usize)
-    requires { ⌜ (length (now row) ≤ 16) × (p < length (now row)) × (kind < 7) ⌝ }
+    requires { ⌜ (length (now row) ≤ 16) × (p < length (now row)) × (kind < 36) ⌝ }
 {
     if kind == 0 {
         print_pieces(row.len() as u16, row[p], p);

@@ -1,9 +1,24 @@
--- `vectors::rows::print_larger` is safe: a resource has at most three runs.
+-- `vectors::rows::print_larger` is safe: a resource has at most eight runs.
+use mathlib.Core.Logic.{⊎-elim}
+use Prim.Native.Nat.{ℕ, _*_, _/_, _≤_, _<_}
+use native.Mathlib.Omega.{arith}
+use lib.ListN.{length}
+use Rattle.resource.proofs.Test.{below-or}
 use Rattle.resource.proofs.Held.{held-few}
 use Rattle.resource.proofs.Places.{places-few}
+use Rattle.kinds.specs.Kinds.{span}
+use Rattle.records.specs.Engine.{placesOf, largerRuns}
+use Rattle.records.proofs.Larger.{narrow-is, wide-is, wide-few}
 use borrow.Author.Needs.{needs}
 use Rattle.vectors.proofs.rows.print_larger.Statement.{statement}
 use Rattle.vectors.proofs.rows.print_larger.Tie as tie
+
+larger-few : (c p : ℕ) → c < 36 → length (largerRuns c p) ≤ 8
+larger-few c p h =
+    ⊎-elim
+    (λ (l : c < 7). rw (narrow-is c p l) (omega (arith, places-few (4 * (p / 4)) (placesOf c p))))
+    (λ (l : 7 ≤ c). rw (wide-is c p h l) (wide-few c (span c * (p / span c)) h))
+    (below-or c 7)
 
 mul-listed-of : tie.Need-mul-listed-of
 mul-listed-of c = search needs
@@ -27,7 +42,8 @@ cast-print-record : tie.Need-cast-print-record
 cast-print-record c = search needs
 
 print-record-requires : tie.Need-print-record-requires
-print-record-requires c κs = held-few _ _ (c .before .larger-tones .ensures) (places-few _ _)
+print-record-requires c κs =
+    held-few _ _ (c .before .larger-tones .ensures) (larger-few _ _ (c .before .before .before .before .before .before .pre .2))
 
 returns-2 : tie.Need-returns-2
 returns-2 c = search needs

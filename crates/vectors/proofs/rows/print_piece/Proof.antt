@@ -1,4 +1,4 @@
--- `vectors::rows::print_piece` is safe: a piece of a value is there, and has at most three runs.
+-- `vectors::rows::print_piece` is safe: a piece of a value is there, and has at most eight runs.
 use native.Mathlib.Omega.{arith}
 use Rattle.resource.proofs.Starts.{place-most}
 use Rattle.resource.proofs.Pieces.{own-piece}
