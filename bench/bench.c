@@ -7,8 +7,9 @@
  * For each kind of frame the library and the baseline are timed in turn, round by round, in one process: nanoseconds
  * per frame in the best round of each, and the library's ratio to the baseline, the median over the rounds. Before
  * that both are held to the reference on every frame. The frames: of each bandwidth with few User fields, drawn at
- * random, and all 0, with the geometric mean of their ratios and the worst of them; and of each refusal. Then two frames
- * compared (compares.c), a Trigger's entries (triggers.c), and the check alone (check.c).
+ * random, and all 0, with the geometric mean of their ratios and the worst of them, none of these with a resource wider than a
+ * segment; then of 160 and 320 MHz with such resources; and of each refusal. Then two frames compared (compares.c), a Trigger's
+ * entries (triggers.c), and the check alone (check.c).
  */
 #include "cases/cases.h"
 #include "check.h"
@@ -124,12 +125,15 @@ static void of_row(chance *c, unsigned bandwidth, const unsigned *row)
     complete();
 }
 
-static void of_random_rows(chance *c, unsigned bandwidth)
+static void of_random_rows(chance *c, unsigned bandwidth, int wide)
 {
     for (unsigned k = 0; k < used; k++)
         do {
             unsigned row[16];
-            draw_good_row(c, positions_of(bandwidth), row);
+            if (wide)
+                draw_wide_row(c, positions_of(bandwidth), 0, row);
+            else
+                draw_good_row(c, positions_of(bandwidth), row);
             build_frame(c, bandwidth, row, &frames[k]);
         } while (number_of(&frames[k], BRACHYMEL_WORDS_SIZE) != 0);
     complete();
@@ -164,29 +168,46 @@ static void of_one_station(void)
 
 /* ---- the tables */
 
-static const char *const kind_name[] = {"few fields", "random", "all 0"};
+enum { FEW, RANDOM, ALL_0, ONE_WIDE, WIDE_MANY, WIDE_RANDOM };
+static const char *const kind_name[] = {"few fields", "random", "all 0", "one wide, one field", "wide, many fields", "wide, random"};
 
-/* Frames of a bandwidth with few User fields, drawn at random, or with all values 0. */
+/* Frames of a bandwidth with few User fields, drawn at random, or with all values 0. Of 160 and 320 MHz also with a resource
+ * wider than a segment: one field; sixteen or more, of a 996+484 beside 26s and of two that lie in one another's gaps; drawn. */
 static void of_kind(chance *c, unsigned bandwidth, unsigned kind)
 {
     static const unsigned few[5][16] = {{64}, {72, 29}, {80, 30, 30, 30}, {80, 30, 30, 30, 80, 30, 30, 30},
                                         {80, 30, 30, 30, 80, 30, 30, 30, 80, 30, 30, 30, 80, 30, 30, 30}},
-                          zeros[16] = {0};
-    if (kind == 1)
-        of_random_rows(c, bandwidth);
-    else
-        of_row(c, bandwidth, kind == 0 ? few[bandwidth] : zeros);
+                          zeros[16] = {0},
+                          one_wide[2][16] = {{88, 30, 30, 30, 30, 30, 30, 30},
+                                             {29, 29, 192, 29, 30, 30, 30, 30, 30, 30, 30, 30, 30, 30, 30, 30}},
+                          wide_many[2][16] = {{0, 0, 131, 29, 30, 30, 30, 131},
+                                              {153, 30, 154, 30, 152, 153, 257, 29, 257, 30, 256, 30, 30, 258, 30, 30}};
+    switch (kind) {
+    case FEW: of_row(c, bandwidth, few[bandwidth]); break;
+    case ALL_0: of_row(c, bandwidth, zeros); break;
+    case ONE_WIDE: of_row(c, bandwidth, one_wide[bandwidth - 3]); break;
+    case WIDE_MANY: of_row(c, bandwidth, wide_many[bandwidth - 3]); break;
+    default: of_random_rows(c, bandwidth, kind == WIDE_RANDOM);
+    }
+}
+
+/* The rows that are drawn have no resource wider than a segment. */
+static chance narrow_chance(void)
+{
+    chance c = chance_from(1, 'B');
+    c.narrow = 1;
+    return c;
 }
 
 /* The geometric mean of the ratios, and the worst of them, close the table. */
-static void print_accepted(chance *c, const char *what)
+static void print_kinds(chance *c, const char *what, unsigned first_bandwidth, unsigned first_kind)
 {
     char name[60], worst_name[60] = "";
     double logs = 0, worst = 0;
     unsigned sets = 0;
     print_head(what);
-    for (unsigned bandwidth = 0; bandwidth < 5; bandwidth++)
-        for (unsigned kind = 0; kind < 3; kind++) {
+    for (unsigned bandwidth = first_bandwidth; bandwidth < 5; bandwidth++)
+        for (unsigned kind = first_kind; kind < first_kind + 3; kind++) {
             double ratio;
             of_kind(c, bandwidth, kind);
             sprintf(name, "%u MHz, %s", 20u << bandwidth, kind_name[kind]);
@@ -201,29 +222,40 @@ static void print_accepted(chance *c, const char *what)
     printf("%s: geometric mean %.2f, worst %.2f (%s)\n", what, exp(logs / sets), worst, worst_name);
 }
 
-static void print_refusals(chance *c, uint32_t first, uint32_t last)
+static void print_accepted(const char *what)
+{
+    char wide[60];
+    chance c = narrow_chance();
+    print_kinds(&c, what, 0, FEW);
+    sprintf(wide, "%s, wider than a segment", what);
+    print_kinds(&c, wide, 3, ONE_WIDE);
+}
+
+static void print_refusals(uint32_t first, uint32_t last)
 {
     char name[60];
+    chance c = narrow_chance();
     for (uint32_t number = first; number <= last; number++) {
         if (entry == WRITE)
-            of_written_refusal(c, number);
+            of_written_refusal(&c, number);
         else
-            of_refusal(c, number);
+            of_refusal(&c, number);
         sprintf(name, "refusal %lu", (unsigned long)number);
         print_kind(name);
     }
 }
 
 /* How reading grows with the number of User fields: 320 MHz, some positions 0 and the others punctured. */
-static void print_growth(chance *c)
+static void print_growth(void)
 {
     char name[60];
+    chance c = narrow_chance();
     print_head("reading at 320 MHz, by fields");
     for (unsigned full = 0; full <= 16; full += 4) {
         unsigned row[16];
         for (unsigned p = 0; p < 16; p++)
             row[p] = p < full ? 0 : 26;
-        of_row(c, 4, row);
+        of_row(&c, 4, row);
         sprintf(name, "%u fields, stations drawn", 9 * full);
         print_kind(name);
         of_one_station();
@@ -235,7 +267,7 @@ static void print_growth(chance *c)
 /* Calls on one frame, nothing printed. */
 static int make_calls(char **words_after)
 {
-    chance c = chance_from(1, 'B');
+    chance c = narrow_chance();
     unsigned bandwidth = (unsigned)atoi(words_after[1]), kind = (unsigned)atoi(words_after[2]);
     int side = atoi(words_after[3]), times = atoi(words_after[4]);
     entry = atoi(words_after[0]);
@@ -248,7 +280,6 @@ static int make_calls(char **words_after)
 
 int main(int argc, char **argv)
 {
-    chance c = chance_from(1, 'B');
     if (argc == 7 && strcmp(argv[1], "--calls") == 0)
         return make_calls(argv + 2);
     if (argc == 5 && strcmp(argv[1], "--trigger-calls") == 0) {
@@ -262,15 +293,15 @@ int main(int argc, char **argv)
     if (argc == 2)
         round_ns = 1e6 * atof(argv[1]);
     entry = READ;
-    print_accepted(&c, "reading");
-    print_refusals(&c, 1, 12);
-    print_growth(&c);
+    print_accepted("reading");
+    print_refusals(1, 12);
+    print_growth();
     entry = WRITE;
-    print_accepted(&c, "writing");
-    print_refusals(&c, 13, 14);
+    print_accepted("writing");
+    print_refusals(13, 14);
     entry = LIST;
-    print_accepted(&c, "listing");
-    print_refusals(&c, 23, 23);
+    print_accepted("listing");
+    print_refusals(23, 23);
     print_comparisons();
     print_triggers();
     print_check_alone();

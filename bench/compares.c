@@ -21,7 +21,9 @@ typedef brachymel_answer calls(uint32_t, const uint8_t *, size_t, const uint8_t 
 static calls *const compare_of[SIDES] = {brachymel_compare, fast_compare};
 
 static const unsigned few[16] = {80, 30, 30, 30, 80, 30, 30, 30, 80, 30, 30, 30, 80, 30, 30, 30}, zeros[16] = {0},
-                      shared[16] = {71, 71, 71, 71, 71, 71, 71, 71, 71, 71, 71, 71, 71, 71, 71, 71};
+                      shared[16] = {71, 71, 71, 71, 71, 71, 71, 71, 71, 71, 71, 71, 71, 71, 71, 71},
+                      lower[16] = {26, 26, 256, 29, 30, 30, 30, 30, 257, 30, 30, 30, 80, 30, 30, 30},
+                      upper[16] = {80, 30, 30, 30, 26, 26, 256, 29, 257, 30, 30, 30, 30, 30, 30, 30};
 
 /* How a pair's second frame comes from its first: it is the same; its User fields are others, or one is; its row is
  * another. bench/count has these in the same order. */
@@ -37,6 +39,8 @@ static const struct {
     {"144 fields, one differs", zeros, zeros, ONE_FIELD},
     {"144 fields, all differ", zeros, zeros, OTHER_FIELDS},
     {"144 and 128 fields, all differs", zeros, shared, OTHER_ROW},
+    {"a 2x996+484, equal", lower, lower, SAME},
+    {"a 2x996+484, beside the other", lower, upper, OTHER_ROW},
 };
 
 static unsigned used = PAIRS; /* how many of the pairs are in use */

@@ -2,7 +2,9 @@
  *
  * A channel is read through windows of 64 bits, of which a block's 54 are one. The check is worked out a
  * byte at a time, the bytes' shares looked up side by side. Each value has a mask of the owners it fits at
- * each position, so that a segment's plan is found by a few ANDs. Repeated stations are found in a bitmap.
+ * each position, so that a segment's plan is found by a few ANDs. Only where a value names a resource wider than a segment, that
+ * is looked for first, in the whole width and in each half, and the segments' plans in what it leaves. Repeated stations are
+ * found in a bitmap.
  * The writer judges the words as they stand, with no reading back. Two frames' resources are compared position by position:
  * a larger one by the owners, the others by sets of pieces. A Trigger's resource is looked up by its value, with
  * the 26s that it covers as a mask: two that overlap share one.
@@ -23,17 +25,22 @@ enum {
     SELF = 1,       /* the position itself */
     PAIR = 2,       /* a 484 */
     WHOLE = 4,      /* a 996 */
-    BUT_FIRST = 16  /* a 484+242 that leaves out the first position; the next bits: the second, third, fourth */
+    BUT_FIRST = 16, /* a 484+242 that leaves out the first position; the next bits: the second, third, fourth */
+    WIDER = 192     /* and more: a resource wider than a segment, by its line of the table */
 };
 
-static uint8_t fits[5][128];   /* owners that a value fits at each of four positions; at [4], in a short segment */
-static uint8_t fields_of[128];
-static uint8_t carried[128];
+#define VALUES 304 /* those from there on are not carried */
+
+static uint8_t fits[5][VALUES];   /* owners that a value fits at each of four positions; at [4], in a short segment */
+static uint8_t fields_of[VALUES];
+static uint8_t carried[VALUES];   /* NARROW, WIDE where it names a resource wider than a segment, 0 for none */
+
+enum { NARROW = 1, WIDE = 2 };
 
 static void prepare_value(unsigned v)
 {
     unsigned family = (v - 96) / 8;
-    carried[v] = v <= 30 || v == 48 || v == 50 || (v >= 64 && v < 88) || v >= 96;
+    carried[v] = v <= 30 || v == 48 || v == 50 || (v >= 64 && v < 88) || (v >= 96 && v < 128) ? NARROW : v >= 88 ? WIDE : 0;
     if (v <= 15)
         fields_of[v] = (uint8_t)(9 - (v >> 3 & 1) - (v >> 2 & 1) - (v >> 1 & 1) - (v & 1));
     else if (v <= 23)
@@ -62,6 +69,47 @@ static void prepare_value(unsigned v)
 static inline uint64_t low(uint64_t w, unsigned bits)
 {
     return w & ((UINT64_C(1) << bits) - 1);
+}
+
+/* ---- resources wider than a segment: those of a half, and of the whole 320 MHz */
+
+enum { OF_26, OF_52, OF_106, OF_106_26, OF_242, OF_484, OF_996, OF_484_242, OF_2X996, OF_996_484, OF_3X996, OF_2X996_484, OF_3X996_484 };
+
+enum { FIRST_2X996 = 0, FIRST_996_484 = 2, FIRST_3X996 = 10, FIRST_3X996_484 = 14, FIRST_2X996_484 = 22, WIDE_ONES = 34 };
+
+static struct {
+    uint16_t places;    /* of the row */
+    uint8_t family;     /* its values by eight */
+    uint8_t size, index, lowest;
+    uint8_t empty[16];  /* what a place holds with no field */
+} wide[WIDE_ONES];
+
+static void prepare_wide_one(unsigned k, unsigned family, unsigned size, unsigned index, unsigned places)
+{
+    wide[k].places = (uint16_t)places;
+    wide[k].family = (uint8_t)family;
+    wide[k].size = (uint8_t)size;
+    wide[k].index = (uint8_t)index;
+    wide[k].lowest = (uint8_t)__builtin_ctz(places);
+    for (unsigned p = 0; p < 16; p++)
+        wide[k].empty[p] = (places >> (p & ~3u) & 15) == 15 ? 30 : 29;
+}
+
+static void prepare_wide(void)
+{
+    for (unsigned half = 0; half < 2; half++) {
+        prepare_wide_one(FIRST_2X996 + half, 11, OF_2X996, 1, 0xFFu << 8 * half);
+        for (unsigned k = 0; k < 4; k++)
+            prepare_wide_one(FIRST_996_484 + 4 * half + k, 16 + k, OF_996_484, k + 1, (0xFF & ~(3u << 2 * k)) << 8 * half);
+    }
+    for (unsigned k = 0; k < 4; k++)
+        prepare_wide_one(FIRST_3X996 + k, 20 + k, OF_3X996, k + 1, 0xFFFF & ~(15u << 4 * k));
+    for (unsigned k = 0; k < 8; k++)
+        prepare_wide_one(FIRST_3X996_484 + k, 24 + k, OF_3X996_484, k + 1, 0xFFFF & ~(3u << 2 * k));
+    for (unsigned k = 0; k < 6; k++) {
+        prepare_wide_one(FIRST_2X996_484 + k, 32 + k, OF_2X996_484, k + 1, 0x0FFF & ~(3u << 2 * k));
+        prepare_wide_one(FIRST_2X996_484 + 6 + k, 32 + k, OF_2X996_484, k + 7, (0x0FFF & ~(3u << 2 * k)) << 4);
+    }
 }
 
 /* ---- the check: of `bits` bits (8 to 64), the first sent lowest */
@@ -134,8 +182,9 @@ static void prepare_named(void)
 
 __attribute__((constructor)) static void prepare(void)
 {
-    for (unsigned v = 0; v < 128; v++)
+    for (unsigned v = 0; v < VALUES; v++)
         prepare_value(v);
+    prepare_wide();
     prepare_check();
     prepare_named();
 }
@@ -229,7 +278,9 @@ static inline brachymel_answer say(uint32_t number, uint32_t channel, uint64_t p
 typedef struct {
     unsigned positions, n[2];  /* positions; User fields of each channel */
     unsigned shared;           /* which positions are places of a shared resource */
-    uint8_t v[16], owner[16];  /* the row, and the owner of each position */
+    unsigned kinds;            /* NARROW and WIDE, as the row has values of */
+    uint16_t v[16];            /* the row */
+    uint8_t owner[16];         /* of each position */
 } plan;
 
 static inline unsigned several(unsigned v)
@@ -260,7 +311,7 @@ static inline void give_itself(plan *l, unsigned p)
 /* The plan of a segment of four: 0, 7 or 8. */
 static unsigned segment(plan *l, unsigned first)
 {
-    const uint8_t *v = l->v + first;
+    const uint16_t *v = l->v + first;
     unsigned m[4], all, refused = 0;
     for (unsigned p = 0; p < 4; p++)
         m[p] = fits[p][v[p]];
@@ -273,7 +324,7 @@ static unsigned segment(plan *l, unsigned first)
     if (all & WHOLE)
         return give(l, first, 15, WHOLE);
     for (unsigned p = 0; p < 4; p++) {
-        if (v[p] >= 96) {
+        if (v[p] - 96u < 32) {
             unsigned k = (v[p] - 96u) / 8, owner = (unsigned)BUT_FIRST << k;
             for (unsigned q = 0; q < 4; q++)
                 if (!(m[q] & (q == k ? (unsigned)SELF : owner)))
@@ -307,11 +358,114 @@ static unsigned short_segment(plan *l)
     return both & PAIR ? give(l, 0, 3, PAIR) : 7;
 }
 
+/* The resource that the first value to name one of n positions names, or WIDE_ONES. Of the two 2x996+484 with one family, one
+ * leaves out a pair of a segment that the other has whole: the value there tells which it is. */
+static unsigned named_wide(const plan *l, unsigned first, unsigned n)
+{
+    static const uint8_t tells[6] = {4, 6, 4, 6, 8, 10};
+    for (unsigned p = first; p < first + n; p++) {
+        unsigned family = l->v[p] >> 3;
+        if (n == 8 && family == 11)
+            return FIRST_2X996 + first / 8;
+        if (n == 8 && family - 16 < 4)
+            return FIRST_996_484 + first / 2 + family - 16;
+        if (n == 16 && family - 20 < 12)
+            return FIRST_3X996 + family - 20;
+        if (n == 16 && family - 32 < 6) {
+            unsigned k = family - 32, there = l->v[tells[k]];
+            int is_whole = there == 30 || there >> 3 == family;
+            return FIRST_2X996_484 + k + ((k < 2) == is_whole ? 0 : 6);
+        }
+    }
+    return WIDE_ONES;
+}
+
+/* Gives its places to the k-th: how many fields it has, or -1 where a place holds what it may not. */
+static int give_wide(plan *l, unsigned k)
+{
+    int fields = 0;
+    for (unsigned set = wide[k].places; set != 0; set &= set - 1) {
+        unsigned p = (unsigned)__builtin_ctz(set), v = l->v[p];
+        if (v >> 3 == wide[k].family)
+            fields += (int)(v & 7) + 1;
+        else if (v != wide[k].empty[p])
+            return -1;
+        l->owner[p] = (uint8_t)(WIDER + k);
+    }
+    if (fields >= 2)
+        l->shared |= wide[k].places;
+    return fields;
+}
+
+/* A pair whose segment's other pair is taken: 0, 7 or 8. */
+static unsigned lone_pair(plan *l, unsigned p)
+{
+    unsigned both = fits[p & 3][l->v[p]] & fits[(p + 1) & 3][l->v[p + 1]];
+    if (both & PAIR)
+        return give(l, p & ~3u, 3u << (p & 3), PAIR);
+    if (!(both & SELF))
+        return 7;
+    give_itself(l, p);
+    give_itself(l, p + 1);
+    return 0;
+}
+
+/* Whether n positions have a plan of their own, with in `over` the lowest segments of its resources with over eight fields. */
+static int part(plan *l, unsigned first, unsigned n, unsigned *over)
+{
+    unsigned taken = 0;
+    for (unsigned span = n; span >= 8; span /= 2)
+        for (unsigned at = first; at < first + n; at += span) {
+            unsigned k = named_wide(l, at, span);
+            int fields;
+            if (k == WIDE_ONES)
+                continue;
+            if ((taken & wide[k].places) != 0 || (fields = give_wide(l, k)) < 0)
+                return 0;
+            taken |= wide[k].places;
+            *over |= (unsigned)(fields > 8) << wide[k].lowest / 4;
+        }
+    for (unsigned p = first; p < first + n; p += 4) {
+        unsigned refused = 0;
+        if ((taken >> p & 15) == 0)
+            refused = segment(l, p);
+        else if ((taken >> p & 3) == 0)
+            refused = lone_pair(l, p);
+        else if ((taken >> p & 12) == 0)
+            refused = lone_pair(l, p + 2);
+        if (refused == 7)
+            return 0;
+        *over |= (unsigned)(refused == 8) << p / 4;
+    }
+    return 1;
+}
+
+/* 0, 7 or 8 of a row with a value that names a resource wider than a segment. */
+static __attribute__((noinline)) brachymel_answer lay_out_wide(plan *l)
+{
+    unsigned over = 0, half_over;
+    if (l->positions < 8)
+        return say(7, 0, 0);
+    if (part(l, 0, l->positions, &over))
+        return over ? say(8, 0, (unsigned)__builtin_ctz(over)) : say(0, 0, 0);
+    for (unsigned p = 0; p < l->positions; p += 8) {
+        if (l->positions == 16 && part(l, p, 8, &half_over))
+            continue;
+        if (segment(l, p) == 7)
+            return say(7, 0, p / 4);
+        if (segment(l, p + 4) == 7)
+            return say(7, 0, p / 4 + 1);
+    }
+    return say(7, 0, 0); /* parts with a plan make one plan: not reached */
+}
+
 /* 0, 7 or 8 with the segment. */
 static brachymel_answer lay_out(plan *l)
 {
     unsigned over = 0, over_at = 0;
     l->shared = 0;
+    if (l->kinds & WIDE)
+        return lay_out_wide(l);
     if (l->positions < 4)
         return say(short_segment(l), 0, 0);
     for (unsigned p = 0; p < l->positions; p += 4) {
@@ -428,7 +582,7 @@ static brachymel_answer parse(uint32_t bandwidth, const uint8_t *cc1, size_t cc1
         return say(5, 1, 6);
     if (channels == 2 && low(w[0] ^ w[1], 17) != 0)
         return say(5, 2, (uint64_t)__builtin_ctzll(w[0] ^ w[1]));
-    l->n[0] = l->n[1] = 0;
+    l->n[0] = l->n[1] = l->kinds = 0;
     for (unsigned c = 0; c < channels; c++) {
         uint64_t values = w[c] >> 17;
         for (unsigned p = c, at = 17; p < l->positions; p += 2, at += 9, values >>= 9) {
@@ -438,10 +592,11 @@ static brachymel_answer parse(uint32_t bandwidth, const uint8_t *cc1, size_t cc1
                 values = window(cc[c], len[c], at);
             }
             value = (unsigned)low(values, 9);
-            if (value >= 128 || !carried[value])
+            if (value >= VALUES || !carried[value])
                 return say(6, c + 1, at);
-            l->v[p] = (uint8_t)value;
+            l->v[p] = (uint16_t)value;
             l->n[c] += fields_of[value];
+            l->kinds |= carried[value];
         }
     }
     a = lay_out(l);
@@ -610,15 +765,16 @@ brachymel_answer NAME(write)(uint32_t bandwidth, const uint8_t *words, size_t wo
     overflow = overflow_of(get_word(words, 1));
     if (overflow < 0)
         return say(13, 0, 0);
-    l.n[0] = l.n[1] = 0;
+    l.n[0] = l.n[1] = l.kinds = 0;
     covered[0] = covered[1] = (uint64_t)overflow;
     more[0] = more[1] = 0;
     for (unsigned p = 0; p < l.positions; p++) {
         unsigned value = p == 0 ? get_word(words, 2) >> 13 & 0x1FF : get_word(words, 3 + (p - 1) / 3) >> (p - 1) % 3 * 10 & 0x1FF;
-        if (value >= 128 || !carried[value])
+        if (value >= VALUES || !carried[value])
             return say(13, 0, 0);
-        l.v[p] = (uint8_t)value;
+        l.v[p] = (uint16_t)value;
         l.n[p % 2] += fields_of[value];
+        l.kinds |= carried[value];
         if (p < 4)
             covered[p % 2] |= (uint64_t)value << (17 + p / 2 * 9);
         else
@@ -794,25 +950,57 @@ static char *put_piece(char *t, unsigned size, unsigned i, unsigned p, unsigned 
     return put_run(t, from + 135, from + 240);
 }
 
+static char *put_996(char *t, unsigned first, unsigned positions)
+{
+    int centre = 256 * (int)first + 512 - 128 * (int)positions;
+    t = put_run(t, centre - 500, centre - 3);
+    *t++ = ',';
+    return put_run(t, centre + 3, centre + 500);
+}
+
+static char *put_484(char *t, unsigned p, unsigned positions)
+{
+    t = put_242(t, p, positions);
+    *t++ = ',';
+    return put_242(t, p + 1, positions);
+}
+
+/* The names of sizes, in the order of OF_26 and so on. */
+static const struct {
+    char name[10];
+    uint8_t length;
+} name_of[13] = {{"26", 2}, {"52", 2}, {"106", 3}, {"106+26", 6}, {"242", 3}, {"484", 3}, {"996", 3}, {"484+242", 7},
+                 {"2x996", 5}, {"996+484", 7}, {"3x996", 5}, {"2x996+484", 9}, {"3x996+484", 9}};
+
+static __attribute__((noinline)) char *put_wide(char *t, const plan *l, unsigned k)
+{
+    unsigned users = 0, sep = 0, size = wide[k].size;
+    for (unsigned set = wide[k].places; set != 0; set &= set - 1)
+        users += fields_of[l->v[__builtin_ctz(set)]];
+    t = put_resource(t, name_of[size].name, name_of[size].length, wide[k].index, wide[k].lowest / 4, users);
+    for (unsigned p = 0; p < 16; p += 4) {
+        unsigned own = wide[k].places >> p & 15;
+        if (own == 0)
+            continue;
+        if (sep++)
+            *t++ = ',';
+        t = own == 15 ? put_996(t, p, l->positions) : put_484(t, own == 3 ? p : p + 2, l->positions);
+    }
+    return t;
+}
+
 /* A larger resource, at its lowest place p. */
 static char *put_larger(char *t, const plan *l, unsigned p)
 {
     unsigned first = p / 4 * 4, owner = l->owner[p], users = 0, k = 0, sep = 0;
+    if (owner >= WIDER)
+        return put_wide(t, l, owner - WIDER);
     for (unsigned q = p; q < first + 4 && q < l->positions && (owner != PAIR || q < p + 2); q++)
         users += l->owner[q] == owner ? fields_of[l->v[q]] : 0;
-    if (owner == WHOLE) {
-        int centre = 256 * (int)first + 512 - 128 * (int)l->positions;
-        t = RESOURCE(t, "996", 1, p / 4, users);
-        t = put_run(t, centre - 500, centre - 3);
-        *t++ = ',';
-        return put_run(t, centre + 3, centre + 500);
-    }
-    if (owner == PAIR) {
-        t = RESOURCE(t, "484", p % 4 / 2 + 1, p / 4, users);
-        t = put_242(t, p, l->positions);
-        *t++ = ',';
-        return put_242(t, p + 1, l->positions);
-    }
+    if (owner == WHOLE)
+        return put_996(RESOURCE(t, "996", 1, p / 4, users), first, l->positions);
+    if (owner == PAIR)
+        return put_484(RESOURCE(t, "484", p % 4 / 2 + 1, p / 4, users), p, l->positions);
     while (owner != (unsigned)BUT_FIRST << k)
         k++;
     t = RESOURCE(t, "484+242", k + 1, p / 4, users);
@@ -826,19 +1014,25 @@ static char *put_larger(char *t, const plan *l, unsigned p)
     return t;
 }
 
+/* Whether p is the lowest place of a larger resource. */
+static inline int begins(unsigned owner, unsigned p)
+{
+    if (owner >= WIDER)
+        return p == wide[owner - WIDER].lowest;
+    return owner == PAIR ? p % 2 == 0 : p % 4 == (owner == BUT_FIRST);
+}
+
 /* The ru= lines; for each field, in its channel's order, the resource that owns it. */
 static char *put_resources(char *t, const plan *l, uint8_t *owning, unsigned *resources)
 {
-    unsigned at[2] = {0, l->n[0]}, r = 0, larger[4] = {0, 0, 0, 0}; /* pair, whole, but-one in this segment, by owner */
+    unsigned at[2] = {0, l->n[0]}, r = 0, larger[4 + WIDE_ONES]; /* pairs, whole, but-one in this segment; the wider ones */
     for (unsigned p = 0; p < l->positions; p++) {
-        unsigned v = l->v[p], owner = l->owner[p], *slot = &larger[owner == PAIR ? p % 4 / 2 : owner == WHOLE ? 2 : 3];
-        unsigned fields = fields_of[v];
+        unsigned v = l->v[p], owner = l->owner[p], fields = fields_of[v];
         uint8_t *mine = owning + at[p % 2];
         at[p % 2] += fields;
-        if (p % 4 == 0)
-            memset(larger, 0, sizeof larger);
         if (owner != SELF) {
-            if (*slot == 0) {
+            unsigned *slot = &larger[owner == PAIR ? p % 4 / 2 : owner == WHOLE ? 2 : owner >= WIDER ? 4 + owner - WIDER : 3];
+            if (begins(owner, p)) {
                 t = put_larger(t, l, p);
                 *t++ = '\n';
                 *slot = ++r;
@@ -864,17 +1058,13 @@ static char *put_resources(char *t, const plan *l, uint8_t *owning, unsigned *re
 
 static unsigned count_resources(const plan *l)
 {
-    unsigned r = 0, seen = 0;
+    unsigned r = 0;
     for (unsigned p = 0; p < l->positions; p++) {
-        unsigned v = l->v[p], owner = l->owner[p], bit = owner == PAIR ? 1u << p % 4 / 2 : 4;
-        if (p % 4 == 0)
-            seen = 0;
-        if (owner != SELF) {
-            r += !(seen & bit);
-            seen |= bit;
-        } else {
+        unsigned v = l->v[p], owner = l->owner[p];
+        if (owner != SELF)
+            r += (unsigned)begins(owner, p);
+        else
             r += v == 28 || v >= 64 ? 1 : fields_of[v];
-        }
     }
     return r;
 }
@@ -928,7 +1118,7 @@ brachymel_answer NAME(list)(uint32_t bandwidth, const uint8_t *cc1, size_t cc1_l
 /* ---- two frames compared */
 
 /* The pieces of a value, one bit for each size and place; a 242 is bit 40. */
-static uint64_t piece_set[128];
+static uint64_t piece_set[72];
 
 static inline int is_242(unsigned v)
 {
@@ -937,7 +1127,7 @@ static inline int is_242(unsigned v)
 
 __attribute__((constructor)) static void prepare_pieces(void)
 {
-    for (unsigned v = 0; v < 128; v++) {
+    for (unsigned v = 0; v < 72; v++) {
         uint8_t size[9], place[9];
         unsigned n = pieces(v, size, place);
         piece_set[v] = is_242(v) ? UINT64_C(1) << 40 : 0;
@@ -1000,12 +1190,6 @@ static char *put_values(char *t, const plan *x, const plan *y)
     return t;
 }
 
-/* Whether p is the lowest place of a larger resource. */
-static inline int begins(unsigned owner, unsigned p)
-{
-    return owner == PAIR ? p % 2 == 0 : p % 4 == (owner == BUT_FIRST);
-}
-
 /* The resources that x has and y has not. */
 static char *put_only(char *t, int side, const plan *x, const plan *y)
 {
@@ -1039,8 +1223,6 @@ static char *put_only(char *t, int side, const plan *x, const plan *y)
 }
 
 /* A resource as a number: size, index, segment. */
-enum { OF_26, OF_52, OF_106, OF_106_26, OF_242, OF_484, OF_996, OF_484_242 };
-
 static inline uint16_t naming(unsigned size, unsigned index, unsigned seg)
 {
     return (uint16_t)(size << 8 | index << 2 | seg);
@@ -1068,6 +1250,8 @@ static void name_owners(const plan *l, uint16_t *of)
                 one = naming(OF_484, q / 2 + 1, p / 4);
             else if (owner == WHOLE)
                 one = naming(OF_996, 1, p / 4);
+            else if (owner >= WIDER)
+                one = naming(wide[owner - WIDER].size, wide[owner - WIDER].index, wide[owner - WIDER].lowest / 4u);
             else if (owner != SELF)
                 one = naming(OF_484_242, (unsigned)__builtin_ctz(owner / BUT_FIRST) + 1, p / 4);
             for (unsigned k = 0; k < n; k++)
@@ -1079,17 +1263,12 @@ static void name_owners(const plan *l, uint16_t *of)
 static char *put_user(char *t, int side, unsigned k, uint32_t bits, uint16_t of)
 {
     static const char digit[] = "0123456789ABCDEF";
-    static const struct {
-        char name[12];
-        uint8_t length;
-    } size[8] = {{" ru=26", 6}, {" ru=52", 6}, {" ru=106", 7}, {" ru=106+26", 10}, {" ru=242", 7}, {" ru=484", 7}, {" ru=996", 7},
-                 {" ru=484+242", 11}};
     t = put_number(PUT(put_frame(t, side), "user="), k + 1);
     *t++ = ' ';
     t = PUT(put_station(t, bits & 0x7FF), " bits=");
     for (int shift = 20; shift >= 0; shift -= 4)
         *t++ = digit[bits >> shift & 15];
-    t = put_text(t, size[of >> 8].name, size[of >> 8].length);
+    t = put_text(PUT(t, " ru="), name_of[of >> 8].name, name_of[of >> 8].length);
     t = put_number(PUT(t, " index="), of >> 2 & 63);
     t = put_number(PUT(t, " segment="), of & 3);
     *t++ = '\n';
@@ -1116,7 +1295,7 @@ static char *put_users(char *t, const parsed *x, const parsed *y)
 
 static char *put_differences(char *t, const parsed *x, const parsed *y)
 {
-    int same_row = memcmp(x->plan.v, y->plan.v, x->plan.positions) == 0;
+    int same_row = memcmp(x->plan.v, y->plan.v, x->plan.positions * sizeof x->plan.v[0]) == 0;
     t = put_overflows(t, x->head, y->head);
     if (!same_row) {
         t = put_values(t, &x->plan, &y->plan);

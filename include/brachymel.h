@@ -48,9 +48,9 @@ enum {
     BRACHYMEL_COMMON_SHORT = 3,      /* common field cut short: channel, first bit of the field that did not fit */
     BRACHYMEL_COMMON_CHECK = 4,      /* common check or tail wrong: channel, first check bit */
     BRACHYMEL_OVERFLOW = 5,          /* channel 1's LTF symbols 5 to 7: 1, 6; else the channels' overflows differ: 2, lowest differing bit */
-    BRACHYMEL_VALUE = 6,             /* RU Allocation value not carried: channel, its first bit */
-    BRACHYMEL_NO_PLAN = 7,           /* the row has no layout: 0, lowest such segment */
-    BRACHYMEL_TOO_MANY_FIELDS = 8,   /* a resource has over eight User fields: 0, lowest such segment */
+    BRACHYMEL_VALUE = 6,             /* RU Allocation value not carried, 31 to 47, 49, 51 to 63 or above 303: channel, its first bit */
+    BRACHYMEL_NO_PLAN = 7,           /* the row has no layout: 0, lowest segment that lies in no part with one (whole width, half, .., segment) */
+    BRACHYMEL_TOO_MANY_FIELDS = 8,   /* a resource has over eight User fields: 0, lowest segment of such a resource */
     BRACHYMEL_USER_SHORT = 9,        /* User blocks cut short: channel, first bit of the field that did not fit */
     BRACHYMEL_USER_CHECK = 10,       /* User check or tail wrong: channel, first check bit */
     BRACHYMEL_STATION_TWICE = 11,    /* a STA-ID from 1 to 2006 seen before: channel, first bit of the later field */
@@ -93,7 +93,9 @@ brachymel_answer brachymel_write(uint32_t bandwidth, const uint8_t *words, size_
                                  uint8_t *cc1, size_t cc1_len, uint8_t *cc2, size_t cc2_len);
 
 /* Reads two channels and lists their resources and stations as text: lines that each end with a line feed, and
- * no terminating zero. stations= counts the User fields that are not BRACHYMEL_UNASSIGNED; the line of one that is has
+ * no terminating zero. ru= is one of 26, 52, 106, 242, 484, 996, 2x996, 106+26, 484+242, 996+484, 3x996, 2x996+484 and
+ * 3x996+484; index= counts in 80 MHz, of a 2x996 and a 996+484 in its 160 MHz, of the wider ones in 320 MHz; segment= is that of
+ * the resource's lowest 20 MHz. stations= counts the User fields that are not BRACHYMEL_UNASSIGNED; the line of one that is has
  * none for its number, and its resource. Refusals 1 to 11, then 23. */
 brachymel_answer brachymel_list(uint32_t bandwidth, const uint8_t *cc1, size_t cc1_len, const uint8_t *cc2, size_t cc2_len,
                                 uint8_t *text, size_t text_len);
