@@ -1,7 +1,7 @@
 -- The size that always suffices for the text of a comparison (02, T-06), of any two frames.
 --
--- Of two accepted ones of 320 MHz: 16 positions of at most 1,758 bytes (`Charges.antt`), 14 lines of the overflow of at most 27, and 32 of
--- values of at most 30.
+-- Of two accepted ones of 320 MHz: 16 positions of at most 1,758 bytes, one with the other (`Charges.antt`; a wider resource spreads its line over two
+-- of its places, `Owing.antt`), 14 lines of the overflow of at most 27, and 32 of values of at most 30.
 use mathlib.Core.Path.{_≡_, refl, ap, _∙_, subst}
 use mathlib.Core.Bool.{Bool, true, false, cond, not}
 use mathlib.Core.List.{List, [], _∷_, _++_}

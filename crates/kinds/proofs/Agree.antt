@@ -8,7 +8,6 @@ use Rattle.kinds.proofs.takes_place.Reads as takes-place
 use Rattle.kinds.proofs.blank_of.Reads as blank-of
 use Rattle.kinds.proofs.place_in.Reads as place-in
 use Rattle.kinds.proofs.start_of.Reads as start-of
-use Rattle.kinds.proofs.share_of.Reads as share-of
 use Rattle.kinds.proofs.fields_in.Reads as fields-in
 use Rattle.kinds.proofs.total_of.Reads as total-of
 
@@ -35,9 +34,6 @@ place-in-agrees κs a r r' s s' p q = p .1 ∙ sym (q .1)
 
 pub start-of-agrees : (κs : _) (a : _) (r r' : _) (s s' : _) → start-of.Post κs a r s → start-of.Post κs a r' s' → r ≡ r'
 start-of-agrees κs a r r' s s' p q = p .1 ∙ sym (q .1)
-
-pub share-of-agrees : (κs : _) (a : _) (r r' : _) (s s' : _) → share-of.Post κs a r s → share-of.Post κs a r' s' → r ≡ r'
-share-of-agrees κs a r r' s s' p q = p .1 ∙ sym (q .1)
 
 pub fields-in-agrees : (κs : _) (a : _) (r r' : _) (s s' : _) → fields-in.Post κs a r s → fields-in.Post κs a r' s' → r ≡ r'
 fields-in-agrees κs a r r' s s' p q = p .1 ∙ sym (q .1)

@@ -1,16 +1,19 @@
 -- The steps of the code, said of the table.
 use mathlib.Core.Path.{_≡_, refl, sym, _∙_, ap}
 use mathlib.Core.Logic.{_⊎_, ⊎-elim, inl, inr}
-use mathlib.Core.Bool.{true, false}
+use mathlib.Core.Bool.{true, false, cond, _&&_}
+use lib.Dec.{eqb}
 use Prim.Native.Nat.{ℕ, _+_, _-_, _*_, _/_, _%_, _^_, _≤_, _<_}
 use native.Mathlib.Omega.{arith}
 use native.Mathlib.Numerals.{add-one}
-use native.Mathlib.Nat.{add-zero, zero-add, eq-or-lt-of-le, mul-comm}
+use native.Mathlib.Nat.{add-zero, zero-add, eq-or-lt-of-le, mul-comm, mod-lt}
 use borrow.Author.Tests.{le-ltb, lt-ltb, eq-eqb, ne-eqb}
 use Rattle.resource.specs.Values.{fieldsOf}
-use Rattle.kinds.specs.Kinds.{span, mask, takesBlock, blankAt}
+use Rattle.kinds.specs.Kinds.{family, span, mask, takes, takesBlock, blankAt}
+use Rattle.kinds.specs.Engine.{placeShare}
 use Rattle.kinds.specs.Fields.{gives, share, channelShare, shares, fieldsIn, together}
-use Rattle.kinds.proofs.Table.{Span, span-is, spanFrom, powers, span-0}
+use Rattle.kinds.proofs.Table.{span-is, span-some, powers, span-0, full, plain-family}
+use Rattle.kinds.proofs.Places.{at-place}
 
 -- ---- the span by the range of its lines
 module _ (c : ℕ) (h : c < 36) where
@@ -62,21 +65,35 @@ module _ (c j m : ℕ) (e : m ≡ mask c) where
   blank-28 f g = rw (block-no c 4 j m e f, block-no c 2 j m e g)
 
 -- ---- the fields of a place
-module _ (c p v : ℕ) where
-  pub share-if : gives c p v ≡ true → fieldsOf v ≡ share c p v
-  unfolding share
-  share-if e = rw e
+module _ (c p j v : ℕ) (h : c < 36) (l : j < span c) where
+  -- of place j of the span around p
+  pub share-at : placeShare (mask c) (family c) j v ≡ share c (span c * (p / span c) + j) v
+  unfolding placeShare share gives takes
+  share-at = rw (at-place (span c) (span-some c h) p j l)
 
-  pub share-not : gives c p v ≡ false → 0 ≡ share c p v
-  unfolding share
-  share-not e = rw e
+-- as the code finds it, from the places and the family
+pub share-here : (c p j v x m f b r : ℕ) → c < 36 → j < span c → m ≡ mask c → f ≡ family c → b ≡ span c * (p / span c) → v ≡ x
+    → r ≡ placeShare m f j v → r ≡ share c (b + j) x
+share-here c p j v x m f b r h l em ef eb ev er = er ∙ rw (em, ef, ev, eb) (share-at c p j x h l)
 
-module _ (x c p v : ℕ) where
-  pub channel-own : p % 2 + 1 ≡ x → share c p v ≡ channelShare x c p v
-  channel-own e = rw (eq-eqb (p % 2 + 1) x e)
+pub share-yes : (m f j v r : ℕ) → (eqb (m / 2 ^ j % 2) 1 && eqb (v / 8) f) ≡ true → r ≡ fieldsOf v → r ≡ placeShare m f j v
+unfolding placeShare
+share-yes m f j v r e g = g ∙ rw e
 
-  pub channel-other : (p % 2 + 1 ≡ x → ⊥) → 0 ≡ channelShare x c p v
-  channel-other e = rw (ne-eqb (p % 2 + 1) x e)
+pub share-no : (m f j v : ℕ) → (eqb (m / 2 ^ j % 2) 1 && eqb (v / 8) f) ≡ false → 0 ≡ placeShare m f j v
+unfolding placeShare
+share-no m f j v e = rw e
+
+-- a position that is given to itself
+pub share-alone : (p v : ℕ) → cond (eqb (v / 8) 8) (fieldsOf v) 0 ≡ share 0 p v
+unfolding share gives
+share-alone p v = rw (full 0 (omega arith) (p % span 0) (mod-lt p (span-some 0 (omega arith))), plain-family 0 (omega arith))
+
+pub channel-own : (x p f : ℕ) → p % 2 + 1 ≡ x → f ≡ cond (eqb (p % 2 + 1) x) f 0
+channel-own x p f e = rw (eq-eqb (p % 2 + 1) x e)
+
+pub channel-other : (x p f : ℕ) → (p % 2 + 1 ≡ x → ⊥) → 0 ≡ cond (eqb (p % 2 + 1) x) f 0
+channel-other x p f e = rw (ne-eqb (p % 2 + 1) x e)
 
 -- each position is one channel's
 pub both-channels : (c p v : ℕ) → channelShare 1 c p v + channelShare 2 c p v ≡ share c p v

@@ -1,8 +1,9 @@
 -- Engine: which kind a value names. The contracts of the code cite it; nobody has to believe it: `proofs/Table.antt`.
 use mathlib.Core.Bool.{Bool, true, false, cond, not, _&&_, _||_}
-use Prim.Native.Nat.{ℕ, _+_, _-_, _*_, _/_}
+use Prim.Native.Nat.{ℕ, _+_, _-_, _*_, _/_, _%_, _^_}
 use lib.Dec.{ltb, leb, eqb}
 use Rattle.answer.specs.Least.{least}
+use Rattle.resource.specs.Values.{fieldsOf}
 use Rattle.kinds.specs.Kinds.{none, family, span, takes, mustName}
 
 -- among how many positions the name of a resource of kind c is sought; 0 where it needs none
@@ -37,3 +38,7 @@ sided c v = cond (alike (wholeOr c v) (takes c (tellTale c))) c (c + 6)
 -- which kind is meant where one of the positions from b on names c
 unfoldable pub settled : (ℕ → ℕ) → ℕ → ℕ → ℕ
 settled row b c = cond (leb 24 c && ltb c 30) (sided c (row (b + tellTale c))) c
+
+-- the fields that the value v at place j gives to a resource with these places and this family
+unfoldable pub placeShare : ℕ → ℕ → ℕ → ℕ → ℕ
+placeShare places own j v = cond (eqb (places / 2 ^ j % 2) 1 && eqb (v / 8) own) (fieldsOf v) 0

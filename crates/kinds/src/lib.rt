@@ -4,7 +4,10 @@ ghost use mathlib.Core.Path.{_≡_};
 ghost use Prim.Native.Nat.{_+_, _*_, _/_, _%_, _≤_, _<_};
 ghost use Rattle.answer.specs.Lists.{at};
 ghost use Rattle.kinds.specs.Kinds.{family, span, mask, takes, blankAt};
-ghost use Rattle.kinds.specs.Fields.{gives, share, fieldsIn, channelShare, together};
+ghost use mathlib.Core.Bool.{cond};
+ghost use lib.Dec.{eqb};
+ghost use Rattle.kinds.specs.Engine.{placeShare};
+ghost use Rattle.kinds.specs.Fields.{fieldsIn, together};
 
 // The row's value at position p; 0 past its end.
 pub fn value_at(row: &[u16], p: usize) -> u16
@@ -179,36 +182,24 @@ pub fn start_of(kind: u16, p: usize) -> usize
 
 // ---- the User fields
 
-// Position p is a place of the resource of this kind, and v is of its family.
-fn gives_fields(kind: u16, p: usize, v: u16) -> bool
-    requires { ⌜ kind < 36 ⌝ }
-    ensures { λ r. ⌜ r ≡ gives kind p v ⌝ }
+// The fields that the value v at place j gives to a resource with these places and this family.
+fn place_share(mask: u16, family: u16, j: usize, v: u16) -> u16
+    requires { ⌜ j < 16 ⌝ }
+    ensures { λ r. ⌜ (r ≤ 9) × (r ≡ placeShare mask family j v) ⌝ }
 {
-    takes_place(kind, place_in(kind, p)) & (resource::family_of(v) == family_of(kind))
-}
-
-// The fields that the value v at position p gives to the resource of this kind.
-pub fn share_of(kind: u16, p: usize, v: u16) -> u16
-    requires { ⌜ kind < 36 ⌝ }
-    ensures { λ r. ⌜ (r ≤ 9) × (r ≡ share kind p v) ⌝ }
-{
-    if gives_fields(kind, p, v) {
+    if ((mask >> j) % 2 == 1) & (resource::family_of(v) == family) {
         resource::fields_of(v)
     } else {
         0
     }
 }
 
-// The same, where p is one of the channel's positions.
-fn channel_share(channel: usize, kind: u16, p: usize, v: u16) -> u16
-    requires { ⌜ kind < 36 ⌝ }
-    ensures { λ r. ⌜ (r ≤ 9) × (r ≡ channelShare channel kind p v) ⌝ }
+// The same, where p, the position of the place, is one of the channel's.
+fn channel_share(channel: usize, p: usize, f: u16) -> u16
+    requires { ⌜ f ≤ 9 ⌝ }
+    ensures { λ r. ⌜ (r ≤ 9) × (r ≡ cond (eqb (p % 2 + 1) channel) f 0) ⌝ }
 {
-    if p % 2 + 1 == channel {
-        share_of(kind, p, v)
-    } else {
-        0
-    }
+    if p % 2 + 1 == channel { f } else { 0 }
 }
 
 // The fields of a channel (1 or 2) that are the resource's of this kind at position p.
@@ -218,10 +209,13 @@ pub fn fields_in(channel: usize, kind: u16, row: &[u16], p: usize) -> u16
 {
     let n = span_of(kind);
     let b = start_of(kind, p);
+    let places = mask_of(kind);
+    let own = family_of(kind);
     let mut sum: u16 = 0;
     let mut i: usize = 0;
     while i < n {
-        sum += channel_share(channel, kind, b + i, value_at(row, b + i));
+        let f = place_share(places, own, i, value_at(row, b + i));
+        sum += channel_share(channel, b + i, f);
         i += 1;
     }
     sum
@@ -234,10 +228,12 @@ pub fn total_of(kind: u16, row: &[u16], p: usize) -> u16
 {
     let n = span_of(kind);
     let b = start_of(kind, p);
+    let places = mask_of(kind);
+    let own = family_of(kind);
     let mut sum: u16 = 0;
     let mut place: usize = 0;
     while place < n {
-        sum += share_of(kind, b + place, value_at(row, b + place));
+        sum += place_share(places, own, place, value_at(row, b + place));
         place += 1;
     }
     sum

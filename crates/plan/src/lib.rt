@@ -5,10 +5,11 @@ use answer::Outcome;
 ghost use mathlib.Core.Path.{_≡_};
 ghost use mathlib.Core.Logic.{_⊎_};
 ghost use mathlib.Core.Bool.{false, cond};
-ghost use lib.Dec.{leb};
+ghost use lib.Dec.{eqb, leb};
 ghost use Prim.Native.Nat.{_+_, _-_, _*_, _/_, _%_, _^_, _≤_, _<_, min};
 ghost use lib.ListN.{length};
 ghost use Rattle.answer.specs.Lists.{at};
+ghost use Rattle.resource.specs.Values.{fieldsOf};
 ghost use Rattle.kinds.specs.Fields.{together, fieldsTo};
 ghost use Rattle.segments.specs.Engine.{segmentKinds};
 ghost use Rattle.plan.specs.Answers.{Size, Laid};
@@ -116,6 +117,17 @@ fn kind_at(kinds: &[u16; 16], row: &[u16], p: usize) -> u16
     kinds[p]
 }
 
+// The fields of a position that is given to itself, and leaves it whole.
+fn own_fields(v: u16) -> u16
+    ensures { λ r. ⌜ r ≡ cond (eqb (v / 8) 8) (fieldsOf v) 0 ⌝ }
+{
+    if resource::family_of(v) == 8 {
+        resource::fields_of(v)
+    } else {
+        0
+    }
+}
+
 // The fields of the resource of this kind at position p, from t, those of the resource at the position before: often it is the same one.
 // A position that is given to itself is alone.
 fn total_from(t: u16, before: u16, kind: u16, row: &[u16], p: usize) -> u16
@@ -123,7 +135,7 @@ fn total_from(t: u16, before: u16, kind: u16, row: &[u16], p: usize) -> u16
     ensures { λ r. ⌜ r ≡ together kind (at (now (row .entry))) p ⌝ }
 {
     if kind == 0 {
-        return kinds::share_of(0, p, kinds::value_at(row, p));
+        return own_fields(kinds::value_at(row, p));
     }
     if (kind == before) & (kinds::start_of(kind, p) < p) {
         t
@@ -289,16 +301,38 @@ fn segment_wrong(kinds: &[u16; 16], row: &[u16]) -> usize
     if p < n { p / 4 } else { (n + 3) / 4 }
 }
 
+// To what each position is given.
+fn kinds_of(row: &[u16], wide: bool) -> [u16; 16]
+    requires { ⌜ (length (now row) ≤ 16) × (wide ≡ anyWider (now row)) ⌝ }
+    ensures { λ r. ⌜ (r ≡ kindsOf (now (row .entry))) × (wide ≡ false → r ≡ segmentKinds (now (row .entry))) ⌝ }
+{
+    if wide {
+        wide_kinds(row)
+    } else {
+        segments::kinds_of(row)
+    }
+}
+
+// The lowest segment that lies in no part with a plan.
+fn unheld_in(kinds: &[u16; 16], row: &[u16], wide: bool) -> usize
+    requires { ⌜ (length (now row) ≤ 16) × (wide ≡ anyWider (now row)) × (wide ≡ false → now kinds ≡ segmentKinds (now row)) ⌝ }
+    ensures { λ r. ⌜ r ≡ firstUnheld (now (row .entry)) ⌝ }
+{
+    if wide {
+        first_unheld(row)
+    } else {
+        segment_wrong(kinds, row)
+    }
+}
+
 // The plan of a row.
 pub fn plan_of(row: &[u16]) -> Plan
     requires { ⌜ length (now row) ≤ 16 ⌝ }
     ensures { λ r. ⌜ r ≡ planOf (now (row .entry)) ⌝ }
     ensures { λ r. ⌜ Laid (now (row .entry)) (r .outcome) ⌝ }
 {
-    if has_wider(row) {
-        return plan_from(row, wide_kinds(row), first_unheld(row));
-    }
-    let kinds = segments::kinds_of(row);
-    let unheld = segment_wrong(&kinds, row);
+    let wide = has_wider(row);
+    let kinds = kinds_of(row, wide);
+    let unheld = unheld_in(&kinds, row, wide);
     plan_from(row, kinds, unheld)
 }

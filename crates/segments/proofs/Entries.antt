@@ -57,7 +57,7 @@ segment-kind row b p k u v x z l m ek eu ev ex =
     ex ∙ rw (ek, eu, ev, f)
 
 -- ---- the kinds of a row
-pub kind-held : (row kinds : List ℕ) (p : ℕ) → p < length row → kinds ≡ segmentKinds row → (at kinds p < 36) × (at kinds p ≡ segmentPlan (at row) p)
+pub kind-held : (row kinds : List ℕ) (p : ℕ) → p < length row → kinds ≡ segmentKinds row → (at kinds p < 7) × (at kinds p ≡ segmentPlan (at row) p)
 unfolding segmentKinds
 kind-held row kinds p h e =
     let f : at kinds p ≡ segmentPlan (at row) p = rw e (getD-filled (segmentPlan (at row)) (length row) (replicate 16 0) p 0 h) in

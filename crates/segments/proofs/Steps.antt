@@ -18,6 +18,7 @@ use Rattle.kinds.specs.Engine.{sought, kindOf, nameOf}
 use Rattle.kinds.specs.Signals.{Place}
 use Rattle.kinds.proofs.Table.{family-back, family-most, sought-high, span-four, span-0, plain-family, plain-blank, full}
 use Rattle.kinds.proofs.Places.{place-mod}
+use Rattle.kinds.proofs.Steps.{blank-30, blank-29, blank-28}
 use Rattle.segments.specs.Engine.{orElse, tells, choose, fitting, within}
 use Rattle.segments.proofs.Within.{yes-within}
 
@@ -138,3 +139,20 @@ one-bit p m h l =
     let u : 2 ^ p ≤ 2 ^ 16 = pow-mono {i = p} {j = 16} h in
     let e : 1 * 2 ^ p ≡ 2 ^ p = omega arith in
     ap (λ (k : ℕ). k % m) e ∙ mod-eq-of-lt (omega arith)
+
+-- ---- the blank of a place of one that a segment can hold, below 4
+module _ (c j m : ℕ) (l : j < 4) (e : m ≡ mask c) where
+  shifted : m / 2 ^ (4 * (j / 4)) % 16 ≡ m % 16
+  shifted =
+      let z : j / 4 ≡ 0 = omega arith in
+      let d : m / 1 ≡ m = omega arith in
+      rw z (ap (λ (k : ℕ). k % 16) d)
+
+  pub all-four : m % 16 ≡ 15 → 30 ≡ blankAt c j
+  all-four f = blank-30 c j m e (shifted ∙ f)
+
+  pub its-pair : (m % 16 ≡ 15 → ⊥) → m / 2 ^ (2 * (j / 2)) % 4 ≡ 3 → 29 ≡ blankAt c j
+  its-pair f g = blank-29 c j m e (λ h. f (sym shifted ∙ h)) g
+
+  pub its-own : (m % 16 ≡ 15 → ⊥) → (m / 2 ^ (2 * (j / 2)) % 4 ≡ 3 → ⊥) → 28 ≡ blankAt c j
+  its-own f g = blank-28 c j m e (λ h. f (sym shifted ∙ h)) g

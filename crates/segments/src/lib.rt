@@ -6,7 +6,7 @@ ghost use lib.Dec.{eqb};
 ghost use Prim.Native.Nat.{_+_, _*_, _/_, _%_, _≤_, _<_};
 ghost use lib.ListN.{length};
 ghost use Rattle.answer.specs.Lists.{at};
-ghost use Rattle.kinds.specs.Kinds.{family, takes, blankAt};
+ghost use Rattle.kinds.specs.Kinds.{family, span, takes, blankAt};
 ghost use Rattle.kinds.specs.Engine.{nameOf};
 ghost use Rattle.segments.specs.Engine.{orElse, firstNamed, tells, choose, segmentPlan, segmentKinds, Entered, fitting, within, firstWrong};
 
@@ -124,6 +124,43 @@ fn fits_place(kind: u16, j: usize, v: u16) -> bool
         & ((resource::family_of(v) == kinds::family_of(kind)) | (v == kinds::blank_of(kind, j)))
 }
 
+// What place j holds with no field, of one that a segment can hold: such a one has all four places, or not.
+fn blank_in(kind: u16, j: usize) -> u16
+    requires { ⌜ (kind < 7) × (j < 4) ⌝ }
+    ensures { λ r. ⌜ r ≡ blankAt kind j ⌝ }
+{
+    let m = kinds::mask_of(kind);
+    if m % 16 == 15 {
+        return 30;
+    }
+    if (m >> (2 * (j / 2))) % 4 == 3 {
+        29
+    } else {
+        28
+    }
+}
+
+// The same as `fits_place`, of one that a segment can hold: every row without wider resources asks it.
+fn fits_in(kind: u16, j: usize, v: u16) -> bool
+    requires { ⌜ (kind < 7) × (j < 4) ⌝ }
+    ensures { λ r. ⌜ r ≡ (takes kind j && (eqb (v / 8) (family kind) || eqb v (blankAt kind j))) ⌝ }
+{
+    kinds::takes_place(kind, j)
+        & ((resource::family_of(v) == kinds::family_of(kind)) | (v == blank_in(kind, j)))
+}
+
+// The place of position p among the span of one that a segment can hold.
+fn place_of(kind: u16, p: usize) -> usize
+    requires { ⌜ kind < 7 ⌝ }
+    ensures { λ r. ⌜ (r < 4) × (r ≡ p % span kind) ⌝ }
+{
+    match kind {
+        0 => 0,
+        1 => p % 2,
+        _ => p % 4,
+    }
+}
+
 // The value v may stand at position p, which is given to itself.
 fn fits_alone(p: usize, v: u16) -> bool
     ensures { λ r. ⌜ r ≡ fitting 0 p v ⌝ }
@@ -152,13 +189,13 @@ fn lies_within(kind: u16, p: usize, n: usize) -> bool
 
 // Position p of n, which is given to this kind and has the value v, is as the plan says.
 fn is_right(kind: u16, p: usize, v: u16, n: usize) -> bool
-    requires { ⌜ (kind < 36) × (p < n) × (n ≤ 16) ⌝ }
+    requires { ⌜ (kind < 7) × (p < n) × (n ≤ 16) ⌝ }
     ensures { λ r. ⌜ r ≡ (fitting kind p v && within kind p n) ⌝ }
 {
     if kind == 0 {
         return fits_alone(p, v);
     }
-    if fits_place(kind, kinds::place_in(kind, p), v) {
+    if fits_in(kind, place_of(kind, p), v) {
         lies_within(kind, p, n)
     } else {
         false
@@ -167,7 +204,7 @@ fn is_right(kind: u16, p: usize, v: u16, n: usize) -> bool
 
 fn kind_at(kinds: &[u16; 16], row: &[u16], p: usize) -> u16
     requires { ⌜ (length (now row) ≤ 16) × (p < length (now row)) × (now kinds ≡ segmentKinds (now row)) ⌝ }
-    ensures { λ r. ⌜ (r < 36) × (r ≡ segmentPlan (at (now (row .entry))) p) ⌝ }
+    ensures { λ r. ⌜ (r < 7) × (r ≡ segmentPlan (at (now (row .entry))) p) ⌝ }
 {
     kinds[p]
 }

@@ -1,6 +1,6 @@
 -- `plan::total_from` meets its contract.
 use Rattle.segments.proofs.Found.{and-left, and-right}
-use Rattle.kinds.proofs.Steps.{total-alone, total-reused}
+use Rattle.kinds.proofs.Steps.{share-alone, total-alone, total-reused}
 use Rattle.kinds.specs.Fields.{share}
 use borrow.Author.Tests.{eqb-true, ltb-true}
 use lib.Dec.{eqb}
@@ -12,13 +12,15 @@ use Rattle.plan.proofs.total_from.Tie as tie
 value-at-requires : tie.Need-value-at-requires
 value-at-requires c κs = search needs
 
-share-of-requires : tie.Need-share-of-requires
-share-of-requires c κs = search needs
+own-fields-requires : tie.Need-own-fields-requires
+own-fields-requires c κs = search needs
 
 returns : tie.Need-returns
 returns c =
-    c .share-of .ensures .1
-    ∙ ap (share 0 (c .before .before .before .before .args .p)) (c .before .value-at .ensures)
+    let p = c .before .before .before .before .args .p in
+    c .own-fields .ensures
+    ∙ share-alone p _
+    ∙ ap (share 0 p) (c .before .value-at .ensures)
     ∙ total-alone _ _ _ (c .before .before .if1 .taken)
 
 start-of-requires : tie.Need-start-of-requires
@@ -42,7 +44,7 @@ total-from-spec =
     tie.close
     (tie.spec
     value-at-requires
-    share-of-requires
+    own-fields-requires
     returns
     start-of-requires
     total-of-requires

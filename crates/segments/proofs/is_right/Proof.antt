@@ -11,23 +11,23 @@ fits-alone-requires c κs = search needs
 returns : tie.Need-returns
 returns c = c .fits-alone .ensures ∙ right-alone _ _ _ _ (c .before .if1 .taken) (c .before .before .pre .1)
 
-place-in-requires : tie.Need-place-in-requires
-place-in-requires c κs = search needs
+place-of-requires : tie.Need-place-of-requires
+place-of-requires c κs = search needs
 
-fits-place-requires : tie.Need-fits-place-requires
-fits-place-requires c κs = search needs
+fits-in-requires : tie.Need-fits-in-requires
+fits-in-requires c κs = search needs
 
 lies-within-requires : tie.Need-lies-within-requires
 lies-within-requires c κs = search needs
 
 returns-2 : tie.Need-returns-2
 returns-2 c =
-    let place = place-is _ _ _ _ _ _ (c .before .before .before .place-in .ensures .1) (c .before .before .fits-place .ensures) (c .before .if2 .taken) in
+    let place = place-is _ _ _ _ _ _ (c .before .before .before .place-of .ensures .1) (c .before .before .fits-in .ensures) (c .before .if2 .taken) in
     c .lies-within .ensures ∙ and-yes _ _ (sym (fitting-place _ _ _ place))
 
 returns-3 : tie.Need-returns-3
 returns-3 c =
-    let place = place-is _ _ _ _ _ _ (c .before .before .place-in .ensures .1) (c .before .fits-place .ensures) (c .if2 .left) in
+    let place = place-is _ _ _ _ _ _ (c .before .before .place-of .ensures .1) (c .before .fits-in .ensures) (c .if2 .left) in
     and-no _ _ (sym (fitting-none _ _ _ place (c .before .before .before .if1 .left)))
 
 pub is-right-spec : {M : Type 1} → statement M
@@ -36,8 +36,8 @@ is-right-spec =
     (tie.spec
     fits-alone-requires
     returns
-    place-in-requires
-    fits-place-requires
+    place-of-requires
+    fits-in-requires
     lies-within-requires
     returns-2
     returns-3)
