@@ -123,7 +123,7 @@ fn put_only_larger(
     if kind == other {
         return at;
     }
-    if records::listed_of(kind, p, row[p]) == 0 {
+    if !records::is_lowest(kind, p) {
         return at;
     }
     let a = difference_lines::put_side(out, at, side);

@@ -5,7 +5,7 @@ use mathlib.Core.Bool.{Bool, true, false, cond}
 use mathlib.Core.List.{List, [], _∷_, _++_}
 use Prim.Native.Nat.{ℕ, _+_, _%_}
 use native.Mathlib.Omega.{arith}
-use borrow.Author.Tests.{ne-eqb}
+use borrow.Author.Tests.{eq-eqb, ne-eqb}
 use lib.Dec.{eqb}
 use lib.ListN.{length, getD, length-append, List·getD-append}
 use lib.Seq.{getD-append-add}
@@ -45,6 +45,15 @@ module _ (c : ℕ) (row : ℕ → ℕ) (p : ℕ) (n : c ≢ 0) where
   pub one-listed : (listed c p (row p) ≡ 0 → ⊥) → listAt c row p ≡ largerRecord c row p ∷ []
   unfolding listed listAt
   one-listed e = rw (ne-eqb c 0 n) (listed-if (eqb (p % span c) (lead c)) (largerRecord c row p) (rw (ne-eqb c 0 n) at e))
+
+  -- as the code tells it
+  pub not-lowest : eqb (p % span c) (lead c) ≡ false → listAt c row p ≡ []
+  unfolding listAt
+  not-lowest e = rw (ne-eqb c 0 n, e)
+
+  pub at-lowest : p % span c ≡ lead c → listAt c row p ≡ largerRecord c row p ∷ []
+  unfolding listAt
+  at-lowest e = rw (ne-eqb c 0 n, eq-eqb (p % span c) (lead c) e)
 
 pub no-lines : (n : ℕ) (d : List ℕ) (at : ℕ) → Wrote d at (runsLines n []) d at
 unfolding runsLines

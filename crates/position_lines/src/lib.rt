@@ -2,12 +2,13 @@
 use records::Record;
 use resource::Tones;
 ghost use mathlib.Core.Path.{_≡_};
-ghost use Prim.Native.Nat.{_+_, _*_, _≤_, _<_};
+ghost use Prim.Native.Nat.{_+_, _*_, _%_, _≤_, _<_};
 ghost use lib.ListN.{length};
 ghost use Rattle.text.specs.Text.{Wrote};
 ghost use Rattle.resource.specs.Values.{ownPieces};
 ghost use Rattle.resource.specs.Engine.{pieceAt, runsOf, held};
-ghost use Rattle.records.specs.Records.{pieceRecord, listAt};
+ghost use Rattle.kinds.specs.Kinds.{span};
+ghost use Rattle.records.specs.Records.{pieceRecord, lead, listAt};
 ghost use Rattle.position_lines.specs.Engine.{listedAt, runsLine, runsLines};
 
 fn put_record(out: &mut [u8], at: usize, n: u16, x: Record, tones: Tones) -> usize
@@ -47,15 +48,12 @@ fn put_pieces(out: &mut [u8], at: usize, n: u16, v: u16, p: usize) -> usize
     e
 }
 
-// The line of the larger resource of this kind, where p is its lowest position.
+// The line of the larger resource of this kind, of which p is the lowest position.
 pub fn put_larger(out: &mut [u8], at: usize, row: &[u16], kind: u16, p: usize) -> usize
-    requires { ⌜ (at ≤ 600000) × (length (now row) ≤ 16) × (p < length (now row)) × (kind < 36) × (kind ≡ 0 → ⊥) ⌝ }
+    requires { ⌜ (at ≤ 600000) × (length (now row) ≤ 16) × (p < length (now row)) × (kind < 36) × (kind ≡ 0 → ⊥) × (p % span kind ≡ lead kind) ⌝ }
     ensures { λ r. ⌜ Wrote (now (out .entry)) at (runsLines (length (now (row .entry))) (listedAt (now (row .entry)) kind p)) (now (out .exit)) r ⌝ }
     ensures bounded { λ r. ⌜ r ≤ at + 460 * length (listedAt (now (row .entry)) kind p) ⌝ }
 {
-    if records::listed_of(kind, p, row[p]) == 0 {
-        return at;
-    }
     let n = row.len() as u16;
     let tones = records::larger_tones(kind, p);
     put_record(out, at, n, records::larger_record(kind, row, p), tones)
@@ -69,6 +67,9 @@ pub fn put_position(out: &mut [u8], at: usize, row: &[u16], kind: u16, p: usize)
 {
     if kind == 0 {
         return put_pieces(out, at, row.len() as u16, row[p], p);
+    }
+    if !records::is_lowest(kind, p) {
+        return at;
     }
     put_larger(out, at, row, kind, p)
 }

@@ -20,13 +20,9 @@ use Rattle.kinds.proofs.Table.{span-some, span-0, takes-known}
 use Rattle.records.specs.Records.{lead}
 use Rattle.records.specs.Engine.{lowest}
 
--- the first place, or that after what it leaves out there: a place, a pair, a segment, or a segment and a pair
-abbrev pub leadBy : ℕ → ℕ
-leadBy m = cond (eqb (m % 2) 1) 0 (cond (eqb (m / 2 % 2) 1) 1 (cond (eqb (m / 4 % 2) 1) 2 (cond (eqb (m / 16 % 2) 1) 4 6)))
-
 -- it is one of its own
 abbrev lead-test : ℕ → Bool
-lead-test c = eqb (leadBy (mask c)) (lead c) && (ltb (lead c) (span c) && leb (lead c) 6)
+lead-test c = ltb (lead c) (span c) && leb (lead c) 6
 
 -- one of its places lies in the upper half of its span
 abbrev upper : ℕ → ℕ → Bool
@@ -59,17 +55,11 @@ module _ (c : ℕ) (h : c < 36) where
   lead-line : T (lead-test c)
   lead-line = every-below lead-test 36 leads-tested c h
 
-  lead-range : T (ltb (lead c) (span c) && leb (lead c) 6)
-  lead-range = both-right (eqb (leadBy (mask c)) (lead c)) _ lead-line
-
-  pub lead-by : leadBy (mask c) ≡ lead c
-  lead-by = eqb→eq _ _ (both-left (eqb (leadBy (mask c)) (lead c)) _ lead-line)
-
   pub lead-span : lead c < span c
-  lead-span = ltb-true _ _ (is-true _ (both-left (ltb (lead c) (span c)) _ lead-range))
+  lead-span = ltb-true _ _ (is-true _ (both-left (ltb (lead c) (span c)) _ lead-line))
 
   pub lead-most : lead c ≤ 6
-  lead-most = leb-true _ _ (is-true _ (both-right (ltb (lead c) (span c)) _ lead-range))
+  lead-most = leb-true _ _ (is-true _ (both-right (ltb (lead c) (span c)) _ lead-line))
 
   pub lead-takes : takes c (lead c) ≡ true
   unfolding lead
@@ -81,10 +71,6 @@ module _ (c : ℕ) (h : c < 36) where
       let j = least (upper c) (span c) in
       let t : T (upper c j) = holds _ (least-holds (upper c) (span c) l) in
       (j, l, leb-true _ _ (is-true _ (both-left (leb (span c / 2) j) (takes c j) t)), is-true _ (both-right (leb (span c / 2) j) (takes c j) t))
-
--- as the program finds it, from the mask m
-pub lead-found : (c m r : ℕ) → c < 36 → m ≡ mask c → leadBy m ≡ r → (r ≡ lead c) × (r ≤ 6)
-lead-found c m r h e f = let g : r ≡ lead c = sym f ∙ ap leadBy e ∙ lead-by c h in (g, omega (arith, lead-most c h))
 
 -- what lies past the table has no span
 span-past : (c : ℕ) → 36 ≤ c → span c ≡ 0

@@ -7,10 +7,12 @@ use resource::Size;
 use resource::Tones;
 ghost use mathlib.Core.Path.{_≡_};
 ghost use mathlib.Core.Bool.{cond};
-ghost use Prim.Native.Nat.{_+_, _≤_, _<_};
+ghost use lib.Dec.{eqb};
+ghost use Prim.Native.Nat.{_+_, _%_, _≤_, _<_};
 ghost use lib.ListN.{length, replicate};
 ghost use Rattle.answer.specs.Lists.{build, filled};
 ghost use Rattle.answer.specs.Lists.{at};
+ghost use Rattle.kinds.specs.Kinds.{span};
 ghost use Rattle.plan.specs.Engine.{onlyPlan};
 ghost use Rattle.plan.specs.Engine.{kindsOf};
 ghost use Rattle.resource.specs.Engine.{numberedOf};
@@ -57,22 +59,20 @@ fn larger_of(kind: u16, q: u16) -> Resource
     }
 }
 
-// The lowest of its places among its span: the first, or that after what it leaves out there.
+// The lowest of its places among its span: the first, or that after what it leaves out there. One `match` of constants, neighbours in arms
+// of their own, so that it is one load from a fixed table: a listing asks it of every position.
 fn lead_of(kind: u16) -> usize
     requires { ⌜ kind < 36 ⌝ }
     ensures { λ r. ⌜ (r ≡ lead kind) × (r ≤ 6) ⌝ }
 {
-    let m = kinds::mask_of(kind);
-    if m % 2 == 1 {
-        return 0;
+    match kind {
+        3 => 1,
+        8 | 16 | 24 => 2,
+        12 | 31 | 33 | 35 => 4,
+        32 | 34 => 4,
+        30 => 6,
+        _ => 0,
     }
-    if m / 2 % 2 == 1 {
-        return 1;
-    }
-    if m / 4 % 2 == 1 {
-        return 2;
-    }
-    if m / 16 % 2 == 1 { 4 } else { 6 }
 }
 
 // The lowest place of the resource of this kind that lies at p.
@@ -134,6 +134,14 @@ fn one_if(t: bool) -> u16
     if t { 1 } else { 0 }
 }
 
+// Position p is the lowest place of the resource of this kind that lies there.
+pub fn is_lowest(kind: u16, p: usize) -> bool
+    requires { ⌜ kind < 36 ⌝ }
+    ensures { λ r. ⌜ r ≡ eqb (p % span kind) (lead kind) ⌝ }
+{
+    kinds::place_in(kind, p) == lead_of(kind)
+}
+
 // How many of them there are, the position's value being v: a larger resource is listed at its lowest place alone.
 pub fn listed_of(kind: u16, p: usize, v: u16) -> u16
     requires { ⌜ (kind < 36) × (p < 4096) ⌝ }
@@ -142,7 +150,7 @@ pub fn listed_of(kind: u16, p: usize, v: u16) -> u16
     if kind == 0 {
         return resource::pieces_of(v);
     }
-    one_if(lowest_of(kind, p) == p)
+    one_if(is_lowest(kind, p))
 }
 
 // ---- the numbers of the resources, for what is asked of every position

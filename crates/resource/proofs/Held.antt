@@ -2,13 +2,15 @@
 use mathlib.Core.Path.{_≡_, refl, sym, ap, _∙_}
 use mathlib.Core.Logic.{⊎-elim}
 use mathlib.Core.Bool.{Bool, true, false, cond}
-use mathlib.Core.List.{List, [], _∷_, _++_}
+use mathlib.Core.List.{List, [], _∷_, _++_, append-assoc}
 use Prim.Native.Nat.{ℕ, zero, suc, _+_, _-_, _*_, _/_, _%_, _^_, _≤_, _<_}
 use native.Mathlib.Nat.{pow-le-pow-right}
 use native.Mathlib.Omega.{arith}
+use native.Mathlib.Numerals.{add-one}
 use borrow.Author.Tests.{lt-leb}
 use lib.Dec.{T, leb, leb→le, eqb}
-use lib.ListN.{length, take, set, replicate, length-append}
+use lib.ListN.{length, take, set, getD, replicate, length-append}
+use lib.Seq.{take-all}
 use Rattle.resource.specs.declared.Size.{Size}
 use Rattle.resource.specs.declared.Size.the-variants.{S26, S52, S106, S242, S484, S996, S2x996}
 use Rattle.resource.specs.declared.Pairing.{Pairing}
@@ -163,3 +165,62 @@ unfolding held
 held-after a rs t e h =
     let l : length rs < 8 = rw e at h in
     rw (e, one-more noRun 8 8 rs a l (omega arith), length-append rs (a ∷ []))
+
+-- one run more, before the others
+seven : (xs : List Run) → 7 ≤ length xs
+    → take 7 xs
+    ≡ getD (take 8 xs) 0 noRun
+    ∷ getD (take 8 xs) 1 noRun
+    ∷ getD (take 8 xs) 2 noRun
+    ∷ getD (take 8 xs) 3 noRun
+    ∷ getD (take 8 xs) 4 noRun
+    ∷ getD (take 8 xs) 5 noRun
+    ∷ getD (take 8 xs) 6 noRun
+    ∷ []
+seven [] h = absurd (omega arith)
+seven (a ∷ []) h = absurd (omega arith)
+seven (a ∷ b ∷ []) h = absurd (omega arith)
+seven (a ∷ b ∷ c ∷ []) h = absurd (omega arith)
+seven (a ∷ b ∷ c ∷ d ∷ []) h = absurd (omega arith)
+seven (a ∷ b ∷ c ∷ d ∷ e ∷ []) h = absurd (omega arith)
+seven (a ∷ b ∷ c ∷ d ∷ e ∷ f ∷ []) h = absurd (omega arith)
+seven (a ∷ b ∷ c ∷ d ∷ e ∷ f ∷ g ∷ xs) h = refl
+
+pub held-before : (a : Run) (rs : List Run) (t : Tones) → t ≡ held rs
+    → record {
+      count = t .count + 1;
+      runs =
+          a
+          ∷ getD (t .runs) 0 noRun
+          ∷ getD (t .runs) 1 noRun
+          ∷ getD (t .runs) 2 noRun
+          ∷ getD (t .runs) 3 noRun
+          ∷ getD (t .runs) 4 noRun
+          ∷ getD (t .runs) 5 noRun
+          ∷ getD (t .runs) 6 noRun
+          ∷ [];
+    }
+    ≡ held (a ∷ rs)
+unfolding held
+held-before a rs t e =
+    rw (e, add-one (length rs), ← seven (rs ++ replicate 8 noRun) (omega (arith, length-append rs (replicate 8 noRun))))
+
+-- the runs of another after them, one by one
+next : (n k : ℕ) (ws ys : List Run) → k < length ws → k < n → take k ws ++ (getD (take n (ws ++ ys)) k noRun ∷ []) ≡ take (suc k) ws
+next n k [] ys h l = absurd (omega arith)
+next zero k (w ∷ ws) ys h l = absurd (omega arith)
+next (suc n) zero (w ∷ ws) ys h l = refl
+next (suc n) (suc k) (w ∷ ws) ys h l = ap (w ∷_) (next n k ws ys (omega arith) (omega arith))
+
+pub held-next : (rs ws : List Run) (u : Tones) (k : ℕ) → u ≡ held ws → k < u .count → u .count ≤ 8
+    → (rs ++ take k ws) ++ (getD (u .runs) k noRun ∷ []) ≡ rs ++ take (k + 1) ws
+unfolding held
+held-next rs ws u k e h l =
+    let c : u .count ≡ length ws = rw e in
+    let f : (rs ++ take k ws) ++ (getD (held ws .runs) k noRun ∷ []) ≡ rs ++ take (suc k) ws =
+    append-assoc rs (take k ws) _ ∙ ap (rs ++_) (next 8 k ws (replicate 8 noRun) (omega (arith, c)) (omega arith)) in
+    rw (e, add-one k) f
+
+pub held-whole : (rs ws : List Run) (u : Tones) (k : ℕ) → u ≡ held ws → k ≡ u .count → rs ++ take k ws ≡ rs ++ ws
+unfolding held
+held-whole rs ws u k e f = let c : k ≡ length ws = f ∙ rw e in ap (rs ++_) (take-all k ws (omega (arith, c)))

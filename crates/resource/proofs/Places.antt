@@ -239,35 +239,16 @@ not-all m n = go (set-at 0 m && set-at 1 m && set-at 2 m && set-at 3 m) refl
         let two : m / 2 ≡ 2 * (m / 4) + 1 = halved (m / 2) (m / 4) x (omega arith) in
         absurd (n (omega (arith, w, two, four, eight)))
 
+if-last : (t : Bool) (p : ℕ) → the242If t p ≡ the242If t p ++ []
+if-last true p = refl
+if-last false p = refl
+
 -- else one after the other
-each-place : (b m : ℕ) → (m % 16 ≡ 15 → ⊥)
+pub each-place : (b m : ℕ) → (m % 16 ≡ 15 → ⊥)
     → placesRuns b m
     ≡ the242If (eqb (m % 2) 1) b
-    ++ (the242If (eqb (m / 2 % 2) 1) (b + 1) ++ (the242If (eqb (m / 4 % 2) 1) (b + 2) ++ the242If (eqb (m / 8 % 2) 1) (b + 3)))
+    ++ (the242If (eqb (m / 2 % 2) 1) (b + 1) ++ (the242If (eqb (m / 4 % 2) 1) (b + 2) ++ (the242If (eqb (m / 8 % 2) 1) (b + 3) ++ [])))
 unfolding placesRuns
-each-place b m n = let e : m / 1 ≡ m = omega arith in rw (not-all m n, e)
-
-module _ (b m : ℕ) where
-  abbrev first : List Run
-  first = the242If (eqb (m % 2) 1) b
-
-  abbrev second : List Run
-  second = the242If (eqb (m / 2 % 2) 1) (b + 1)
-
-  abbrev third : List Run
-  third = the242If (eqb (m / 4 % 2) 1) (b + 2)
-
-  abbrev fourth : List Run
-  fourth = the242If (eqb (m / 8 % 2) 1) (b + 3)
-
-  pub place-after-place : (rs : List Run) → (m % 16 ≡ 15 → ⊥) → (((rs ++ first) ++ second) ++ third) ++ fourth ≡ rs ++ placesRuns b m
-  place-after-place rs n =
-      rw (
-        each-place b m n,
-        append-assoc ((rs ++ first) ++ second) third fourth,
-        append-assoc (rs ++ first) second (third ++ fourth),
-        append-assoc rs first (second ++ (third ++ fourth)),
-      )
-
-  pub each-length : (m % 16 ≡ 15 → ⊥) → length (placesRuns b m) ≡ length first + (length second + (length third + length fourth))
-  each-length n = rw (each-place b m n) (simp length-append)
+each-place b m n =
+    let e : m / 1 ≡ m = omega arith in
+    rw (not-all m n, e, ← if-last (eqb (m / 8 % 2) 1) (b + 3))

@@ -67,26 +67,37 @@ pub fn is_carried(v: u16) -> bool
     }
 }
 
-// Below 64 one `match` of constants, so that it is one load from a fixed table: the reader asks it of every value. Neighbours stand in
-// arms of their own: in one arm they would be a test of a range, and no entry of the table.
+// A value below 72 that gives as many fields: of each family, from 64 up, that of the first, and 63 past the last. No branch is taken for
+// it: the rows of a capture would be guessed wrong.
+fn below_72(v: u16) -> u16
+    ensures { λ r. ⌜ (r < 72) × (fieldsOf r ≡ fieldsOf v) ⌝ }
+{
+    if v < 64 {
+        return v;
+    }
+    if v < 304 { 64 + v % 8 } else { 63 }
+}
+
+// One `match` of constants, so that it is one load from a fixed table: the reader asks it of every value. Neighbours stand in arms of
+// their own: in one arm they would be a test of a range, and no entry of the table.
 pub fn fields_of(v: u16) -> u16
     ensures { λ r. ⌜ r ≡ fieldsOf v ⌝ }
 {
-    match v {
+    match below_72(v) {
         0 => 9,
-        1 | 4 | 8 => 8,
+        1 | 4 | 8 | 71 => 8,
         2 => 8,
-        3 | 5 | 9 | 12 => 7,
+        3 | 5 | 9 | 12 | 70 => 7,
         6 | 10 => 7,
-        7 | 11 | 13 | 16 | 20 => 6,
+        7 | 11 | 13 | 16 | 20 | 69 => 6,
         14 => 6,
-        15 | 17 | 21 => 5,
+        15 | 17 | 21 | 68 => 5,
         18 | 22 => 5,
-        19 | 23 => 4,
+        19 | 23 | 67 => 4,
         24 => 4,
-        25 => 3,
-        48 | 50 => 2,
-        64..=303 => v % 8 + 1,
+        25 | 66 => 3,
+        48 | 50 | 65 => 2,
+        64 => 1,
         _ => 0,
     }
 }
@@ -505,6 +516,36 @@ pub fn piece_tones(n: u16, p: u16, x: Piece) -> Tones
     }
 }
 
+// The 242 of position p, where it is a place of the resource's, before the runs of t.
+fn with_242(own: bool, p: u32, t: Tones) -> Tones
+    requires { ⌜ (p < 1048576) × (t .count < 8) × (length (t .runs) ≡ 8) ⌝ }
+    ensures { λ r. ⌜ ((rs : List Run) → t ≡ held rs → r ≡ held (the242If own p ++ rs)) ⌝ }
+    ensures bounded { λ r. ⌜ (r .count ≤ t .count + 1) × (length (r .runs) ≡ 8) ⌝ }
+{
+    if own {
+        let x = t.runs;
+        return Tones {
+            count: t.count + 1,
+            runs: [run_242(p), x[0], x[1], x[2], x[3], x[4], x[5], x[6]],
+        };
+    }
+    t
+}
+
+// The subcarriers of a resource of whole positions, by its places among the four from b on, where its segment begins.
+pub fn places_tones(b: u32, mask: u16) -> Tones
+    requires { ⌜ b < 1000000 ⌝ }
+    ensures { λ t. ⌜ t ≡ held (placesRuns b mask) ⌝ }
+{
+    if mask % 16 == 15 {
+        return two_runs(run_of(256 * b + 12, 498), run_of(256 * b + 515, 498));
+    }
+    let last = with_242(mask / 8 % 2 == 1, b + 3, no_tones());
+    let upper = with_242(mask / 4 % 2 == 1, b + 2, last);
+    let but_first = with_242(mask / 2 % 2 == 1, b + 1, upper);
+    with_242(mask % 2 == 1, b, but_first)
+}
+
 // One run more, after those of t.
 fn with_run(t: Tones, a: Run) -> Tones
     requires { ⌜ (t .count < 8) × (length (t .runs) ≡ 8) ⌝ }
@@ -517,40 +558,18 @@ fn with_run(t: Tones, a: Run) -> Tones
     next
 }
 
-// The 242 of position p, where it is a place of the resource's, after the runs of t.
-fn with_242(t: Tones, own: bool, p: u32) -> Tones
-    requires { ⌜ (p < 1048576) × (t .count + length (the242If own p) ≤ 8) × (length (t .runs) ≡ 8) ⌝ }
-    ensures { λ r. ⌜ ((rs : List Run) → t ≡ held rs → r ≡ held (rs ++ the242If own p)) ⌝ }
-    ensures bounded { λ r. ⌜ (r .count ≡ t .count + length (the242If own p)) × (length (r .runs) ≡ 8) ⌝ }
+// The runs of u, after those of t.
+fn with_runs(t: Tones, u: Tones) -> Tones
+    requires { ⌜ (t .count + u .count ≤ 8) × (length (t .runs) ≡ 8) × (length (u .runs) ≡ 8) ⌝ }
+    ensures { λ r. ⌜ ((rs ws : List Run) → t ≡ held rs → u ≡ held ws → r ≡ held (rs ++ ws)) ⌝ }
 {
-    if own {
-        return with_run(t, run_242(p));
+    let mut next = t;
+    let mut k: u16 = 0;
+    while k < u.count {
+        next = with_run(next, u.runs[k as usize]);
+        k += 1;
     }
-    t
-}
-
-// The runs of a resource of whole positions, by its places among the four from b on, where a segment begins, after those of t.
-fn with_places(t: Tones, b: u32, mask: u32) -> Tones
-    requires { ⌜ (b < 1000000) × (t .count + length (placesRuns b mask) ≤ 8) × (length (t .runs) ≡ 8) ⌝ }
-    ensures { λ r. ⌜ ((rs : List Run) → t ≡ held rs → r ≡ held (rs ++ placesRuns b mask)) ⌝ }
-    ensures bounded { λ r. ⌜ (r .count ≡ t .count + length (placesRuns b mask)) × (length (r .runs) ≡ 8) ⌝ }
-{
-    if mask % 16 == 15 {
-        let lower = with_run(t, run_of(256 * b + 12, 498));
-        return with_run(lower, run_of(256 * b + 515, 498));
-    }
-    let first = with_242(t, mask % 2 == 1, b);
-    let lower = with_242(first, mask / 2 % 2 == 1, b + 1);
-    let but_last = with_242(lower, mask / 4 % 2 == 1, b + 2);
-    with_242(but_last, mask / 8 % 2 == 1, b + 3)
-}
-
-// The subcarriers of a resource of whole positions of the segment that begins at position b.
-pub fn places_tones(b: u32, mask: u16) -> Tones
-    requires { ⌜ b < 1000000 ⌝ }
-    ensures { λ t. ⌜ t ≡ held (placesRuns b mask) ⌝ }
-{
-    with_places(no_tones(), b, mask as u32)
+    next
 }
 
 // Of one that lies in several segments.
@@ -563,7 +582,7 @@ pub fn spread_tones(b: u32, mask: u32, segments: u16) -> Tones
     let mut left = mask;
     let mut s = segments;
     while s > 0 {
-        t = with_places(t, from, left % 16);
+        t = with_runs(t, places_tones(from, (left % 16) as u16));
         from += 4;
         left /= 16;
         s -= 1;

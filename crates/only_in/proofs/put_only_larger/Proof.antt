@@ -1,11 +1,11 @@
 -- `only_in::put_only_larger` meets its contract.
 use native.Mathlib.Omega.{arith}
 use mathlib.Core.Path.{sym, _∙_}
-use borrow.Author.Tests.{eq-eqb, ne-eqb}
+use borrow.Author.Tests.{eqb-true, eq-eqb, ne-eqb, not-true, not-false}
 use lib.ListN.{length}
 use Rattle.answer.specs.Lists.{at as value}
 use Rattle.text.proofs.Laws.{nothing, after}
-use Rattle.position_lines.proofs.Lines.{none-listed, one-listed, one-line}
+use Rattle.position_lines.proofs.Lines.{not-lowest, at-lowest, one-line}
 use Rattle.only_in.specs.Engine.{onlyLarger}
 use Rattle.only_in.proofs.Lines.{no-sided, one-sided}
 use borrow.Author.Needs.{needs}
@@ -16,29 +16,28 @@ returns : tie.Need-returns
 unfolding onlyLarger
 returns c = (rw (eq-eqb _ _ (c .if1 .taken)) (nothing _ _), omega arith)
 
-mul-listed-of : tie.Need-mul-listed-of
-mul-listed-of c = search needs
-
-shared-slice-read-listed-of : tie.Need-shared-slice-read-listed-of
-shared-slice-read-listed-of c = search needs
-
-listed-of-requires : tie.Need-listed-of-requires
-listed-of-requires c κs = search needs
+is-lowest-requires : tie.Need-is-lowest-requires
+is-lowest-requires c κs = search needs
 
 returns-2 : tie.Need-returns-2
 unfolding onlyLarger
 returns-2 c =
-    let i = c .before .before .before in
+    let i = c .before .before in
     let s = i .before .before .before in
     let a = s .args in
-    let e = none-listed (a .kind) (value (a .row .now)) (a .p) (s .pre .5) (sym (c .before .listed-of .ensures .0) ∙ c .if2 .taken) in
+    let e = not-lowest (a .kind) (value (a .row .now)) (a .p) (s .pre .5) (sym (c .before .is-lowest .ensures) ∙ not-true _ (c .if2 .taken)) in
     (rw (ne-eqb _ _ (i .if1 .left), e, no-sided (a .side) (length (a .row .now))) (nothing _ _), omega arith)
 
 put-side-requires : tie.Need-put-side-requires
 put-side-requires c κs = search needs
 
 put-larger-requires : tie.Need-put-larger-requires
-put-larger-requires c κs = search needs
+put-larger-requires c κs =
+    let side = c .before .before .before in
+    let j = side .before .before in
+    let s = j .before .before .before .before .before in
+    let lowest = eqb-true _ _ (sym (j .before .is-lowest .ensures) ∙ not-false _ (j .if2 .left)) in
+    (omega (arith, s .pre .0, side .put-side .ensures .1), s .pre .2, s .pre .3, s .pre .4, s .pre .5, lowest)
 
 same-length : tie.Need-same-length
 same-length c = search needs
@@ -49,10 +48,11 @@ returns-3 c =
     let last = c .before .before in
     let side = last .before .before .before .before in
     let j = side .before .before in
-    let i = j .before .before .before in
+    let i = j .before .before in
     let s = i .before .before .before in
     let a = s .args in
-    let e = one-listed (a .kind) (value (a .row .now)) (a .p) (s .pre .5) (λ z. j .if2 .left (j .before .listed-of .ensures .0 ∙ z)) in
+    let lowest = eqb-true _ _ (sym (j .before .is-lowest .ensures) ∙ not-false _ (j .if2 .left)) in
+    let e = at-lowest (a .kind) (value (a .row .now)) (a .p) (s .pre .5) lowest in
     let w = rw e at (last .put-larger .ensures) in (
       rw (ne-eqb _ _ (i .if1 .left), e, one-sided (a .side) (length (a .row .now))) (after (side .put-side .ensures .0) (rw one-line at (w .0))),
       omega (arith, side .put-side .ensures .1, w .1),
@@ -63,9 +63,7 @@ put-only-larger-spec =
     tie.close
     (tie.spec
     returns
-    mul-listed-of
-    shared-slice-read-listed-of
-    listed-of-requires
+    is-lowest-requires
     returns-2
     put-side-requires
     put-larger-requires

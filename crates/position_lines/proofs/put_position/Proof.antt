@@ -1,5 +1,10 @@
 -- `position_lines::put_position` meets its contract.
+use native.Mathlib.Omega.{arith}
+use mathlib.Core.Path.{sym, _∙_}
+use borrow.Author.Tests.{eqb-true, not-true, not-false}
+use Rattle.answer.specs.Lists.{at as value}
 use Rattle.records.specs.Records.{listAt}
+use Rattle.position_lines.proofs.Lines.{not-lowest, no-lines}
 use borrow.Author.Needs.{needs}
 use Rattle.position_lines.proofs.put_position.Statement.{statement}
 use Rattle.position_lines.proofs.put_position.Tie as tie
@@ -23,14 +28,28 @@ returns : tie.Need-returns
 unfolding listAt
 returns c = rw (c .before .before .before .before .before .if1 .taken) (c .before .before .put-pieces .ensures)
 
+is-lowest-requires : tie.Need-is-lowest-requires
+is-lowest-requires c κs = search needs
+
+returns-2 : tie.Need-returns-2
+returns-2 c =
+    let s = c .before .before .before .before .before in
+    let a = s .args in
+    let e =
+    not-lowest (a .kind) (value (a .row .now)) (a .p) (c .before .before .if1 .left) (sym (c .before .is-lowest .ensures) ∙ not-true _ (c .if2 .taken)) in
+    (rw e (no-lines _ _ _), omega arith)
+
 put-larger-requires : tie.Need-put-larger-requires
-put-larger-requires c κs = search needs
+put-larger-requires c κs =
+    let s = c .before .before .before .before .before .before in
+    let lowest = eqb-true _ _ (sym (c .before .before .is-lowest .ensures) ∙ not-false _ (c .before .if2 .left)) in
+    (s .pre .0, s .pre .1, s .pre .2, s .pre .3, c .before .before .before .if1 .left, lowest)
 
 same-length-2 : tie.Need-same-length-2
 same-length-2 c = search needs
 
-returns-2 : tie.Need-returns-2
-returns-2 c = search needs
+returns-3 : tie.Need-returns-3
+returns-3 c = search needs
 
 pub put-position-spec : {M : Type 1} → statement M
 put-position-spec =
@@ -42,6 +61,8 @@ put-position-spec =
     put-pieces-requires
     same-length
     returns
+    is-lowest-requires
+    returns-2
     put-larger-requires
     same-length-2
-    returns-2)
+    returns-3)

@@ -1,11 +1,9 @@
 -- `records::listed_of` meets its contract.
-use Rattle.records.proofs.Lead.{lowest-here}
 use Rattle.records.proofs.Listing.{listed-most}
 use Rattle.records.specs.Engine.{listed}
 use Prim.Native.Nat.{ℕ, _≤_}
-use mathlib.Core.Bool.{cond}
+use mathlib.Core.Bool.{Bool, cond}
 use mathlib.Core.Path.{_≡_, ap, _∙_}
-use lib.Dec.{eqb}
 use borrow.Author.Tests.{eq-eqb, ne-eqb}
 use borrow.Author.Needs.{needs}
 use Rattle.records.proofs.listed_of.Statement.{statement}
@@ -23,8 +21,8 @@ returns c =
     let s = c .before .before .args in
     with-most (c .pieces-of .result) (s .kind) (s .p) (s .v) (c .pieces-of .ensures ∙ rw (eq-eqb (s .kind) 0 (c .before .if1 .taken)))
 
-lowest-of-requires : tie.Need-lowest-of-requires
-lowest-of-requires c κs = search needs
+is-lowest-requires : tie.Need-is-lowest-requires
+is-lowest-requires c κs = search needs
 
 one-if-requires : tie.Need-one-if-requires
 one-if-requires c κs = search needs
@@ -35,9 +33,9 @@ returns-2 c =
     let s = c .before .before .before .args in
     with-most (c .one-if .result) (s .kind) (s .p) (s .v)
     (c .one-if .ensures
-    ∙ ap (λ (x : ℕ). cond (eqb x (s .p)) 1 0) (c .before .lowest-of .ensures .0)
-    ∙ rw (lowest-here (s .kind) (s .p), ne-eqb (s .kind) 0 (c .before .before .if1 .left)))
+    ∙ ap (λ (t : Bool). cond t 1 0) (c .before .is-lowest .ensures)
+    ∙ rw (ne-eqb (s .kind) 0 (c .before .before .if1 .left)))
 
 pub listed-of-spec : {M : Type 1} → statement M
 listed-of-spec =
-    tie.close (tie.spec pieces-of-requires returns lowest-of-requires one-if-requires returns-2)
+    tie.close (tie.spec pieces-of-requires returns is-lowest-requires one-if-requires returns-2)

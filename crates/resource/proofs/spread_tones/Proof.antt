@@ -35,19 +35,27 @@ no-tones-requires c κs = search needs
 loop-holds : tie.Need-loop-holds Inv-loop μ-loop
 loop-holds c = ([], c .no-tones .ensures, refl, refl)
 
-with-places-requires : tie.Need-with-places-requires Inv-loop μ-loop
-with-places-requires c κs =
-    let l = c .before .loop in
+cast-places-tones : tie.Need-cast-places-tones Inv-loop μ-loop
+cast-places-tones c = search needs
+
+places-tones-requires : tie.Need-places-tones-requires Inv-loop μ-loop
+places-tones-requires c κs =
+    let a = c .before .before .before .pre in omega (arith, c .before .loop .inv .3, a .0, a .1)
+
+with-runs-requires : tie.Need-with-runs-requires Inv-loop μ-loop
+with-runs-requires c κs =
+    let l = c .before .before .loop in
     let v = l .inv in
-    let a = c .before .before .before .pre in (
-      omega (arith, v .3, a .0, a .1),
-      room (l .t) (v .0) _ (l .from) (l .left) (l .s) (omega arith) (v .1) (v .2) (a .2),
+    let a = c .before .before .before .before .pre in
+    let e = c .places-tones .ensures in (
+      rw (e, held-count (placesRuns (l .from) (l .left % 16))) (room (l .t) (v .0) _ (l .from) (l .left) (l .s) (omega arith) (v .1) (v .2) (a .2)),
       rw (v .1) (held-eight (v .0)),
+      rw e (held-eight _),
     )
 
 add-from : tie.Need-add-from Inv-loop μ-loop
 add-from c =
-    let a = c .before .before .before .before .pre in omega (arith, c .before .before .loop .inv .3, a .0, a .1)
+    let a = c .before .before .before .before .before .pre in omega (arith, c .before .before .before .loop .inv .3, a .0, a .1)
 
 sub-s : tie.Need-sub-s Inv-loop μ-loop
 sub-s c = search needs
@@ -57,11 +65,11 @@ loop-less c = search needs
 
 loop-again : tie.Need-loop-again Inv-loop μ-loop
 loop-again c =
-    let l = c .before .before .loop in
+    let l = c .before .before .before .loop in
     let v = l .inv in
     let next = next-segment (l .from) (l .left) (l .s) (omega arith) in (
       _,
-      c .with-places .ensures .0 (v .0) (v .1),
+      c .with-runs .ensures (v .0) _ (v .1) (c .before .places-tones .ensures),
       append-assoc (v .0) _ _ ∙ ap (v .0 ++_) (sym next) ∙ v .2,
       omega (arith, v .3),
     )
@@ -80,7 +88,9 @@ spread-tones-spec =
     μ-loop
     no-tones-requires
     loop-holds
-    with-places-requires
+    cast-places-tones
+    places-tones-requires
+    with-runs-requires
     add-from
     sub-s
     loop-less
