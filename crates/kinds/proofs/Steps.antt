@@ -110,21 +110,22 @@ shares-next c row b i sum v e f =
     rw (add-one i, e, f) (omega (arith, g))
 
 -- ---- the resource of a position is that of the position before, if both lie among its span
-pub total-same : (c : ℕ) (row : ℕ → ℕ) (p : ℕ) → c < 36 → 0 < p → span c * (p / span c) < p → together c row (p - 1) ≡ together c row p
-unfolding fieldsIn
-total-same c row p h z l =
+pub span-before : (c p : ℕ) → c < 36 → span c * (p / span c) < p → (p - 1) / span c ≡ p / span c
+span-before c p h l =
     ⊎-elim (λ e. go 1 e (λ m. absurd (omega arith)))
     (⊎-elim (λ e. go 2 e (λ m. omega arith))
     (⊎-elim (λ e. go 4 e (λ m. omega arith)) (⊎-elim (λ e. go 8 e (λ m. omega arith)) (λ e. go 16 e (λ m. omega arith))))) (powers c h)
   where
-    go : (n : ℕ) → span c ≡ n → (n * (p / n) < p → (p - 1) / n ≡ p / n)
-        → shares 1 c row (span c * ((p - 1) / span c)) (span c) + shares 2 c row (span c * ((p - 1) / span c)) (span c)
-        ≡ shares 1 c row (span c * (p / span c)) (span c) + shares 2 c row (span c * (p / span c)) (span c)
+    go : (n : ℕ) → span c ≡ n → (n * (p / n) < p → (p - 1) / n ≡ p / n) → (p - 1) / span c ≡ p / span c
     go n e f = let m : n * (p / n) < p = rw e at l in let g = f m in rw (e, g)
+
+pub total-same : (c : ℕ) (row : ℕ → ℕ) (p : ℕ) → c < 36 → span c * (p / span c) < p → together c row (p - 1) ≡ together c row p
+unfolding fieldsIn
+total-same c row p h l = rw (span-before c p h l)
 
 pub total-reused : (t before c p : ℕ) (row : ℕ → ℕ) → c < 36 → (0 < p → t ≡ together before row (p - 1)) → c ≡ before
     → span c * (p / span c) < p → t ≡ together c row p
-total-reused t before c p row h f e l = f (omega arith) ∙ ap (λ (k : ℕ). together k row (p - 1)) (sym e) ∙ total-same c row p h (omega arith) l
+total-reused t before c p row h f e l = f (omega arith) ∙ ap (λ (k : ℕ). together k row (p - 1)) (sym e) ∙ total-same c row p h l
 
 pub total-alone : (c : ℕ) (row : ℕ → ℕ) (p : ℕ) → c ≡ 0 → share 0 p (row p) ≡ together c row p
 unfolding fieldsIn

@@ -11,11 +11,14 @@ use borrow.Author.Tests.{eq-eqb, ne-eqb, lt-ltb, ltb-true, le-ltb, le-leb, leb-t
 use Rattle.answer.specs.Least.{least}
 use Rattle.answer.proofs.Least.{least-stop, least-end, least-cong, least-none}
 use Rattle.answer.specs.Lists.{at}
-use Rattle.kinds.specs.Kinds.{span, takes}
+use Rattle.resource.proofs.Test.{below-or}
+use Rattle.kinds.specs.Kinds.{none, span, takes}
+use Rattle.kinds.proofs.Steps.{span-before}
 use Rattle.segments.specs.Engine.{fitting}
+use Rattle.segments.proofs.Found.{and-right}
 use Rattle.spans.specs.Engine.{partPlan}
 use Rattle.plan.specs.Answers.{segments, Size, partEnd}
-use Rattle.plan.specs.Engine.{wider, anyWider, given, placeGiven, entirely, isRight, everyFrom, partRight, heldBy, firstUnheld}
+use Rattle.plan.specs.Engine.{wider, anyWider, given, placeGiven, entirely, isRight, Before, everyFrom, partRight, heldBy, firstUnheld}
 
 -- ---- a value that no resource of a segment has
 pub wider-is : (v f : ℕ) → f ≡ v / 8 → (eqb f 11 || leb 128 v) ≡ wider v
@@ -66,6 +69,20 @@ module _ (o : ℕ → ℕ) (a b c p j : ℕ) (h : least (λ i. not (placeGiven o
   unfolding entirely
   entire-all e = rw (least-end (λ i. not (placeGiven o a b c p i)) j (span c) e h) (sym (eq-eqb j (span c) e))
 
+-- all places of the resource were asked for at the position before
+pub entire-before : (o row : ℕ → ℕ) (a b p c before : ℕ) → c < 36 → c ≡ before → span c * (p / span c) < p → Before before o row a b p
+    → true ≡ entirely o a b c p
+unfolding entirely isRight
+entire-before o row a b p c before h e l w =
+    ⊎-elim
+    (λ (m : a < p).
+    let was = w .at-later m in
+    let right = and-right (fitting (o (p - 1)) (p - 1) (row (p - 1))) _ (was .1) in
+    sym (ap (λ (k : ℕ). entirely o a b k (p - 1)) (e ∙ was .0) ∙ right)
+    ∙ ap (λ (k : ℕ). eqb (least (λ j. not (not (takes c j) || given o a b c (span c * k + j))) (span c)) (span c)) (span-before c p h l))
+    (λ (m : p ≤ a). absurd (omega (arith, w .at-first m)))
+    (below-or a p)
+
 -- ---- whether a position is right
 module _ (o row : ℕ → ℕ) (a b p c v : ℕ) (e : c ≡ o p) (f : v ≡ row p) where
   pub right-not : fitting c p v ≡ false → false ≡ isRight o row a b p
@@ -75,6 +92,14 @@ module _ (o row : ℕ → ℕ) (a b p c v : ℕ) (e : c ≡ o p) (f : v ≡ row 
   pub right-rest : fitting c p v ≡ true → entirely o a b c p ≡ isRight o row a b p
   unfolding isRight
   right-rest g = let h : fitting (o p) p (row p) ≡ true = rw (← e, ← f) g in ap (λ (x : ℕ). entirely o a b x p) e ∙ rw h
+
+pub before-first : (o row : ℕ → ℕ) (a b : ℕ) → Before none o row a b (a + 0)
+before-first o row a b = record { at-first = λ l. refl; at-later = λ l. absurd (omega arith) }
+
+pub before-next : (o row : ℕ → ℕ) (a b j : ℕ) → isRight o row a b (a + j) ≡ true → Before (o (a + j)) o row a b (a + (j + 1))
+before-next o row a b j f =
+    let e : a + (j + 1) - 1 ≡ a + j = omega arith in
+    record { at-first = λ l. absurd (omega arith); at-later = λ l. (ap o (sym e), rw e f) }
 
 -- ---- what the tests say of a part rests on what its own positions are given to
 module _ (o o′ : ℕ → ℕ) (a b : ℕ) (same : (q : ℕ) → a ≤ q → q < b → o q ≡ o′ q) where

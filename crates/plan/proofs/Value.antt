@@ -24,7 +24,7 @@ use Rattle.segments.specs.Engine.{Entered}
 use Rattle.segments.proofs.Entries.{entered-filled}
 use Rattle.spans.specs.Engine.{partPlan}
 use Rattle.plan.specs.Answers.{segments, Laid}
-use Rattle.plan.specs.Engine.{onlyPlan, overAt, firstUnheld, firstOver, planOutcome, sharedTo, kindsOf, planOf}
+use Rattle.plan.specs.Engine.{onlyPlan, GivenTo, overAt, firstUnheld, firstOver, planOutcome, sharedTo, kindsOf, planOf}
 use Rattle.kinds.proofs.Tests.{equal-or}
 use Rattle.plan.proofs.Only.{only-known}
 use Rattle.plan.proofs.Laid.{none-over, outcome-laid}
@@ -35,6 +35,10 @@ unfolding kindsOf
 kind-held row kinds p h e =
     let f : getD kinds p 0 ≡ onlyPlan (at row) p = rw e (getD-filled (onlyPlan (at row)) (length row) (replicate 16 0) p 0 h) in
     (rw f (only-known (at row) p), f)
+
+pub kinds-given : (row kinds : List ℕ) → kinds ≡ kindsOf row → GivenTo kinds row 16 0
+unfolding onlyPlan
+kinds-given row kinds e = record { given-to = λ q l u. kind-held row kinds q (omega arith) e .1 }
 
 pub over-at : (row : List ℕ) (p kind t : ℕ) → kind ≡ onlyPlan (at row) p → t ≡ together kind (at row) p → overAt row p ≡ ltb 8 t
 over-at row p kind t e f = rw (f, e)

@@ -1,16 +1,17 @@
 -- Engine: the only plan that can signal a row, sought "in the whole width, then in each half, down to one segment" (02, T-07), its tests, and
 -- the plan as a value that the code makes. The contracts of the code cite it; nobody has to believe it: `Worked.antt` says what it is, and
 -- `proofs/Worked.antt` shows it.
-use mathlib.Core.Bool.{Bool, cond, not, _||_, _&&_}
+use mathlib.Core.Path.{_≡_}
+use mathlib.Core.Bool.{Bool, true, cond, not, _||_, _&&_}
 use mathlib.Core.List.{List}
-use Prim.Native.Nat.{ℕ, zero, suc, _+_, _-_, _*_, _/_, _%_, _^_}
+use Prim.Native.Nat.{ℕ, zero, suc, _+_, _-_, _*_, _/_, _%_, _^_, _≤_, _<_}
 use lib.Dec.{ltb, leb, eqb}
 use lib.ListN.{length, replicate}
 use Rattle.answer.specs.Answer.{no, refuseIf, _or_}
 use Rattle.answer.specs.Least.{least}
 use Rattle.answer.specs.declared.Outcome.{Outcome}
 use Rattle.answer.specs.Lists.{filled, at}
-use Rattle.kinds.specs.Kinds.{span, takes}
+use Rattle.kinds.specs.Kinds.{none, span, takes}
 use Rattle.kinds.specs.Fields.{together, shared, fieldsTo}
 use Rattle.segments.specs.Engine.{fitting}
 use Rattle.spans.specs.Engine.{partPlan}
@@ -46,9 +47,18 @@ entirely o a b c p = eqb (least (λ j. not (placeGiven o a b c p j)) (span c)) (
 unfoldable pub isRight : (ℕ → ℕ) → (ℕ → ℕ) → ℕ → ℕ → ℕ → Bool
 isRight o row a b p = fitting (o p) p (row p) && entirely o a b (o p) p
 
+-- what the code knows at position p of the one before, if that is one of them too: to what it is given, c, and that it is right
+pub record Before (c : ℕ) (o row : ℕ → ℕ) (a b p : ℕ) : Type 0 where
+  pub at-first : p ≤ a → c ≡ none
+  pub at-later : a < p → (c ≡ o (p - 1)) × (isRight o row a b (p - 1) ≡ true)
+
 -- none of the positions from a up to b fails the test
 unfoldable pub everyFrom : (ℕ → Bool) → ℕ → ℕ → Bool
 everyFrom fails a b = eqb (least (λ j. fails (a + j)) (b - a)) (b - a)
+
+-- the positions of the k-th part of n are given to what the search says
+pub record GivenTo (kinds row : List ℕ) (n k : ℕ) : Type 0 where
+  pub given-to : (q : ℕ) → n * k ≤ q → q < partEnd row n k → at kinds q ≡ partPlan n (at row) q
 
 -- the k-th part of n positions is right everywhere
 unfoldable pub partRight : List ℕ → ℕ → ℕ → Bool

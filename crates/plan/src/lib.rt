@@ -13,7 +13,8 @@ ghost use Rattle.resource.specs.Values.{fieldsOf};
 ghost use Rattle.kinds.specs.Fields.{together, fieldsTo};
 ghost use Rattle.segments.specs.Engine.{segmentKinds};
 ghost use Rattle.plan.specs.Answers.{Size, Laid};
-ghost use Rattle.plan.specs.Engine.{wider, anyWider, onlyPlan, given, placeGiven, entirely, isRight, partRight, heldBy, firstUnheld};
+ghost use Rattle.plan.specs.Engine.{wider, anyWider, onlyPlan, given, placeGiven, entirely, isRight, Before};
+ghost use Rattle.plan.specs.Engine.{GivenTo, partRight, heldBy, firstUnheld};
 ghost use Rattle.plan.specs.Engine.{firstOver, sharedTo, kindsOf, planOf};
 
 // The plan of a row.
@@ -51,6 +52,7 @@ fn has_wider(row: &[u16]) -> bool
     }
     false
 }
+
 // ---- whether a plan signals a part of the row: the positions from a up to e
 
 // Position q is one of them, and given to this kind.
@@ -95,16 +97,20 @@ fn is_entire(kinds: &[u16; 16], a: usize, e: usize, kind: u16, p: usize) -> bool
     true
 }
 
-// What position p is given to is right.
-fn is_right(kinds: &[u16; 16], row: &[u16], a: usize, e: usize, p: usize) -> bool
-    requires { ⌜ (e ≤ 16) × (p < 16) × (at (now kinds) p < 36) ⌝ }
+// What position p is given to is right. To `before` the position before is given, which is right: often it is the same resource, whose places
+// need not be asked for again. At the first position `before` is none.
+fn is_right(before: u16, kinds: &[u16; 16], row: &[u16], a: usize, e: usize, p: usize) -> bool
+    requires { ⌜ (e ≤ 16) × (p < 16) × (at (now kinds) p < 36) × Before before (at (now kinds)) (at (now row)) a e p ⌝ }
     ensures { λ r. ⌜ r ≡ isRight (at (now (kinds .entry))) (at (now (row .entry))) a e p ⌝ }
 {
     let kind = kinds[p];
-    if segments::fits(kind, p, kinds::value_at(row, p)) {
-        is_entire(kinds, a, e, kind, p)
+    if !segments::fits(kind, p, kinds::value_at(row, p)) {
+        return false;
+    }
+    if (kind == before) & (kinds::start_of(kind, p) < p) {
+        true
     } else {
-        false
+        is_entire(kinds, a, e, kind, p)
     }
 }
 
@@ -206,24 +212,34 @@ fn part_end(row: &[u16], a: usize, n: usize) -> usize
     if a + n < m { a + n } else { m }
 }
 
-// The k-th part of n positions has a plan.
-fn has_plan(row: &[u16], n: usize, k: usize) -> bool
-    requires { ⌜ (length (now row) ≤ 16) × Size n × (n * k < length (now row)) ⌝ }
+// What the positions of the k-th part of n are given to is right, all of it.
+fn part_right(kinds: &[u16; 16], row: &[u16], n: usize, k: usize) -> bool
+    requires { ⌜ (length (now row) ≤ 16) × Size n × (n * k < length (now row)) × GivenTo (now kinds) (now row) n k ⌝ }
     ensures { λ r. ⌜ r ≡ partRight (now (row .entry)) n k ⌝ }
 {
     let a = n * k;
     let e = part_end(row, a, n);
     let m = e - a;
-    let mut kinds = [0u16; 16];
-    spans::enter_span(&mut kinds, row, a, n);
+    let mut before: u16 = 36;
     let mut j: usize = 0;
     while j < m {
-        if !is_right(&kinds, row, a, e, a + j) {
+        if !is_right(before, kinds, row, a, e, a + j) {
             return false;
         }
+        before = kinds[a + j];
         j += 1;
     }
     true
+}
+
+// The k-th part of n positions has a plan.
+fn has_plan(row: &[u16], n: usize, k: usize) -> bool
+    requires { ⌜ (length (now row) ≤ 16) × Size n × (n * k < length (now row)) ⌝ }
+    ensures { λ r. ⌜ r ≡ partRight (now (row .entry)) n k ⌝ }
+{
+    let mut kinds = [0u16; 16];
+    spans::enter_span(&mut kinds, row, n * k, n);
+    part_right(&kinds, row, n, k)
 }
 
 // Segment s lies in a part with a plan.
@@ -240,13 +256,13 @@ fn is_held(row: &[u16], s: usize) -> bool
     has_plan(row, 4, s)
 }
 
-// The lowest segment that lies in none.
-fn first_unheld(row: &[u16]) -> usize
-    requires { ⌜ (length (now row) ≤ 16) × (0 < length (now row)) ⌝ }
+// The lowest segment that lies in none, from what each position of the whole row is given to.
+fn first_unheld(kinds: &[u16; 16], row: &[u16]) -> usize
+    requires { ⌜ (length (now row) ≤ 16) × (0 < length (now row)) × (now kinds ≡ kindsOf (now row)) ⌝ }
     ensures { λ r. ⌜ r ≡ firstUnheld (now (row .entry)) ⌝ }
 {
     let n = (row.len() + 3) / 4;
-    if has_plan(row, 16, 0) {
+    if part_right(kinds, row, 16, 0) {
         return n;
     }
     let mut s: usize = 0;
@@ -315,11 +331,12 @@ fn kinds_of(row: &[u16], wide: bool) -> [u16; 16]
 
 // The lowest segment that lies in no part with a plan.
 fn unheld_in(kinds: &[u16; 16], row: &[u16], wide: bool) -> usize
-    requires { ⌜ (length (now row) ≤ 16) × (wide ≡ anyWider (now row)) × (wide ≡ false → now kinds ≡ segmentKinds (now row)) ⌝ }
+    requires { ⌜ (length (now row) ≤ 16) × (wide ≡ anyWider (now row)) × (now kinds ≡ kindsOf (now row))
+        × (wide ≡ false → now kinds ≡ segmentKinds (now row)) ⌝ }
     ensures { λ r. ⌜ r ≡ firstUnheld (now (row .entry)) ⌝ }
 {
     if wide {
-        first_unheld(row)
+        first_unheld(kinds, row)
     } else {
         segment_wrong(kinds, row)
     }

@@ -1,6 +1,7 @@
 -- `plan::first_unheld` meets its contract.
 use native.Mathlib.Omega.{arith}
 use Rattle.plan.proofs.Steps.{whole-holds}
+use Rattle.plan.proofs.Value.{kinds-given}
 use Rattle.plan.specs.Engine.{heldBy, firstUnheld}
 use Rattle.answer.specs.Least.{least}
 use Rattle.answer.proofs.Least.{least-start, least-step, least-stop, least-end}
@@ -13,19 +14,19 @@ use Rattle.plan.proofs.first_unheld.Statement.{statement}
 use Rattle.plan.proofs.first_unheld.Tie as tie
 
 abbrev Inv-loop : tie.InvT-loop
-Inv-loop row n s₀ s = (s ≤ n) × (least (λ t. not (heldBy row t)) s ≡ s)
+Inv-loop kinds row n s₀ s = (s ≤ n) × (least (λ t. not (heldBy row t)) s ≡ s)
 
 abbrev μ-loop : tie.MeasureT-loop
-μ-loop row n s₀ s = n - s
+μ-loop kinds row n s₀ s = n - s
 
 add-n : tie.Need-add-n Inv-loop μ-loop
 add-n c = search needs
 
-has-plan-requires : tie.Need-has-plan-requires Inv-loop μ-loop
-has-plan-requires c κs = (omega arith, inr (inr refl), omega arith)
+part-right-requires : tie.Need-part-right-requires Inv-loop μ-loop
+part-right-requires c κs = (omega arith, inr (inr refl), omega arith, kinds-given _ _ (c .before .pre .2))
 
 returns : tie.Need-returns Inv-loop μ-loop
-returns c = whole-holds _ (omega arith) (sym (c .before .has-plan .ensures) ∙ c .if1 .taken)
+returns c = whole-holds _ (omega arith) (sym (c .before .part-right .ensures) ∙ c .if1 .taken)
 
 loop-holds : tie.Need-loop-holds Inv-loop μ-loop
 loop-holds c = (omega arith, least-start _)
@@ -58,7 +59,7 @@ first-unheld-spec =
     Inv-loop
     μ-loop
     add-n
-    has-plan-requires
+    part-right-requires
     returns
     loop-holds
     is-held-requires

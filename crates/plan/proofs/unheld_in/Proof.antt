@@ -7,10 +7,11 @@ use Rattle.plan.proofs.unheld_in.Statement.{statement}
 use Rattle.plan.proofs.unheld_in.Tie as tie
 
 first-unheld-requires : tie.Need-first-unheld-requires
-first-unheld-requires c κs = (omega arith, wider-some _ (sym (c .before .before .pre .1) ∙ c .if1 .taken))
+first-unheld-requires c κs =
+    let s = c .before .before in (omega arith, wider-some _ (sym (s .pre .1) ∙ c .if1 .taken), s .pre .2)
 
 segment-wrong-requires : tie.Need-segment-wrong-requires
-segment-wrong-requires c κs = (omega arith, c .before .before .pre .2 (c .if1 .left), sym (c .before .before .pre .1) ∙ c .if1 .left)
+segment-wrong-requires c κs = (omega arith, c .before .before .pre .3 (c .if1 .left), sym (c .before .before .pre .1) ∙ c .if1 .left)
 
 returns : tie.Need-returns
 returns c = search needs
