@@ -1,5 +1,5 @@
 -- How many fields a value gives: laws of `carried` and `fieldsOf`.
-use mathlib.Core.Path.{_≡_, refl}
+use mathlib.Core.Path.{_≡_}
 use mathlib.Core.Bool.{Bool, true, false}
 use mathlib.Core.Logic.{⊎-elim}
 use Prim.Native.Nat.{ℕ, _+_, _%_, _≤_, _<_}
@@ -34,10 +34,6 @@ carried-high v h =
 pub fields-high : (v : ℕ) → 304 ≤ v → fieldsOf v ≡ 0
 unfolding fieldsOf
 fields-high v h = rw (le-ltb v 64 (omega arith), carried-high v h)
-
-pub fields-63 : fieldsOf 63 ≡ 0
-unfolding fieldsOf pieces
-fields-63 = refl
 
 -- no value gives more than nine
 most-test : ℕ → Bool

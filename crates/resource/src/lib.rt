@@ -67,37 +67,38 @@ pub fn is_carried(v: u16) -> bool
     }
 }
 
-// A value below 72 that gives as many fields: of each family, from 64 up, that of the first, and 63 past the last. No branch is taken for
-// it: the rows of a capture would be guessed wrong.
-fn below_72(v: u16) -> u16
-    ensures { λ r. ⌜ (r < 72) × (fieldsOf r ≡ fieldsOf v) ⌝ }
+// Of a value past 127: those of the families, up to 303, give 1 to 8.
+fn high_fields(v: u16) -> u16
+    requires { ⌜ 128 ≤ v ⌝ }
+    ensures { λ r. ⌜ r ≡ fieldsOf v ⌝ }
 {
-    if v < 64 {
-        return v;
-    }
-    if v < 304 { 64 + v % 8 } else { 63 }
+    if v < 304 { v % 8 + 1 } else { 0 }
 }
 
-// One `match` of constants, so that it is one load from a fixed table: the reader asks it of every value. Neighbours stand in arms of
-// their own: in one arm they would be a test of a range, and no entry of the table.
+// Below 128 one `match` of constants, so that it is one load from a fixed table: the reader asks it of every value, and no row without a wider
+// one takes another way. Neighbours stand in arms of their own: in one arm they would be a test of a range, and no entry of the table.
 pub fn fields_of(v: u16) -> u16
     ensures { λ r. ⌜ r ≡ fieldsOf v ⌝ }
 {
-    match below_72(v) {
+    if 128 <= v {
+        return high_fields(v);
+    }
+    match v {
         0 => 9,
-        1 | 4 | 8 | 71 => 8,
+        1 | 4 | 8 | 71 | 79 | 87 | 95 | 103 | 111 | 119 | 127 => 8,
         2 => 8,
-        3 | 5 | 9 | 12 | 70 => 7,
+        3 | 5 | 9 | 12 | 70 | 78 | 86 | 94 | 102 | 110 | 118 | 126 => 7,
         6 | 10 => 7,
-        7 | 11 | 13 | 16 | 20 | 69 => 6,
+        7 | 11 | 13 | 16 | 20 | 69 | 77 | 85 | 93 | 101 | 109 | 117 | 125 => 6,
         14 => 6,
-        15 | 17 | 21 | 68 => 5,
+        15 | 17 | 21 | 68 | 76 | 84 | 92 | 100 | 108 | 116 | 124 => 5,
         18 | 22 => 5,
-        19 | 23 | 67 => 4,
+        19 | 23 | 67 | 75 | 83 | 91 | 99 | 107 | 115 | 123 => 4,
         24 => 4,
-        25 | 66 => 3,
-        48 | 50 | 65 => 2,
-        64 => 1,
+        25 => 3,
+        66 | 74 | 82 | 90 | 98 | 106 | 114 | 122 => 3,
+        48 | 50 | 65 | 73 | 81 | 89 | 97 | 105 | 113 | 121 => 2,
+        64 | 72 | 80 | 88 | 96 | 104 | 112 | 120 => 1,
         _ => 0,
     }
 }
