@@ -1,11 +1,11 @@
 // The kinds of resource that a position can be given to, as one table (01, "What a plan is"; 02, T-07), and the User fields of a
 // resource. A kind is its line in the table of specs/Kinds.antt: line 0 is the position itself, and 36 is none.
 ghost use mathlib.Core.Path.{_≡_};
+ghost use mathlib.Core.Bool.{cond};
+ghost use lib.Dec.{eqb};
 ghost use Prim.Native.Nat.{_+_, _*_, _/_, _%_, _≤_, _<_};
 ghost use Rattle.answer.specs.Lists.{at};
 ghost use Rattle.kinds.specs.Kinds.{family, span, mask, takes, blankAt};
-ghost use mathlib.Core.Bool.{cond};
-ghost use lib.Dec.{eqb};
 ghost use Rattle.kinds.specs.Engine.{placeShare};
 ghost use Rattle.kinds.specs.Fields.{fieldsIn, together};
 

@@ -3,7 +3,7 @@ use mathlib.Core.Path.{_≡_, refl, sym, ap, _∙_}
 use mathlib.Core.Logic.{_≢_, ⊎-elim}
 use mathlib.Core.Bool.{Bool, true, false, cond}
 use mathlib.Core.List.{List, [], _++_}
-use Prim.Native.Nat.{ℕ, _+_, _<_}
+use Prim.Native.Nat.{ℕ, _+_, _%_, _<_}
 use native.Mathlib.Omega.{arith}
 use borrow.Author.Tests.{eq-eqb, ne-eqb}
 use lib.Dec.{eqb}
@@ -13,16 +13,16 @@ use Rattle.answer.specs.declared.Outcome.the-variants.{Pass}
 use Rattle.text.proofs.Laws.{upto-cong}
 use Rattle.resource.specs.Values.{ownPieces}
 use Rattle.resource.specs.Engine.{pieceAt}
+use Rattle.kinds.specs.Kinds.{span}
 use Rattle.plan.specs.Engine.{onlyPlan}
 use Rattle.plan.proofs.Only.{only-known}
 use Rattle.kinds.proofs.Tests.{equal-or}
 use Rattle.records.specs.declared.Record.{Record}
-use Rattle.records.specs.Records.{pieceRecord, largerRecord, listAt, blank}
-use Rattle.records.specs.Engine.{listed}
-use Rattle.records.proofs.Listing.{list-at, own-length, own-record, once-lead}
+use Rattle.records.specs.Records.{lead, pieceRecord, largerRecord, listAt, blank}
+use Rattle.records.proofs.Listing.{list-at, own-length, own-record}
 use Rattle.resource_line.specs.ResourceLine.{ruLine}
 use Rattle.position_lines.specs.Engine.{runsLine}
-use Rattle.position_lines.proofs.Lines.{none-listed, one-listed}
+use Rattle.position_lines.proofs.Lines.{not-lowest, at-lowest}
 use Rattle.channel.specs.Layout.{row}
 use Rattle.channel.proofs.Laws.{row-length}
 use Rattle.halves.specs.Table.{outcome11}
@@ -54,22 +54,21 @@ module _ (s : ℕ) (r t : List ℕ) (p c d : ℕ) (h : c < 36) (i : d < 36) wher
 
   larger-lines : c ≢ 0 → linesBy line (listAt c (at r) p) ≡ onlyAt s r c p d (at t p)
   unfolding onlyAt onlyLarger
-  larger-lines n = rw (ne-eqb c 0 n) (⊎-elim none one (equal-or (listed c p (at r p)) 0))
+  larger-lines n = rw (ne-eqb c 0 n) (⊎-elim one none (equal-or (p % span c) (lead c)))
     where
-      none : listed c p (at r p) ≡ 0 → linesBy line (listAt c (at r) p) ≡ cond (eqb c d) [] (sidedLines s (length r) (listAt c (at r) p))
-      none e = rw (none-listed c (at r) p n e, no-sided s (length r)) (by-none line ∙ sym (either (eqb c d)))
+      none : p % span c ≢ lead c → linesBy line (listAt c (at r) p) ≡ cond (eqb c d) [] (sidedLines s (length r) (listAt c (at r) p))
+      none e = rw (not-lowest c (at r) p n (ne-eqb (p % span c) (lead c) e), no-sided s (length r)) (by-none line ∙ sym (either (eqb c d)))
         where
           either : (b : Bool) → _≡_ {A = List ℕ} (cond b [] []) []
           either true = refl
           either false = refl
 
-      one : listed c p (at r p) ≢ 0 → linesBy line (listAt c (at r) p) ≡ cond (eqb c d) [] (sidedLines s (length r) (listAt c (at r) p))
+      one : p % span c ≡ lead c → linesBy line (listAt c (at r) p) ≡ cond (eqb c d) [] (sidedLines s (length r) (listAt c (at r) p))
       one f =
-          let g = one-listed c (at r) p n f in
-          let lead = once-lead c (at r) p 0 (rw g (omega arith)) in
+          let g = at-lowest c (at r) p n f in
           rw (g, one-sided s (length r))
           (by-one line (largerRecord c (at r) p)
-          ∙ ap (λ (b : Bool). cond b [] (sideText s ++ runsLine (length r) (largerRecord c (at r) p))) (larger-there c (at r) (at t) p h n lead d i))
+          ∙ ap (λ (b : Bool). cond b [] (sideText s ++ runsLine (length r) (largerRecord c (at r) p))) (larger-there c (at r) (at t) p h n f d i))
 
   pub position-lines : linesBy line (listAt c (at r) p) ≡ onlyAt s r c p d (at t p)
   position-lines = ⊎-elim own-lines larger-lines (equal-or c 0)

@@ -17,9 +17,8 @@ use Rattle.kinds.specs.Kinds.{span}
 use Rattle.kinds.proofs.Tests.{equal-or}
 use Rattle.records.specs.declared.Record.{Record}
 use Rattle.records.specs.Records.{lead, pieceRecord, larger, largerRecord, listAt}
-use Rattle.records.specs.Engine.{listed}
 use Rattle.records.proofs.Listing.{recordAt, list-at, own-list, own-length, own-record, larger-record}
-use Rattle.position_lines.proofs.Lines.{one-listed}
+use Rattle.position_lines.proofs.Lines.{at-lowest}
 use Rattle.compared.specs.Reading.{sameResource, hasSame}
 use Rattle.only_in.specs.Engine.{pieceNumber, shapeIn}
 use Rattle.only_in.proofs.Sets.{Own, alike, piece-alike, hasNumber, in-set, none-set}
@@ -78,14 +77,10 @@ module _ (row row′ : ℕ → ℕ) (p : ℕ) (x : Piece) (h : Own x) where
 
 -- ---- the larger resource of kind c whose lowest position is p
 module _ (c : ℕ) (row row′ : ℕ → ℕ) (p : ℕ) (h : c < 36) (n : c ≢ 0) (e : p % span c ≡ lead c) where
-  some-listed : listed c p (row′ p) ≡ 0 → ⊥
-  unfolding listed
-  some-listed f = let g = rw (ne-eqb c 0 n, eq-eqb (p % span c) (lead c) e) at f in omega arith
-
   its-own : hasSame (largerRecord c row p) (listAt c row′ p) ≡ true
   unfolding hasSame
   its-own =
-      rw (one-listed c row′ p n some-listed)
+      rw (at-lowest c row′ p n e)
       (ap (λ (t : Bool). t || false)
       (in-segment (largerRecord c row p) (largerRecord c row′ p) refl ∙ larger-alike c (p % 4) h n (omega arith) c h n ∙ eq-eqb c c refl))
 

@@ -1,10 +1,9 @@
 -- The lines of a list of resources, and of the larger resource of a position.
 use mathlib.Core.Path.{_≡_, refl, ap, _∙_}
 use mathlib.Core.Logic.{_≢_}
-use mathlib.Core.Bool.{Bool, true, false, cond}
+use mathlib.Core.Bool.{false}
 use mathlib.Core.List.{List, [], _∷_, _++_}
 use Prim.Native.Nat.{ℕ, _+_, _%_}
-use native.Mathlib.Omega.{arith}
 use borrow.Author.Tests.{eq-eqb, ne-eqb}
 use lib.Dec.{eqb}
 use lib.ListN.{length, getD, length-append, List·getD-append}
@@ -14,7 +13,6 @@ use Rattle.text.proofs.Laws.{no-item, upto-cong, upto-append}
 use Rattle.kinds.specs.Kinds.{span}
 use Rattle.records.specs.declared.Record.{Record}
 use Rattle.records.specs.Records.{lead, largerRecord, listAt, blank}
-use Rattle.records.specs.Engine.{listed}
 use Rattle.position_lines.specs.Engine.{runsLine, runsLines}
 
 -- the lines of two lists of resources, one after the other
@@ -28,25 +26,8 @@ lines-append n xs ys =
     (ap (λ (t : List ℕ). upto (λ i. runsLine n (getD xs i blank)) (length xs) ++ t)
     (upto-cong (λ i. f (length xs + i)) (λ i. runsLine n (getD ys i blank)) (length ys) (λ i l. ap (runsLine n) (getD-append-add xs ys i blank)))))
 
--- ---- a larger resource has a line where it is listed
-listed-or : (t : Bool) (r : Record) → _≡_ {A = ℕ} (cond t 1 0) 0 → cond t (r ∷ []) [] ≡ []
-listed-or true r e = absurd (omega arith)
-listed-or false r e = refl
-
-listed-if : (t : Bool) (r : Record) → (_≡_ {A = ℕ} (cond t 1 0) 0 → ⊥) → cond t (r ∷ []) [] ≡ r ∷ []
-listed-if true r e = refl
-listed-if false r e = absurd (e refl)
-
+-- ---- a larger resource has a line at its lowest place alone
 module _ (c : ℕ) (row : ℕ → ℕ) (p : ℕ) (n : c ≢ 0) where
-  pub none-listed : listed c p (row p) ≡ 0 → listAt c row p ≡ []
-  unfolding listed listAt
-  none-listed e = rw (ne-eqb c 0 n) (listed-or (eqb (p % span c) (lead c)) (largerRecord c row p) (rw (ne-eqb c 0 n) at e))
-
-  pub one-listed : (listed c p (row p) ≡ 0 → ⊥) → listAt c row p ≡ largerRecord c row p ∷ []
-  unfolding listed listAt
-  one-listed e = rw (ne-eqb c 0 n) (listed-if (eqb (p % span c) (lead c)) (largerRecord c row p) (rw (ne-eqb c 0 n) at e))
-
-  -- as the code tells it
   pub not-lowest : eqb (p % span c) (lead c) ≡ false → listAt c row p ≡ []
   unfolding listAt
   not-lowest e = rw (ne-eqb c 0 n, e)

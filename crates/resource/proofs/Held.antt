@@ -9,8 +9,8 @@ use native.Mathlib.Omega.{arith}
 use native.Mathlib.Numerals.{add-one}
 use borrow.Author.Tests.{lt-leb}
 use lib.Dec.{T, leb, leb→le, eqb}
-use lib.ListN.{length, take, set, getD, replicate, length-append}
-use lib.Seq.{take-all}
+use lib.ListN.{length, take, set, getD, replicate, length-append, List·getD-append}
+use lib.Seq.{take-all, take-suc, getD-take}
 use Rattle.resource.specs.declared.Size.{Size}
 use Rattle.resource.specs.declared.Size.the-variants.{S26, S52, S106, S242, S484, S996, S2x996}
 use Rattle.resource.specs.declared.Pairing.{Pairing}
@@ -206,20 +206,14 @@ held-before a rs t e =
     rw (e, add-one (length rs), ← seven (rs ++ replicate 8 noRun) (omega (arith, length-append rs (replicate 8 noRun))))
 
 -- the runs of another after them, one by one
-next : (n k : ℕ) (ws ys : List Run) → k < length ws → k < n → take k ws ++ (getD (take n (ws ++ ys)) k noRun ∷ []) ≡ take (suc k) ws
-next n k [] ys h l = absurd (omega arith)
-next zero k (w ∷ ws) ys h l = absurd (omega arith)
-next (suc n) zero (w ∷ ws) ys h l = refl
-next (suc n) (suc k) (w ∷ ws) ys h l = ap (w ∷_) (next n k ws ys (omega arith) (omega arith))
-
 pub held-next : (rs ws : List Run) (u : Tones) (k : ℕ) → u ≡ held ws → k < u .count → u .count ≤ 8
     → (rs ++ take k ws) ++ (getD (u .runs) k noRun ∷ []) ≡ rs ++ take (k + 1) ws
 unfolding held
 held-next rs ws u k e h l =
-    let c : u .count ≡ length ws = rw e in
-    let f : (rs ++ take k ws) ++ (getD (held ws .runs) k noRun ∷ []) ≡ rs ++ take (suc k) ws =
-    append-assoc rs (take k ws) _ ∙ ap (rs ++_) (next 8 k ws (replicate 8 noRun) (omega (arith, c)) (omega arith)) in
-    rw (e, add-one k) f
+    let m : k < length ws = rw e at h in
+    let ys = replicate 8 noRun in
+    let x : getD (take 8 (ws ++ ys)) k noRun ≡ getD ws k noRun = getD-take 8 (ws ++ ys) k noRun (omega arith) ∙ List·getD-append ws ys noRun k m in
+    rw (e, x, add-one k, take-suc ws k noRun m) (append-assoc rs (take k ws) _)
 
 pub held-whole : (rs ws : List Run) (u : Tones) (k : ℕ) → u ≡ held ws → k ≡ u .count → rs ++ take k ws ≡ rs ++ ws
 unfolding held
