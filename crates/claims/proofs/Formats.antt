@@ -118,6 +118,18 @@ module _ (o row : ℕ → ℕ) (n : ℕ) (s : Signals o row 0 n) where
   as-owned i c j (of-place p k q w e h g f) =
       (p, k, w, place-shared i p k q (w .inside) (w .kth) (no-pieces-left (row p) e) h (lowest-only (o p) p q h g) f)
 
+-- a field that comes from a position is one of its channel's
+pub comes-below : (row : ℕ → ℕ) (n c j p k : ℕ) → ComesFrom row n c j p k → j < fieldsBefore c row n
+comes-below row n c j p k w =
+    omega (
+      arith,
+      w .kth,
+      w .follows,
+      in-own c p (fieldsOf (row p)) (w .channel),
+      before-next c row p,
+      before-rise c row (p + 1) n (omega (arith, w .inside)),
+    )
+
 -- ---- the words of a frame
 format : (x : Record) (f v : ℕ) (t : Bool) → leb 2 (fieldsOn x) ≡ t → v ≡ userWord t f → WordOn x f v
 format x f v t e g = record {
@@ -146,18 +158,7 @@ module _ (bw : ℕ) (a b : List ℕ) (l : bw ≤ 4) (o : ℕ → ℕ) (s : Signa
 
   -- an owned field is one of its channel's
   owned-below : (i c j : ℕ) → OwnsIn o r i c j → j < fieldsBefore c (at r) (length r)
-  owned-below i c j w =
-      let g = as-owned o (at r) (length r) s i c j w in
-      let p = g .0 in
-      let v = fieldsOf (at r p) in
-      omega (
-        arith,
-        g .2 .kth,
-        g .2 .follows,
-        in-own c p v (g .2 .channel),
-        before-next c (at r) p,
-        before-rise c (at r) (p + 1) (length r) (omega (arith, g .2 .inside)),
-      )
+  owned-below i c j w = let g = as-owned o (at r) (length r) s i c j w in comes-below (at r) (length r) c j (g .0) (g .1) (g .2)
 
   has-one : (c j : ℕ) → j < fieldsBefore c (at r) (length r) → OneOwner o r c j
   has-one c j h =

@@ -11,3 +11,7 @@ pub mod Holding
 pub mod Trigger
 pub mod Texts
 pub mod Compared
+pub mod Swept
+pub mod SweptOwners
+pub mod SweptRows
+pub mod Sweep

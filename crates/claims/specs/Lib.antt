@@ -8,3 +8,4 @@ pub mod Unassigned
 pub mod CutShort
 pub mod Trigger
 pub mod Compared
+pub mod Sweep
