@@ -50,6 +50,10 @@ void draw_part_of_wide_row(chance *c, unsigned positions, unsigned *row);
 #define WIDE_ROWS 376
 unsigned draw_wide_in_turn(chance *c, unsigned long k, unsigned *row);
 
+/* sweeps.c: each value that a position allows in turn (02, T-14), in rows of every bandwidth: how many positions it has. */
+#define SWEEPS 863
+unsigned swept_in_turn(unsigned long k, unsigned *row);
+
 /* frames.c: a pair of channels. */
 #define MOST_LENT 640
 

@@ -11,7 +11,7 @@ static const struct {
 } kind[] = {
     {'b', print_bit}, {'f', print_field}, {'l', print_lacks}, {'d', print_difference},
     {'p', print_put}, {'c', print_check}, {'k', print_block},
-    {'v', print_value}, {'m', print_wide}, {'r', print_row}, {'w', print_walk},
+    {'v', print_value}, {'m', print_wide}, {'x', print_swept}, {'r', print_row}, {'w', print_walk},
     {'R', print_read}, {'W', print_write}, {'L', print_list}, {'T', print_text}, {'s', print_cut},
 };
 

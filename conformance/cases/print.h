@@ -24,6 +24,7 @@ void print_pair(const frame *x, const frame *y, size_t room);
 void print_words(const words_case *w);
 void print_value(chance *c, unsigned long k);
 void print_wide(chance *c, unsigned long k);
+void print_swept(chance *c, unsigned long k);
 void print_row(chance *c, unsigned long k);
 void print_walk(chance *c, unsigned long k);
 void print_read(chance *c, unsigned long k);

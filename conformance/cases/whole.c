@@ -1,4 +1,4 @@
-/* Cases of rows, frames, words and texts: the letters v m r w R s W L T. */
+/* Cases of rows, frames, words and texts: the letters v m x r w R s W L T. */
 #include "print.h"
 
 #include "../reference/reference.h"
@@ -24,6 +24,14 @@ static void print_values(const unsigned *row, unsigned positions)
 void print_wide(chance *c, unsigned long k)
 {
     unsigned row[16], positions = draw_wide_in_turn(c, k, row);
+    print_values(row, positions);
+}
+
+/* A row with one position swept, each value in turn. */
+void print_swept(chance *c, unsigned long k)
+{
+    unsigned row[16], positions = swept_in_turn(k, row);
+    (void)c;
     print_values(row, positions);
 }
 

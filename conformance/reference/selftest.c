@@ -363,6 +363,84 @@ static int is_divided_so(const unsigned *row, unsigned positions, const known *c
     return l.outcome.number == 0 && larger == n;
 }
 
+/* 02 (T-14): "one value among 0 to 27, 48, 50 and 64 to 71 .. that its position allows". */
+static int is_swept(unsigned value, unsigned p)
+{
+    return value <= 27 || (value == 48 && p % 4 != 3) || (value == 50 && p % 4 != 2) || (value >= 64 && value <= 71);
+}
+
+/* "every resource at other positions keeps its subcarriers and its number of fields". */
+static int is_kept(const record *x, const record *y, unsigned positions)
+{
+    run of_x[MOST_RUNS], of_y[MOST_RUNS];
+    unsigned runs = tones_of(x, positions, of_x);
+    return x->size == y->size && x->index == y->index && x->segment == y->segment && x->position == y->position
+        && x->fields[0] == y->fields[0] && x->fields[1] == y->fields[1] && runs == tones_of(y, positions, of_y)
+        && memcmp(of_x, of_y, runs * sizeof of_x[0]) == 0;
+}
+
+/* Those of x that are not at p stand in y, in their order: past p as many further on as p has more of them there. */
+static int all_are_kept(const layout *x, const layout *y, unsigned p, unsigned positions, unsigned had, unsigned has)
+{
+    if (x->records - had != y->records - has)
+        return 0;
+    for (unsigned i = 0; i < x->records; i++)
+        if (x->record[i].position != p
+            && !is_kept(&x->record[i], &y->record[x->record[i].position < p ? i : i - had + has], positions))
+            return 0;
+    return 1;
+}
+
+/* The User fields of other positions go to the resources that they went to. */
+static int owners_are_kept(const layout *x, const layout *y, const unsigned *row, unsigned p, unsigned value, unsigned positions,
+                           unsigned had, unsigned has)
+{
+    for (unsigned channel = 0; channel < 2; channel++) {
+        unsigned j = 0, k = 0;
+        for (unsigned q = channel; q < positions; q += 2) {
+            for (unsigned n = q == p ? 0 : fields_of(row[q]); n > 0; n--, j++, k++) {
+                unsigned i = x->owner[channel][j];
+                if (y->owner[channel][k] != (x->record[i].position < p ? i : i - had + has))
+                    return 0;
+            }
+            j += q == p ? fields_of(row[p]) : 0;
+            k += q == p ? fields_of(value) : 0;
+        }
+    }
+    return 1;
+}
+
+static unsigned at_position(const layout *l, unsigned p)
+{
+    unsigned n = 0;
+    for (unsigned i = 0; i < l->records; i++)
+        n += l->record[i].position == p;
+    return n;
+}
+
+static unsigned swept, kept;
+
+/* "replace one value": that of each position whose value is one of these, by each that the position allows. */
+static void sweep(const unsigned *row, unsigned positions)
+{
+    static layout before, after;
+    lay_out(row, positions, &before);
+    for (unsigned p = 0; p < positions; p++)
+        for (unsigned value = 0; value < 512; value++) {
+            unsigned there[MOST_POSITIONS], had, has;
+            if (!is_swept(row[p], p) || !is_swept(value, p))
+                continue;
+            memcpy(there, row, sizeof there);
+            there[p] = value;
+            lay_out(there, positions, &after);
+            had = at_position(&before, p);
+            has = at_position(&after, p);
+            swept++;
+            kept += after.outcome.number == 0 && all_are_kept(&before, &after, p, positions, had, has)
+                && owners_are_kept(&before, &after, row, p, value, positions, had, has);
+        }
+}
+
 static unsigned divisions, found_again;
 
 /* Every way of dividing the positions from p on, those that are taken aside. */
@@ -376,6 +454,8 @@ static void divide(unsigned positions, unsigned p, unsigned taken, const known *
             unsigned row[MOST_POSITIONS];
             divided_row(chosen, n, positions, variant, row);
             right = right && is_divided_so(row, positions, chosen, n) && lie_apart(row, positions);
+            if (positions < 16 || divisions % 61 == 0)
+                sweep(row, positions);
         }
         divisions++;
         found_again += (unsigned)right;
@@ -402,6 +482,23 @@ static void every_division(void)
         expect(divisions == how_many[bandwidth], "the ways of dividing a channel into resources");
         expect(found_again == divisions, "each way of dividing a channel is found again, its resources apart");
     }
+    expect(swept > 10000 && kept == swept, "another value at one position leaves the resources of the others as they were");
+}
+
+/* "Nothing is claimed of 28, which may belong to a 484+242." */
+static void not_28(void)
+{
+    unsigned sevens = 0, row[4] = {64, 28, 96, 29};
+    static layout l;
+    lay_out(row, 4, &l);
+    expect(l.outcome.number == 0 && l.records == 2 && l.record[1].places == 0xE, "a 28 that belongs to a 484+242");
+    for (unsigned value = 0; value < 512; value++)
+        if (is_swept(value, 1)) {
+            row[1] = value;
+            lay_out(row, 4, &l);
+            sevens += l.outcome.number == 7 && l.outcome.place == 0;
+        }
+    expect(sevens == 38, "without it the row gets 7");
 }
 
 /* 02, T-07, by hand. */
@@ -1462,6 +1559,7 @@ int self_test(void)
     indices();
     carried_values();
     every_division();
+    not_28();
     wide_rows();
     example();
     worked_listing();
