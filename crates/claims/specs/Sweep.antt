@@ -2,8 +2,9 @@
 -- of these that its position allows. The row stays accepted, and every resource at other positions keeps its subcarriers and its number of
 -- fields. Nothing is claimed of 28, which may belong to a 484+242."
 --
--- A plan is `kinds`' `Signals`, whatever resources it has: nothing here says how wide one is. Its resources are `records`' `recordsOf`; that a row is
--- accepted is `SomePlanOfEight`, and of channels that carry it `CarryRow`; calls of `reader::read` are `Calls.antt`'s: all that its contract allows.
+-- A plan is `kinds`' `Signals`, whatever resources it has: nothing here says how wide one is. Its resources are `records`' `recordsOf`, and whose a
+-- User field is says `Owns`. That a row is accepted is `SomePlanOfEight`; of channels that carry it, `Rows.antt`: `CarryRow`. Calls of `reader::read`
+-- are `Calls.antt`'s: all that its contract allows.
 use mathlib.Core.Path.{_≡_}
 use mathlib.Core.Logic.{_≢_}
 use mathlib.Core.Bool.{Bool, true, cond, _||_}
@@ -67,7 +68,7 @@ pub record Keeps (row row′ : List ℕ) (p : ℕ) (o o′ : ℕ → ℕ) : Type
   -- .. and "its subcarriers"
   pub same-tones : map (tonesIn (length row)) (elsewhere p (recordsOf o row)) ≡ map (tonesIn (length row′)) (elsewhere p (recordsOf o′ row′))
 
--- ---- the User fields of other positions
+-- ---- the User fields of other positions: of the rows, and so of all channels that carry them (`Carries`)
 -- field j of channel c of the one row and field j′ of the other are the k-th of one position q, which is not p
 pub record SameField (row row′ : List ℕ) (p c j j′ q k : ℕ) : Type 0 where
   pub other : q ≢ p
