@@ -22,6 +22,7 @@ use Rattle.records.proofs.Owners.{owner-owns}
 use Rattle.records.specs.Demand.{resourceIn}
 use Rattle.records.proofs.Listing.{same-records}
 use Rattle.records.proofs.Worked.{same-owner}
+use Rattle.listed.specs.Listing.{recordLine}
 use Rattle.claims.specs.Calls.{Call, Reads}
 use Rattle.claims.specs.Formats.{fieldsOn, WordOn, OwnsIn, UserWords}
 use Rattle.claims.specs.Sweep.{Sweeps, PlanOf, elsewhere, tonesIn, Keeps, SameField, FieldShifted, SameOwner, Carries, bitsIn, wordIn, Swept, Sweep}
@@ -131,6 +132,7 @@ module _ (row : List ℕ) (p v : ℕ) (w : Sweeps row p v) where
         record {
           same-resource = e;
           same-tones = ap (tonesIn (length row)) e ∙ ap (λ (n : ℕ). tonesIn n (resourceIn (recordsOf o′ row′) i′)) (sym same-length);
+          same-line = ap (recordLine (length row)) e ∙ ap (λ (n : ℕ). recordLine n (resourceIn (recordsOf o′ row′) i′)) (sym same-length);
           at-another = one .another;
           shifted = rw there at (one .moved);
         }

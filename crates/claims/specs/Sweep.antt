@@ -26,6 +26,7 @@ use Rattle.records.specs.declared.Record.{Record}
 use Rattle.records.specs.Records.{inChannel, recordsOf}
 use Rattle.records.specs.Owns.{ComesFrom}
 use Rattle.records.specs.Demand.{resourceIn}
+use Rattle.listed.specs.Listing.{recordLine}
 use Rattle.claims.specs.Calls.{Call, Reads}
 use Rattle.claims.specs.Formats.{OwnsIn}
 use Rattle.claims.specs.Rows.{CarryRow}
@@ -92,6 +93,9 @@ OwnerShifted row p v = Shifted p (length (ownPieces (at row p))) (length (ownPie
 pub record SameOwner (row row′ : List ℕ) (p v : ℕ) (o o′ : ℕ → ℕ) (i i′ : ℕ) : Type 0 where
   pub same-resource : resourceIn (recordsOf o row) i ≡ resourceIn (recordsOf o′ row′) i′
   pub same-tones : tonesIn (length row) (resourceIn (recordsOf o row) i) ≡ tonesIn (length row′) (resourceIn (recordsOf o′ row′) i′)
+  -- so its line in a listing is the same too
+  pub same-line : recordLine (length row) (resourceIn (recordsOf o row) i) ≡ recordLine (length row′) (resourceIn (recordsOf o′ row′) i′)
+  -- it lies at another position, and its number moves as it must
   pub at-another : resourceIn (recordsOf o row) i .position ≢ p
   pub shifted : OwnerShifted row p v (resourceIn (recordsOf o row) i .position) i i′
 
