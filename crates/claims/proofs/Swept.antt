@@ -31,43 +31,63 @@ pub record Own (v : ℕ) : Type 0 where
   pub low : v / 8 ≤ 8
   pub no-blank : (v ≤ 27) ⊎ (31 ≤ v)
 
-in-242 : (v : ℕ) → T (between 64 71 v) → (64 ≤ v) × (v ≤ 71)
-in-242 v t = (leb→le 64 v (both-left (leb 64 v) (leb v 71) t), leb→le v 71 (both-right (leb 64 v) (leb v 71) t))
+small-own : (v : ℕ) → v ≤ 27 → Own v
+small-own v l = record { low = omega arith; no-blank = inl l }
+
+large-own : (v : ℕ) → 31 ≤ v → v ≤ 71 → Own v
+large-own v l u = record { low = omega arith; no-blank = inr l }
+
+between-is : (a b v : ℕ) → T (between a b v) → (a ≤ v) × (v ≤ b)
+between-is a b v t = (leb→le a v (both-left (leb a v) (leb v b) t), leb→le v b (both-right (leb a v) (leb v b) t))
+
+-- values up to a, the two values b and c, and those from d to e
+ranges-own : (v a b c d e : ℕ) → T (leb v a || eqb v b || eqb v c || between d e v) → (a ≤ 27) × (31 ≤ b) × (b ≤ 71) × (31 ≤ c) × (c ≤ 71) × (31 ≤ d) × (e ≤ 71)
+    → Own v
+ranges-own v a b c d e t h = from-d (either (leb v a || eqb v b || eqb v c) (between d e v) t)
+  where
+    up-to-a : T (leb v a) ⊎ T (eqb v b) → Own v
+    up-to-a (inl t) = let l = leb→le v a t in small-own v (omega (arith, h .0))
+    up-to-a (inr t) = let f = eqb→eq v b t in large-own v (omega (arith, h .1)) (omega (arith, h .2))
+
+    one-c : T (leb v a || eqb v b) ⊎ T (eqb v c) → Own v
+    one-c (inl t) = up-to-a (either (leb v a) (eqb v b) t)
+    one-c (inr t) = let f = eqb→eq v c t in large-own v (omega (arith, h .3)) (omega (arith, h .4))
+
+    from-d : T (leb v a || eqb v b || eqb v c) ⊎ T (between d e v) → Own v
+    from-d (inl t) = one-c (either (leb v a || eqb v b) (eqb v c) t)
+    from-d (inr t) = let w = between-is d e v t in large-own v (omega (arith, h .5, w .0)) (omega (arith, h .6, w .1))
 
 pub swept-own : (v : ℕ) → swept v ≡ true → Own v
-swept-own v e = last (either (leb v 27 || eqb v 48 || eqb v 50) (between 64 71 v) (holds _ e))
+swept-own v e =
+    ranges-own v _ _ _ _ _ (holds _ e) (omega arith, omega arith, omega arith, omega arith, omega arith, omega arith, omega arith)
+
+-- what may stand at place j of a segment in smaller pieces, and the values from d to e
+place-own : (j v d e : ℕ) → T (smallerAt j v || between d e v) → (31 ≤ d) × (e ≤ 71) → Own v
+place-own j v d e t h = ⊎-elim (λ t. pieces (smaller-view j v (is-true (smallerAt j v) t))) whole (either (smallerAt j v) (between d e v) t)
   where
-    first : T (leb v 27) ⊎ T (eqb v 48) → Own v
-    first (inl t) = let l = leb→le v 27 t in record { low = omega arith; no-blank = inl l }
-    first (inr t) = let f = eqb→eq v 48 t in record { low = omega arith; no-blank = inr (omega arith) }
+    pieces : (v ≤ 27) ⊎ ((v ≡ 48) ⊎ (v ≡ 50)) → Own v
+    pieces (inl l) = small-own v l
+    pieces (inr (inl f)) = large-own v (omega arith) (omega arith)
+    pieces (inr (inr f)) = large-own v (omega arith) (omega arith)
 
-    next : T (leb v 27 || eqb v 48) ⊎ T (eqb v 50) → Own v
-    next (inl t) = first (either (leb v 27) (eqb v 48) t)
-    next (inr t) = let f = eqb→eq v 50 t in record { low = omega arith; no-blank = inr (omega arith) }
+    whole : T (between d e v) → Own v
+    whole t = let w = between-is d e v t in large-own v (omega (arith, h .0, w .0)) (omega (arith, h .1, w .1))
 
-    last : T (leb v 27 || eqb v 48 || eqb v 50) ⊎ T (between 64 71 v) → Own v
-    last (inl t) = next (either (leb v 27 || eqb v 48) (eqb v 50) t)
-    last (inr t) = let w = in-242 v t in record { low = omega (arith, w .0, w .1); no-blank = inr (omega (arith, w .0)) }
+place-fits : (p j v d e : ℕ) → T (smallerAt j v || between d e v) → j ≡ p % 4 → (64 ≤ d) × (e ≤ 71) → Fits 0 p v
+place-fits p j v d e t f h = ⊎-elim pieces whole (either (smallerAt j v) (between d e v) t)
+  where
+    pieces : T (smallerAt j v) → Fits 0 p v
+    pieces t = smaller (refl, rw (← f) (is-true (smallerAt j v) t))
+
+    whole : T (between d e v) → Fits 0 p v
+    whole t = let w = between-is d e v t in itself-holds p v .1 (inr (inr (inr (omega (arith, h .0, w .0), omega (arith, h .1, w .1)))))
 
 -- a value that a position allows is one of them, and the position may hold it when it is given to itself
-pub allowed-fits : (p v : ℕ) → sweptAt p v ≡ true → Fits 0 p v
-allowed-fits p v e = go (either (smallerAt (p % 4) v) (between 64 71 v) (holds _ e))
-  where
-    go : T (smallerAt (p % 4) v) ⊎ T (between 64 71 v) → Fits 0 p v
-    go (inl t) = smaller (refl, is-true (smallerAt (p % 4) v) t)
-    go (inr t) = itself-holds p v .1 (inr (inr (inr (in-242 v t))))
-
 pub allowed-own : (p v : ℕ) → sweptAt p v ≡ true → Own v
-allowed-own p v e = go (either (smallerAt (p % 4) v) (between 64 71 v) (holds _ e))
-  where
-    view : (v ≤ 27) ⊎ ((v ≡ 48) ⊎ (v ≡ 50)) → Own v
-    view (inl l) = record { low = omega arith; no-blank = inl l }
-    view (inr (inl f)) = record { low = omega arith; no-blank = inr (omega arith) }
-    view (inr (inr f)) = record { low = omega arith; no-blank = inr (omega arith) }
+allowed-own p v e = place-own _ v _ _ (holds _ e) (omega arith, omega arith)
 
-    go : T (smallerAt (p % 4) v) ⊎ T (between 64 71 v) → Own v
-    go (inl t) = view (smaller-view (p % 4) v (is-true (smallerAt (p % 4) v) t))
-    go (inr t) = let w = in-242 v t in record { low = omega (arith, w .0, w .1); no-blank = inr (omega (arith, w .0)) }
+pub allowed-fits : (p v : ℕ) → sweptAt p v ≡ true → Fits 0 p v
+allowed-fits p v e = place-fits p _ v _ _ (holds _ e) refl (omega arith, omega arith)
 
 -- only the position itself has such a family
 low-family : (c v : ℕ) → c < 36 → Own v → v / 8 ≡ family c → c ≡ 0
