@@ -1,15 +1,14 @@
 -- 01's (P) bench checks hold.
 use mathlib.Core.Path.{_≡_, refl, sym, _∙_, ap, subst}
 use mathlib.Core.Logic.{inl, inr, ⊎-elim}
-use mathlib.Core.Bool.{Bool, true, false, not, _&&_}
+use mathlib.Core.Bool.{Bool, true, false, not}
 use mathlib.Core.List.{List, [], _∷_, _++_, map}
-use Prim.Native.Nat.{ℕ, _+_, _*_, _/_, _≤_, _<_}
+use Prim.Native.Nat.{ℕ, _*_, _/_, _≤_, _<_}
 use native.Mathlib.Omega.{arith}
-use lib.Dec.{T, ltb, leb, eqb, leb→le, ltb→lt, eqb→eq}
+use lib.Dec.{T, ltb, leb, leb→le, ltb→lt}
 use lib.ListN.{length, replicate}
 use borrow.Author.Tests.{lt-ltb, le-ltb, leb-false}
-use Rattle.answer.proofs.Least.{least-holds}
-use Rattle.resource.proofs.Test.{both-left, both-right, wherever, met, below, every-below}
+use Rattle.resource.proofs.Test.{below}
 use Rattle.answer.specs.Answer.{no, refuseIf, _or_}
 use Rattle.answer.specs.Least.{least}
 use Rattle.answer.specs.declared.Answer.{Answer}
@@ -24,11 +23,8 @@ use Rattle.kinds.specs.Kinds.{kinds, kindAt, family, span, mask, takes, takesBl
 use Rattle.answer.specs.Lists.{at}
 use Rattle.kinds.specs.Signals.{Fits, Signals}
 use Rattle.kinds.specs.Fields.{gives, share, fieldsIn, together}
-use Rattle.kinds.proofs.Tests.{holds, is-true, not-both}
-use Rattle.kinds.proofs.Table.{span-some}
-use Rattle.kinds.proofs.Places.{at-span, at-place}
-use Rattle.kinds.proofs.Fitting.{known}
-use Rattle.segments.proofs.Found.{fitting-fits, fits-fitting}
+use Rattle.kinds.proofs.Tests.{not-both}
+use Rattle.segments.proofs.Found.{fits-fitting}
 use Rattle.kinds.specs.Engine.{sought, kindOf, nameOf as kindNamed, tellTale, wholeOr, sided, settled}
 use Rattle.segments.specs.Engine.{orElse, tells, choose, segmentPlan, fitting}
 use Rattle.spans.specs.Engine.{named, search, spansIn, partPlan}
@@ -36,13 +32,12 @@ use Rattle.plan.specs.Answers.{segments, SomePlan, Size, partEnd, PartPlan, Hel
 use Rattle.plan.specs.Engine.{onlyPlan, given, entirely, isRight, everyFrom, partRight, heldBy, firstUnheld, firstOver, planOutcome}
 use Rattle.plan.proofs.Steps.{whole-holds}
 use Rattle.plan.proofs.Only.{part-only}
-use Rattle.plan.proofs.Found.{entirely-all}
 use Rattle.plan.proofs.Parts.{held-by}
 use Rattle.plan.proofs.Laid.{outcome-laid, laid-is}
 use Rattle.plan.proofs.Demand.{accepted-plan, plan-accepted, only-plan, one-plan, plan-parts}
 use Rattle.records.specs.Records.{lead, resourceColumn, larger, listAt, recordsOf}
 use Rattle.records.proofs.Listing.{same-records}
-use Rattle.bench_checks.proofs.ByList.{named-there, signals-at, signals, atMost, list-signals}
+use Rattle.bench_checks.proofs.ByList.{signals, atMost, list-signals, list-of-eight}
 use Rattle.bench_checks.specs.Bench.{shown, Check, gets-7, gets-8, gets-0, has-check, Holds, All, bench, wide160, wide320}
 
 -- ---- from the answer that is worked out to what it means
@@ -83,7 +78,7 @@ zero row rs e f = (
 zero-by : (row : List ℕ) (rs : List (List ℕ)) (ks : List ℕ) → T (signals row ks (length row)) → T (below (atMost row ks) (length row))
     → map shown (recordsOf (at ks) row) ≡ rs → Holds (gets-0 row rs)
 zero-by row rs ks t e f = (
-  (at ks, list-signals row ks (length row) t, λ p l u. leb→le _ _ (every-below (atMost row ks) (length row) e p u)),
+  list-of-eight row ks (length row) t e,
   λ o w. ap (map shown) (same-records o (at ks) (at row) (length row) (λ p u. one-plan row o (at ks) w (list-signals row ks (length row) t) p u)) ∙ f,
 )
 

@@ -1,10 +1,8 @@
 -- A plan that is given as a list, of the kind that each position is given to, and the test that it signals a row.
-use mathlib.Core.Path.{_≡_}
 use mathlib.Core.Bool.{Bool, _&&_}
 use mathlib.Core.List.{List}
 use Prim.Native.Nat.{ℕ, _+_, _*_, _/_, _<_}
-use lib.Dec.{T, ltb, leb, eqb, ltb→lt, eqb→eq}
-use lib.ListN.{length}
+use lib.Dec.{T, ltb, leb, eqb, ltb→lt, leb→le, eqb→eq}
 use Rattle.answer.specs.Least.{least}
 use Rattle.answer.specs.Lists.{at}
 use Rattle.answer.proofs.Least.{least-holds}
@@ -18,6 +16,7 @@ use Rattle.kinds.proofs.Places.{at-span, at-place}
 use Rattle.kinds.proofs.Fitting.{known}
 use Rattle.segments.specs.Engine.{fitting}
 use Rattle.segments.proofs.Found.{fitting-fits}
+use Rattle.plan.specs.Answers.{SomePlanOfEight}
 use Rattle.plan.specs.Engine.{entirely}
 use Rattle.plan.proofs.Found.{entirely-all}
 
@@ -69,3 +68,6 @@ module _ (row ks : List ℕ) (b : ℕ) (t : T (signals row ks b)) where
           eqb→eq _ _ (both-right (takes c j) _ h),
         );
   }
+
+  pub list-of-eight : T (below (atMost row ks) b) → SomePlanOfEight row 0 b
+  list-of-eight e = (at ks, list-signals, λ p l u. leb→le (together (at ks p) (at row) p) 8 (every-below (atMost row ks) b e p u))

@@ -32,7 +32,7 @@ use Rattle.records.specs.Owns.{fieldsBefore, ComesFrom, number, Owns, of-piece,
 use Rattle.records.specs.Engine.{lowest, ownerOf}
 use Rattle.records.proofs.Listing.{recordAt, Located, located-record, own-record, larger-record}
 use Rattle.records.proofs.Lead.{lowest-only, itself-place}
-use Rattle.records.proofs.Owners.{before-next, before-rise, in-own, one-owner, owner-owns}
+use Rattle.records.proofs.Owners.{comes-below, one-owner, owner-owns}
 use Rattle.records.proofs.Gives.{low-share, share-fields}
 use Rattle.records.proofs.Spans.{own-fieldsIn}
 use Rattle.records.proofs.Homes.{home-piece, home-whole}
@@ -117,18 +117,6 @@ module _ (o row : ℕ → ℕ) (n : ℕ) (s : Signals o row 0 n) where
       (p, k, w, piece-alone i p k (w .inside) (w .kth) e (some-pieces (row p) k l) f)
   as-owned i c j (of-place p k q w e h g f) =
       (p, k, w, place-shared i p k q (w .inside) (w .kth) (no-pieces-left (row p) e) h (lowest-only (o p) p q h g) f)
-
--- a field that comes from a position is one of its channel's
-pub comes-below : (row : ℕ → ℕ) (n c j p k : ℕ) → ComesFrom row n c j p k → j < fieldsBefore c row n
-comes-below row n c j p k w =
-    omega (
-      arith,
-      w .kth,
-      w .follows,
-      in-own c p (fieldsOf (row p)) (w .channel),
-      before-next c row p,
-      before-rise c row (p + 1) n (omega (arith, w .inside)),
-    )
 
 -- ---- the words of a frame
 format : (x : Record) (f v : ℕ) (t : Bool) → leb 2 (fieldsOn x) ≡ t → v ≡ userWord t f → WordOn x f v

@@ -4,7 +4,7 @@ use mathlib.Core.Bool.{Bool, true, false, cond, _&&_, _||_}
 use mathlib.Core.List.{List, [], _∷_}
 use Prim.Native.Nat.{ℕ, suc, _+_, _-_, _*_, _/_, _%_, _^_, _≤_, _<_}
 use native.Mathlib.Omega.{arith}
-use lib.Dec.{T, leb, leb→le, eqb, eqb→eq}
+use lib.Dec.{T, leb, eqb, eqb→eq}
 use lib.ListN.{length, getD}
 use Rattle.answer.specs.Least.{least}
 use Rattle.answer.specs.Lists.{at, build}
@@ -19,7 +19,7 @@ use Rattle.kinds.specs.Fields.{gives, share, fieldsIn}
 use Rattle.segments.specs.Engine.{fitting}
 use Rattle.plan.specs.Engine.{given, entirely}
 use Rattle.plan.proofs.Demand.{one-plan}
-use Rattle.bench_checks.proofs.ByList.{signals, atMost, list-signals}
+use Rattle.bench_checks.proofs.ByList.{signals, atMost, list-signals, list-of-eight}
 use Rattle.records.specs.declared.Record.{Record}
 use Rattle.records.specs.Records.{lead, resourceColumn, larger, listAt, recordsOf, blank}
 use Rattle.records.proofs.Listing.{same-records}
@@ -95,12 +95,13 @@ held-by-some bw h v t =
     let rs = recordsOf (at ks) row in
     let u = met (taken bw v) _ (every-below (held-test bw) 94 (every-below (λ bw. below (held-test bw) 94) 3 all-held bw (omega arith)) v
     (named-low v (taken-named bw v t))) t in
-    let s = list-signals row ks (length row) (both-left (signals row ks (length row)) _ u) in
+    let e = both-left (signals row ks (length row)) _ u in
+    let s = list-signals row ks (length row) e in
     let r = both-right (signals row ks (length row)) _ u in
     let w = has-at (resourceOf v) rs (both-right (below (atMost row ks) (length row)) (has (resourceOf v) rs) r) in
     record {
       row = row;
       as-many = length-build (valueAt v) (2 ^ bw);
-      plan = (at ks, s, λ p l m. leb→le _ _ (every-below (atMost row ks) (length row) (both-left (below (atMost row ks) (length row)) _ r) p m));
+      plan = list-of-eight row ks (length row) e (both-left (below (atMost row ks) (length row)) _ r);
       held = λ o z. rw (same-records o (at ks) (at row) (length row) (λ p l. one-plan row o (at ks) z s p l)) w;
     }

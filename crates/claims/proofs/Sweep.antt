@@ -18,7 +18,7 @@ use Rattle.records.specs.declared.Record.{Record}
 use Rattle.records.specs.Records.{recordsFrom, recordsOf}
 use Rattle.records.specs.Owns.{ComesFrom}
 use Rattle.records.specs.Engine.{ownerOf}
-use Rattle.records.proofs.Owners.{owner-owns}
+use Rattle.records.proofs.Owners.{comes-below, owner-owns}
 use Rattle.records.specs.Demand.{resourceIn}
 use Rattle.records.proofs.Listing.{same-records}
 use Rattle.records.proofs.Worked.{same-owner}
@@ -27,7 +27,6 @@ use Rattle.claims.specs.Calls.{Call, Reads}
 use Rattle.claims.specs.Formats.{fieldsOn, WordOn, OwnsIn, UserWords}
 use Rattle.claims.specs.Sweep.{Sweeps, PlanOf, elsewhere, tonesIn, Keeps, SameField, FieldShifted, SameOwner, Carries, bitsIn, wordIn, Swept, Sweep}
 use Rattle.claims.proofs.Answers.{all-channels}
-use Rattle.claims.proofs.Formats.{comes-below}
 use Rattle.claims.proofs.Second.{second-demand}
 use Rattle.claims.proofs.Swept as Kept
 use Rattle.claims.proofs.Swept.{Own, swept-own, allowed-own, allowed-fits}

@@ -1,25 +1,23 @@
 -- Two rows that differ at one position, which either plan gives to itself: the User fields of other positions, their numbers and their owners.
 use mathlib.Core.Path.{_≡_, refl, sym, ap, _∙_}
 use mathlib.Core.Logic.{_≢_, ⊎-elim}
-use mathlib.Core.Bool.{Bool, true, false, cond}
+use mathlib.Core.Bool.{Bool, true, false}
 use mathlib.Core.List.{List}
 use Prim.Native.Nat.{ℕ, zero, suc, _+_, _≤_, _<_}
 use native.Mathlib.Omega.{arith}
 use native.Mathlib.Nat.{eq-or-lt-of-le, le-of-suc-le-suc}
-use lib.Dec.{eqb}
 use lib.ListN.{length, getD, length-append}
 use Rattle.resource.specs.Values.{fieldsOf, divides, ownPieces}
-use Rattle.resource.specs.Engine.{pieceAt}
 use Rattle.kinds.specs.Signals.{Signals}
 use Rattle.kinds.specs.Fields.{fieldsTo}
 use Rattle.records.specs.declared.Record.{Record}
-use Rattle.records.specs.Records.{inChannel, pieceRecord, largerRecord, listAt, recordsFrom, blank}
+use Rattle.records.specs.Records.{inChannel, listAt, recordsFrom, blank}
 use Rattle.records.specs.Owns.{ComesFrom, number, Owns}
-use Rattle.records.specs.Engine.{lowest, ownerAt}
+use Rattle.records.specs.Engine.{lowest}
 use Rattle.records.proofs.Lead.{itself-lowest}
-use Rattle.records.proofs.Listing.{recordAt, Located, located-record, own-length, nth-record}
-use Rattle.records.proofs.Owners.{owner-only, search-comes}
-use Rattle.records.proofs.Homes.{home-piece, home-entire, home-whole}
+use Rattle.records.proofs.Listing.{Located, located-record, record-position, own-length, nth-record}
+use Rattle.records.proofs.Owners.{owner-only}
+use Rattle.records.proofs.Homes.{home, nth, home-entire, owner-home}
 use Rattle.claims.proofs.Swept.{Own, list-kept}
 use Rattle.claims.specs.Sweep.{Shifted}
 
@@ -45,37 +43,12 @@ module _ (count count′ each each′ : ℕ → ℕ) (p : ℕ) (start : count′
 pub comes-too : (row row′ : ℕ → ℕ) (n n′ c j q k : ℕ) → n ≡ n′ → row′ q ≡ row q → ComesFrom row n c j q k → ComesFrom row′ n′ c (fieldsTo c row′ q + k) q k
 comes-too row row′ n n′ c j q k e f w = record { inside = omega (arith, e, w .inside); channel = w .channel; kth = rw f (w .kth); follows = refl }
 
--- ---- where the owner of the k-th field of position q is listed: there, if the position's value divides it (t), or at its resource's lowest position
-abbrev home : (ℕ → ℕ) → ℕ → Bool → ℕ
-home o q t = cond t q (lowest (o q) q)
-
-abbrev nth : ℕ → Bool → ℕ
-nth k t = cond t k 0
-
-module _ (o row : ℕ → ℕ) (n : ℕ) (s : Signals o row 0 n) where
-  owner-home : (i c j q k : ℕ) → ComesFrom row n c j q k → Owns o row n i c j → Located o row n i (home o q (divides (row q))) (nth k (divides (row q)))
-  unfolding ownerAt
-  owner-home i c j q k w y = go (divides (row q)) refl (owner-only o row n i c j y ∙ search-comes o row n c j q k w)
-    where
-      go : (t : Bool) → divides (row q) ≡ t → i ≡ cond t (number o row q k) (number o row (lowest (o q) q) 0)
-          → Located o row n i (home o q t) (nth k t)
-      go true e f = rw f (home-piece o row n s q k (w .inside) (w .kth) e)
-      go false e f = rw f (home-whole o row n s q (w .inside) (omega (arith, w .kth)) e)
-
-  -- it is no piece of another position that is given to itself
-  home-other : (t : Bool) (q p : ℕ) → q < n → o p ≡ 0 → q ≢ p → home o q t ≢ p
-  home-other true q p l e d f = d f
-  home-other false q p l e d f =
-      let g : o q ≡ 0 = sym (home-entire o row n s q l .1) ∙ ap o f ∙ e in
-      d (sym (ap (λ (c : ℕ). lowest c q) g ∙ itself-lowest q) ∙ f)
-
-record-position : (c : ℕ) (row : ℕ → ℕ) (p k : ℕ) → recordAt c row p k .position ≡ p
-unfolding recordAt
-record-position c row p k = go (eqb c 0)
-  where
-    go : (t : Bool) → cond t (pieceRecord row p (pieceAt (row p) k)) (largerRecord c row p) .position ≡ p
-    go true = refl
-    go false = refl
+-- the owner of a field is listed at no other position that is given to itself
+home-other : (o row : ℕ → ℕ) (n : ℕ) → Signals o row 0 n → (t : Bool) (q p : ℕ) → q < n → o p ≡ 0 → q ≢ p → home o q t ≢ p
+home-other o row n s true q p l e d f = d f
+home-other o row n s false q p l e d f =
+    let g : o q ≡ 0 = sym (home-entire o row n s q l .1) ∙ ap o f ∙ e in
+    d (sym (ap (λ (c : ℕ). lowest c q) g ∙ itself-lowest q) ∙ f)
 
 -- ---- the two rows
 module _ (row row′ : ℕ → ℕ) (p : ℕ) (other : (q : ℕ) → q ≢ p → row′ q ≡ row q) (old : Own (row p)) (new : Own (row′ p)) where
@@ -121,5 +94,5 @@ module _ (row row′ : ℕ → ℕ) (p : ℕ) (other : (q : ℕ) → q ≢ p →
     one-resource c j j′ q k i i′ d w w′ y y′ =
         let t = divides (row q) in
         listed-one i i′ (home o q t) (nth k t) (home-other o row n s t q p (w .inside) e d)
-        (owner-home o row n s i c j q k w y)
-        (rw (← other q d) (owner-home o row′ n s′ i′ c j′ q k w′ y′))
+        (rw (owner-only o row n i c j y) (owner-home o row n s c j q k w))
+        (rw (owner-only o row′ n i′ c j′ y′, ← other q d) (owner-home o row′ n s′ c j′ q k w′))

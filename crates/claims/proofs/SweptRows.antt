@@ -5,14 +5,12 @@ use mathlib.Core.Bool.{true}
 use mathlib.Core.List.{List, [], _∷_}
 use Prim.Native.Nat.{ℕ, zero, suc, _/_, _<_}
 use native.Mathlib.Omega.{arith}
-use lib.Dec.{T, leb→le}
 use lib.ListN.{length, set}
 use Rattle.answer.specs.Answer.{no}
 use Rattle.answer.specs.Least.{least}
 use Rattle.answer.specs.Lists.{at}
 use Rattle.answer.specs.declared.Outcome.the-variants.{Refuse}
 use Rattle.resource.specs.Values.{carried, pieces, fieldsOf, smallerAt}
-use Rattle.resource.proofs.Test.{below, every-below}
 use Rattle.kinds.specs.Kinds.{kinds, kindAt, family, span, mask, takes, takesBlock, blankAt, mustName}
 use Rattle.kinds.specs.Signals.{Place, Signals}
 use Rattle.kinds.specs.Fields.{gives, share, fieldsIn}
@@ -21,23 +19,20 @@ use Rattle.kinds.proofs.Fitting.{known, high-own}
 use Rattle.segments.specs.Engine.{fitting}
 use Rattle.plan.specs.Answers.{SomePlan, SomePlanOfEight, PartPlan, Held, Laid, no-plan}
 use Rattle.plan.specs.Engine.{given, entirely}
-use Rattle.bench_checks.proofs.ByList.{signals, atMost, list-signals}
+use Rattle.bench_checks.proofs.ByList.{list-of-eight}
 use Rattle.claims.specs.Calls.{Call, Reads}
 use Rattle.claims.specs.Sweep.{swept, sweptAt, Sweeps, Carries, with28, besideWide, Not28}
 use Rattle.claims.proofs.Answers.{all-channels}
 use Rattle.claims.proofs.Swept.{allowed-own, own-itself}
 
 -- ---- plans, as lists
-by-list : (row ks : List ℕ) → T (signals row ks (length row)) → T (below (atMost row ks) (length row)) → SomePlanOfEight row 0 (length row)
-by-list row ks t e = (at ks, list-signals row ks (length row) t, λ p l u. leb→le _ _ (every-below (atMost row ks) (length row) e p u))
-
 accepted-28 : SomePlanOfEight with28 0 (length with28)
 unfolding fitting entirely given least mustName blankAt takesBlock takes mask span family kindAt kinds smallerAt fieldsIn share gives fieldsOf pieces carried
-accepted-28 = by-list with28 (0 ∷ 3 ∷ 3 ∷ 3 ∷ []) tt tt
+accepted-28 = list-of-eight with28 (0 ∷ 3 ∷ 3 ∷ 3 ∷ []) 4 tt tt
 
 accepted-wide : SomePlanOfEight besideWide 0 (length besideWide)
 unfolding fitting entirely given least mustName blankAt takesBlock takes mask span family kindAt kinds smallerAt fieldsIn share gives fieldsOf pieces carried
-accepted-wide = by-list besideWide (0 ∷ 0 ∷ 8 ∷ 8 ∷ 8 ∷ 8 ∷ 8 ∷ 8 ∷ []) tt tt
+accepted-wide = list-of-eight besideWide (0 ∷ 0 ∷ 8 ∷ 8 ∷ 8 ∷ 8 ∷ 8 ∷ 8 ∷ []) 8 tt tt
 
 -- ---- 28
 family-3 : family 3 ≡ 12

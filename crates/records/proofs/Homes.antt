@@ -1,7 +1,7 @@
 -- Where the owner of a field is listed, in every plan that signals the row.
 use mathlib.Core.Path.{_≡_, refl, _∙_, ap}
 use mathlib.Core.Logic.{⊎-elim}
-use mathlib.Core.Bool.{true, false}
+use mathlib.Core.Bool.{Bool, true, false, cond}
 use Prim.Native.Nat.{ℕ, _/_, _≤_, _<_}
 use native.Mathlib.Omega.{arith}
 use lib.ListN.{length}
@@ -14,12 +14,20 @@ use Rattle.resource.specs.Values.{fieldsOf, divides}
 use Rattle.resource.proofs.Test.{below-or}
 use Rattle.resource.proofs.Starts.{own-whole}
 use Rattle.records.specs.Records.{listAt, recordsFrom}
-use Rattle.records.specs.Owns.{number}
-use Rattle.records.specs.Engine.{lowest}
+use Rattle.records.specs.Owns.{ComesFrom, number}
+use Rattle.records.specs.Engine.{lowest, ownerAt, ownerOf}
 use Rattle.records.proofs.Lead.{lowest-place, itself-lowest}
 use Rattle.records.proofs.Listing.{Located, records-rise, own-length, larger-one}
-use Rattle.records.proofs.Owners.{divided-itself}
+use Rattle.records.proofs.Owners.{search-comes, divided-itself}
 use Rattle.records.proofs.Gives.{whole-low, divided-own}
+
+-- The owner of the k-th field of position p is listed there as the k-th, if the position's value divides it (t), or else at the lowest position of
+-- its resource.
+abbrev pub home : (ℕ → ℕ) → ℕ → Bool → ℕ
+home o p t = cond t p (lowest (o p) p)
+
+abbrev pub nth : ℕ → Bool → ℕ
+nth k t = cond t k 0
 
 -- what is listed at a position is one of the plan's resources
 pub located-below : (o row : ℕ → ℕ) (n i p m : ℕ) → Located o row n i p m → i < length (recordsFrom o row n)
@@ -62,3 +70,12 @@ module _ (o row : ℕ → ℕ) (n : ℕ) (s : Signals o row 0 n) where
           ⊎-elim alone
           (λ y. omega (arith, larger-one (o p) row (lowest (o p) p) y (lowest-place (o p) p (kind p h) .1)))
           (equal-or (o p) 0)
+
+  pub owner-home : (c j p k : ℕ) → ComesFrom row n c j p k → Located o row n (ownerOf o row c n j) (home o p (divides (row p))) (nth k (divides (row p)))
+  unfolding ownerAt
+  owner-home c j p k w = go (divides (row p)) refl (search-comes o row n c j p k w)
+    where
+      go : (t : Bool) → divides (row p) ≡ t → ownerOf o row c n j ≡ cond t (number o row p k) (number o row (lowest (o p) p) 0)
+          → Located o row n (ownerOf o row c n j) (home o p t) (nth k t)
+      go true e f = rw f (home-piece p k (w .inside) (w .kth) e)
+      go false e f = rw f (home-whole p (w .inside) (omega (arith, w .kth)) e)

@@ -46,6 +46,14 @@ module _ (c : ℕ) (row : ℕ → ℕ) (p : ℕ) where
   unfolding recordAt
   larger-record k e = rw (ne-eqb c 0 e)
 
+  pub record-position : (k : ℕ) → recordAt c row p k .position ≡ p
+  unfolding recordAt
+  record-position k = go (eqb c 0)
+    where
+      go : (t : Bool) → cond t (pieceRecord row p (pieceAt (row p) k)) (largerRecord c row p) .position ≡ p
+      go true = refl
+      go false = refl
+
   pub own-length : c ≡ 0 → length (listAt c row p) ≡ length (ownPieces (row p))
   own-length e = ap length (own-list e) ∙ length-map (ownPieces (row p)) (pieceRecord row p)
 

@@ -100,6 +100,18 @@ comes row zero c j h = absurd (omega arith)
 comes row (suc n) c j h =
     ⊎-elim (λ l. earlier row n c j (comes row n c j l)) (λ l. latest row n c j l h) (below-or j (fieldsBefore c row n))
 
+-- such a field is one of its channel's
+pub comes-below : (row : ℕ → ℕ) (n c j p k : ℕ) → ComesFrom row n c j p k → j < fieldsBefore c row n
+comes-below row n c j p k w =
+    omega (
+      arith,
+      w .kth,
+      w .follows,
+      in-own c p (fieldsOf (row p)) (w .channel),
+      before-next c row p,
+      before-rise c row (p + 1) n (omega (arith, w .inside)),
+    )
+
 -- and the program's search goes by it
 pub search-comes : (o row : ℕ → ℕ) (n c j p k : ℕ) → ComesFrom row n c j p k → ownerOf o row c n j ≡ ownerAt o row p k
 search-comes o row n c j p k w =

@@ -13,15 +13,14 @@ use lib.ListN.{length, getD}
 use Rattle.answer.specs.Tally.{tally}
 use Rattle.kinds.specs.Signals.{Signals}
 use Rattle.kinds.proofs.Tests.{Tested}
-use Rattle.resource.specs.Values.{divides}
 use Rattle.records.specs.declared.Record.{Record}
 use Rattle.records.specs.Records.{recordsFrom, blank as noRecord}
-use Rattle.records.specs.Owns.{fieldsBefore, ComesFrom, number, Owns, Counts, none, one-more, no-more, Channel, shareOf, allShares}
-use Rattle.records.specs.Engine.{lowest, ownerAt, ownerOf}
+use Rattle.records.specs.Owns.{fieldsBefore, Owns, Counts, none, one-more, no-more, Channel, shareOf, allShares}
+use Rattle.records.specs.Engine.{ownerOf}
 use Rattle.records.proofs.Sums.{sumTo, sum-cong, all-placed, sum-first}
 use Rattle.records.proofs.Listing.{located}
-use Rattle.records.proofs.Owners.{owner-only, owner-owns, search-comes, comes}
-use Rattle.records.proofs.Homes.{home-piece, home-whole, located-below}
+use Rattle.records.proofs.Owners.{owner-only, owner-owns, comes}
+use Rattle.records.proofs.Homes.{located-below, owner-home}
 use Rattle.records.proofs.Owned.{owned-at}
 
 -- ---- counting: as many as pass a test that decides
@@ -56,17 +55,9 @@ module _ (o row : ℕ → ℕ) (n : ℕ) (s : Signals o row 0 n) where
 
   -- the owner of a field is one of the plan's resources
   pub owner-listed : (c j : ℕ) → j < fieldsBefore c row n → ownerOf o row c n j < length (recordsFrom o row n)
-  unfolding ownerAt
-  owner-listed c j h = go (comes row n c j h)
-    where
-      go : (p : ℕ) × (k : ℕ) × ComesFrom row n c j p k → ownerOf o row c n j < length (recordsFrom o row n)
-      go (p, k, w) = by (divides (row p)) refl
-        where
-          by : (t : Bool) → divides (row p) ≡ t → ownerOf o row c n j < length (recordsFrom o row n)
-          by true e = rw (search-comes o row n c j p k w, e) (located-below o row n (number o row p k) p k (home-piece o row n s p k (w .inside) (w .kth) e))
-          by false e =
-              rw (search-comes o row n c j p k w, e)
-              (located-below o row n (number o row (lowest (o p) p) 0) (lowest (o p) p) 0 (home-whole o row n s p (w .inside) (omega (arith, w .kth)) e))
+  owner-listed c j h =
+      let w = comes row n c j h in
+      located-below o row n (ownerOf o row c n j) _ _ (owner-home o row n s c j (w .0) (w .1) (w .2))
 
   -- and the shares are all the fields: a made-up count fails
   pub shares-all : (c : ℕ) → Channel c → allShares c (recordsFrom o row n) ≡ fieldsBefore c row n
