@@ -2,6 +2,8 @@
  * position allows". */
 #include "cases.h"
 
+#include "../reference/reference.h"
+
 /* Rows of each bandwidth that a plan signals, and which position is swept. */
 static const struct {
     unsigned positions, swept, row[16];
@@ -38,17 +40,12 @@ static const struct {
     {16, 15, {80, 83, 30, 30, 0, 28, 96, 97, 64, 64, 72, 29, 29, 120, 122, 71}},
 };
 
-static int is_allowed(unsigned value, unsigned p)
-{
-    return value <= 27 || (value == 48 && p % 4 != 3) || (value == 50 && p % 4 != 2) || (value >= 64 && value <= 71);
-}
-
 unsigned swept_in_turn(unsigned long k, unsigned *row)
 {
     k %= SWEEPS;
     for (unsigned n = 0;; n++)
         for (unsigned value = 0; value <= 71; value++) {
-            if (!is_allowed(value, sweep_rows[n].swept) || k-- != 0)
+            if (!value_is_swept(value, sweep_rows[n].swept) || k-- != 0)
                 continue;
             for (unsigned p = 0; p < sweep_rows[n].positions; p++)
                 row[p] = p == sweep_rows[n].swept ? value : sweep_rows[n].row[p];

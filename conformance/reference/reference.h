@@ -45,6 +45,7 @@ typedef struct {
 } piece;
 
 int value_is_carried(unsigned value);
+int value_is_swept(unsigned value, unsigned p); /* at position p */
 unsigned pieces_of(unsigned value, piece pieces[9]);
 unsigned fields_of(unsigned value);
 

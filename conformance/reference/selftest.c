@@ -363,12 +363,6 @@ static int is_divided_so(const unsigned *row, unsigned positions, const known *c
     return l.outcome.number == 0 && larger == n;
 }
 
-/* 02 (T-14): "one value among 0 to 27, 48, 50 and 64 to 71 .. that its position allows". */
-static int is_swept(unsigned value, unsigned p)
-{
-    return value <= 27 || (value == 48 && p % 4 != 3) || (value == 50 && p % 4 != 2) || (value >= 64 && value <= 71);
-}
-
 /* "every resource at other positions keeps its subcarriers and its number of fields". */
 static int is_kept(const record *x, const record *y, unsigned positions)
 {
@@ -428,7 +422,7 @@ static void sweep(const unsigned *row, unsigned positions)
     for (unsigned p = 0; p < positions; p++)
         for (unsigned value = 0; value < 512; value++) {
             unsigned there[MOST_POSITIONS], had, has;
-            if (!is_swept(row[p], p) || !is_swept(value, p))
+            if (!value_is_swept(row[p], p) || !value_is_swept(value, p))
                 continue;
             memcpy(there, row, sizeof there);
             there[p] = value;
@@ -493,7 +487,7 @@ static void not_28(void)
     lay_out(row, 4, &l);
     expect(l.outcome.number == 0 && l.records == 2 && l.record[1].places == 0xE, "a 28 that belongs to a 484+242");
     for (unsigned value = 0; value < 512; value++)
-        if (is_swept(value, 1)) {
+        if (value_is_swept(value, 1)) {
             row[1] = value;
             lay_out(row, 4, &l);
             sevens += l.outcome.number == 7 && l.outcome.place == 0;

@@ -16,6 +16,13 @@ int value_is_carried(unsigned value)
         || (value >= 96 && value <= 127) || (value >= 128 && value <= 303);
 }
 
+/* 02 (T-14): "one value among 0 to 27, 48, 50 and 64 to 71 .. that its position allows"; 01: "48 isn't allowed in a fourth
+ * position nor 50 in a third". */
+int value_is_swept(unsigned value, unsigned p)
+{
+    return value <= 27 || (value == 48 && p % 4 != 3) || (value == 50 && p % 4 != 2) || (value >= 64 && value <= 71);
+}
+
 static unsigned add(piece *pieces, unsigned n, size_name size, unsigned place)
 {
     pieces[n].size = size;
