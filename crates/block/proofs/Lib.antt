@@ -3,3 +3,4 @@ pub mod Mirror
 pub mod Bytes
 pub mod Word
 pub mod Checks
+pub mod Remainder
