@@ -14,12 +14,9 @@ use Rattle.plan.specs.Answers.{SomePlanOfEight}
 use Rattle.records.specs.declared.Record.{Record}
 use Rattle.records.specs.Records.{recordsOf, blank}
 use Rattle.records.specs.Owns.{Owns}
+use Rattle.records.specs.FieldsOf.{fieldsOn}
 use Rattle.channel.specs.Layout.{row, count, userAt}
 use Rattle.words.specs.Words.{userWord}
-
--- a resource's fields "over both channels together"
-abbrev pub fieldsOn : Record → ℕ
-fieldsOn x = x .fields1 + x .fields2
 
 -- v is the word of a User field of 22 bits f on the resource x
 pub record WordOn (x : Record) (f v : ℕ) : Type 0 where

@@ -3,11 +3,11 @@ use mathlib.Core.Path.{_≡_, refl, sym, _∙_}
 use mathlib.Core.Logic.{⊎-elim, _≢_}
 use mathlib.Core.Bool.{Bool, true, false, cond, _&&_, _||_}
 use mathlib.Core.List.{[], _∷_}
-use Prim.Native.Nat.{ℕ, _/_, _%_, _≤_, _<_}
+use Prim.Native.Nat.{ℕ, zero, suc, _/_, _%_, _≤_, _<_}
 use native.Mathlib.Omega.{arith}
 use borrow.Author.Tests.{lt-ltb, eq-eqb, ne-eqb}
 use lib.Dec.{eqb}
-use lib.ListN.{length}
+use lib.ListN.{length, getD}
 use Rattle.kinds.specs.Kinds.{family, span, takes}
 use Rattle.kinds.specs.Signals.{Takes, Fits}
 use Rattle.kinds.specs.Fields.{gives, share}
@@ -16,6 +16,7 @@ use Rattle.kinds.proofs.Fitting.{high-own}
 use Rattle.resource.specs.declared.Size.the-variants.{S242}
 use Rattle.resource.specs.declared.Piece.the-variants.{Part}
 use Rattle.resource.specs.Values.{between, pieces, fieldsOf, divides, ownPieces}
+use Rattle.resource.specs.Engine.{noPiece, pieceAt}
 use Rattle.resource.proofs.Test.{below-or}
 use Rattle.resource.proofs.Starts.{own-fields}
 use Rattle.resource.proofs.Pieces.{none-left, divided-not, divided-low}
@@ -63,6 +64,16 @@ whole-one v e = go (eqb v 28 || between 64 71 v)
     go : (t : Bool) → length (cond t (Part S242 1 ∷ []) (pieces v)) ≤ 1
     go true = omega arith
     go false = omega (arith, none-left v e)
+
+-- a position that is not divided is listed whole
+pub whole-piece : (v m : ℕ) → divides v ≡ false → m < length (ownPieces v) → pieceAt v m ≡ Part S242 1
+unfolding ownPieces
+whole-piece v m e h = go (eqb v 28 || between 64 71 v) m h
+  where
+    go : (t : Bool) (m : ℕ) → m < length (cond t (Part S242 1 ∷ []) (pieces v)) → getD (cond t (Part S242 1 ∷ []) (pieces v)) m noPiece ≡ Part S242 1
+    go true zero l = refl
+    go true (suc m) l = absurd (omega arith)
+    go false m l = absurd (omega (arith, none-left v e))
 
 pub divided-own : (v : ℕ) → divides v ≡ true → length (ownPieces v) ≡ fieldsOf v
 unfolding divides pieces

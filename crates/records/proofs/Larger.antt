@@ -2,10 +2,11 @@
 -- only file of proofs that goes by the table's lines.
 use mathlib.Core.Path.{_≡_, refl, sym, _∙_, ap, ap₂}
 use mathlib.Core.Logic.{_≢_, _⊎_, inl, inr, ⊎-elim}
-use mathlib.Core.Bool.{Bool, cond, not, _&&_}
+use mathlib.Core.Bool.{Bool, true, false, cond, not, _&&_}
+use mathlib.Core.List.{[], _∷_}
 use Prim.Native.Nat.{ℕ, zero, suc, _+_, _-_, _*_, _/_, _%_, _^_, _≤_, _<_}
 use native.Mathlib.Omega.{arith}
-use borrow.Author.Tests.{leb-true, le-leb, lt-leb, ltb-true, ne-eqb}
+use borrow.Author.Tests.{leb-true, le-leb, lt-leb, ltb-true, eq-eqb, ne-eqb}
 use lib.Dec.{T, eqb, eqb→eq, leb, ltb, le→leb, lt→ltb}
 use lib.ListN.{length}
 use Rattle.resource.specs.declared.Size.the-variants.{S242, S484, S996, S2x996}
@@ -17,18 +18,18 @@ use Rattle.resource.specs.declared.Resource.the-variants.{Single, Joined}
 use Rattle.resource.specs.Names.{joinedOf, nameOf, numberOf}
 use Rattle.resource.specs.Values.{set-at}
 use Rattle.resource.specs.Places.{segmentsOf, placesOf as joinedPlaces}
-use Rattle.resource.specs.Index.{indexOf, isPiece, joinedCount, fromPositions, exists, resourceAt}
-use Rattle.resource.specs.Engine.{placesRuns, spreadRuns, joinedRuns, runsOf}
+use Rattle.resource.specs.Index.{indexOf, isPiece, joinedCount, fromPositions, exists, resourceAt, positionOf, placeOf}
+use Rattle.resource.specs.Engine.{the242, wide, placesRuns, spreadRuns, joinedRuns, runsOf}
 use Rattle.resource.proofs.Test.{below-or, both-left, both-right, wherever, met, below, every-below}
-use Rattle.resource.proofs.Places.{places-inside, Placed, spread-inside, spread-length}
+use Rattle.resource.proofs.Places.{places-inside, Placed, spread-inside, spread-length, own-place, places-cover, spread-cover}
 use Rattle.resource.proofs.Names.{same-named}
 use Rattle.resource.proofs.Edge.{In}
 use Rattle.resource.proofs.Agree.{AgreesAt, piece-agrees, joined-agrees, double-agrees, tones-found}
 use Rattle.kinds.specs.Kinds.{kinds, kindAt, span, mask, takes}
 use Rattle.kinds.specs.Signals.{Place}
-use Rattle.kinds.proofs.Tests.{both, is-true, equal-or}
-use Rattle.kinds.proofs.Table.{spans, narrow-span, wide-span, span-some}
-use Rattle.kinds.proofs.Places.{at-span, at-place}
+use Rattle.kinds.proofs.Tests.{both, holds, is-true, equal-or}
+use Rattle.kinds.proofs.Table.{spans, span-is, narrow-span, wide-span, span-some}
+use Rattle.kinds.proofs.Places.{at-span, at-place, place-at, place-mod, place-segment}
 use Rattle.records.specs.Records.{resourceColumn, larger}
 use Rattle.records.specs.Engine.{placesOf, largerRuns}
 
@@ -206,9 +207,12 @@ pub wide-few : (c b : ℕ) → c < 36 → length (spreadRuns b (mask c) (span c 
 unfolding few-test
 wide-few c b h = rw (spread-length (span c / 4) b 0 (mask c)) (leb-true _ _ (is-true _ (every-below few-test 36 fews-tested c h)))
 
--- ---- and lie in them
+-- ---- and lie in them, and have all of each place's 242
+abbrev in-span : ℕ → ℕ → ℕ → Bool
+in-span c q j = eqb (j / span c) (q / span c) && takes c (j % span c)
+
 abbrev inside-test : ℕ → ℕ → ℕ → Bool
-inside-test c q j = wherever (set-at j (placesOf c q)) (eqb (j / span c) (q / span c) && takes c (j % span c))
+inside-test c q j = wherever (set-at j (placesOf c q)) (in-span c q j) && wherever (in-span c q j) (set-at j (placesOf c q))
 
 insides-tested : T (below (λ c. below (λ q. below (inside-test c q) 4) 4) 7)
 unfolding placesOf takes mask span kindAt kinds
@@ -225,16 +229,39 @@ one-place v n (inl f) = rw f (omega arith)
 one-place v n (inr (inl f)) = rw f (omega arith)
 one-place v n (inr (inr f)) = rw f (omega arith)
 
+inside-line : (c q j : ℕ) → c < 7 → q < 4 → j < 4 → T (inside-test c q j)
+inside-line c q j h k l =
+    every-below (inside-test c q) 4
+    (every-below (λ q. below (inside-test c q) 4) 4 (every-below (λ c. below (λ q. below (inside-test c q) 4) 4) 7 insides-tested c h) q k) j l
+
 narrow-inside : (c p u : ℕ) → c < 7 → In u (largerRuns c p) → Place c p (u / 256)
 narrow-inside c p u h t =
     let v = u / 256 in
     let w = places-inside (p / 4) (placesOf c p) u (rw (narrow-is c p h) at t) in
     let s = eqb (v % 4 / span c) (p % 4 / span c) in
-    let line = every-below (λ c. below (λ q. below (inside-test c q) 4) 4) 7 insides-tested c h in
-    let f = every-below (λ q. below (inside-test c q) 4) 4 line (p % 4) (omega arith) in
-    let y = met (set-at (v % 4) (placesOf c (p % 4))) (s && takes c (v % 4 % span c)) (every-below (inside-test c (p % 4)) 4 f (v % 4) (omega arith))
+    let y = met (set-at (v % 4) (placesOf c (p % 4))) (in-span c (p % 4) (v % 4))
+    (both-left (wherever (set-at (v % 4) (placesOf c (p % 4))) (in-span c (p % 4) (v % 4))) _ (inside-line c (p % 4) (v % 4) h (omega arith) (omega arith)))
     (rw (places-within c p h) at (w .1)) in
     (one-span v p (w .0) (span c) (spans c h) (eqb→eq _ _ (both-left s _ y)), rw (← one-place v (span c) (spans c h)) (is-true _ (both-right s _ y)))
+
+-- positions of one segment and of one span, seen from their segment
+span-within-four : (v p n : ℕ) → (n ≡ 1) ⊎ ((n ≡ 2) ⊎ (n ≡ 4)) → v / n ≡ p / n → v % 4 / n ≡ p % 4 / n
+span-within-four v p n (inl f) w = let x = rw f at w in rw f (omega arith)
+span-within-four v p n (inr (inl f)) w = let x = rw f at w in rw f (omega arith)
+span-within-four v p n (inr (inr f)) w = rw f (omega arith)
+
+narrow-cover : (c p q u : ℕ) → c < 7 → Place c p q → In u (the242 q ∷ []) → In u (largerRuns c p)
+narrow-cover c p q u h w t =
+    let here : q / 4 ≡ p / 4 = place-segment c p q h w in
+    let e : 4 * (p / 4) + q % 4 ≡ q = omega arith in
+    let own : T (in-span c (p % 4) (q % 4)) =
+    both (eqb (q % 4 / span c) (p % 4 / span c)) _ (holds _ (eq-eqb _ _ (span-within-four q p (span c) (spans c h) (w .0))))
+    (rw (one-place q (span c) (spans c h)) (holds _ (w .1))) in
+    let y : T (set-at (q % 4) (placesOf c (p % 4))) =
+    met (in-span c (p % 4) (q % 4)) (set-at (q % 4) (placesOf c (p % 4)))
+    (both-right (wherever (set-at (q % 4) (placesOf c (p % 4))) (in-span c (p % 4) (q % 4))) _ (inside-line c (p % 4) (q % 4) h (omega arith) (omega arith)))
+    own in
+    rw (narrow-is c p h) (places-cover (p / 4) (placesOf c p) (q % 4) u (omega arith) (rw (places-within c p h) y) (rw e t))
 
 wide-inside : (c p u : ℕ) → c < 36 → 7 ≤ c → In u (largerRuns c p) → Place c p (u / 256)
 unfolding takes
@@ -252,10 +279,41 @@ wide-inside c p u h l t = go (spread-inside (span c / 4) g (mask c) u (rw (wide-
         let e : u / 256 ≡ span c * (p / span c) + j = w .there ∙ ap (λ (x : ℕ). x + j) (sym from) in
         rw e (at-span (span c) (span-some c h) p j k, rw (at-place (span c) (span-some c h) p j k) (is-true _ (w .own)))
 
+wide-cover : (c p q u : ℕ) → c < 36 → 7 ≤ c → Place c p q → In u (the242 q ∷ []) → In u (largerRuns c p)
+unfolding takes
+wide-cover c p q u h l w t =
+    let g = span c * (p / span c) / 4 in
+    let from : span c * (p / span c) ≡ 4 * g = ⊎-elim (λ e. rw e (omega arith)) (λ e. rw e (omega arith)) (wide-span c h l) in
+    let k : q % span c < 4 * (span c / 4) =
+    ⊎-elim (λ e. omega (arith, place-mod c q h)) (λ e. omega (arith, place-mod c q h)) (wide-span c h l) in
+    let e : 4 * g + q % span c ≡ q = sym (place-at c p q w ∙ ap (λ (x : ℕ). x + q % span c) from) in
+    rw (wide-is c p h l, from) (spread-cover (span c / 4) g (mask c) (q % span c) u k (holds _ (w .1)) (rw e t))
+
 pub larger-inside : (c n p u : ℕ) → c < 36 → c ≢ 0 → In u (runsOf n (p / 4) (larger c (p % 4))) → Place c p (u / 256)
 larger-inside c n p u h d t =
     let i = rw (larger-runs c n p h d) at t in
     ⊎-elim (λ l. narrow-inside c p u l i) (λ l. wide-inside c p u h l i) (below-or c 7)
+
+pub larger-cover : (c n p q u : ℕ) → c < 36 → c ≢ 0 → Place c p q → In u (the242 q ∷ []) → In u (runsOf n (p / 4) (larger c (p % 4)))
+larger-cover c n p q u h d w t =
+    rw (larger-runs c n p h d) (⊎-elim (λ l. narrow-cover c p q u l w t) (λ l. wide-cover c p q u h l w t) (below-or c 7))
+
+-- what is larger than a position takes more than one
+pub larger-span : (c : ℕ) → c < 36 → c ≢ 0 → 2 ≤ span c
+larger-span c h d = rw (span-is c h) (go (ltb c 2) (ltb c 7) (ltb c 12))
+  where
+    go : (s t u : Bool) → 2 ≤ cond s (c + 1) (cond t 4 (cond u 8 16))
+    go true t u = ⊎-elim (λ (l : c < 1). absurd (d (omega arith))) (λ (l : 1 ≤ c). omega arith) (below-or c 1)
+    go false true u = omega arith
+    go false false true = omega arith
+    go false false false = omega arith
+
+-- from 40 MHz the 242 of a position is one run
+pub runs-242 : (n q : ℕ) → 1 < n → runsOf n (q / 4) (resourceAt (q % 4) (Part S242 1)) ≡ the242 q ∷ []
+unfolding runsOf resourceAt indexOf positionOf placeOf wide
+runs-242 n q h =
+    let e : 4 * (q / 4) + (q % 4 + 1 - 1) ≡ q = omega arith in
+    rw (ne-eqb n 1 (λ z. omega arith), e) (own-place q)
 
 -- ---- and they are those that 01 lists
 pub is-there : (n g p : ℕ) (x : Piece) → p < 4 → 4 * g + p < n → fromPositions x ≤ n → T (isPiece x) → T (exists n g p x)

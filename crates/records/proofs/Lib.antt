@@ -11,7 +11,11 @@ pub mod Spans
 pub mod Homes
 pub mod Owned
 pub mod Shares
+pub mod Counting
+pub mod Totals
+pub mod FieldsOf
 pub mod Sizes
 pub mod Tones
+pub mod Whose
 pub mod Demand
 pub mod Worked

@@ -3,9 +3,10 @@
 -- 01's subcarriers.
 use mathlib.Core.Path.{_≡_, refl, sym, _∙_, ap, subst}
 use mathlib.Core.Logic.{⊎-elim, _≢_}
+use mathlib.Core.Bool.{false}
 use Prim.Native.Nat.{ℕ, _+_, _*_, _/_, _%_, _^_, _≤_, _<_}
 use native.Mathlib.Omega.{arith}
-use native.Mathlib.Nat.{div-add-mod}
+use native.Mathlib.Nat.{div-add-mod, eq-or-lt-of-le}
 use lib.ListN.{length, getD}
 use Rattle.kinds.specs.Kinds.{span}
 use Rattle.kinds.specs.Signals.{Place, Fits, own, blank, smaller, Signals}
@@ -15,15 +16,17 @@ use Rattle.kinds.proofs.Table.{takes-known, family-low, full}
 use Rattle.kinds.proofs.Places.{place-mod}
 use Rattle.resource.specs.declared.Size.the-variants.{S242}
 use Rattle.resource.specs.declared.Piece.the-variants.{Part}
-use Rattle.resource.specs.Values.{pieces, ownPieces}
+use Rattle.resource.specs.Values.{pieces, ownPieces, divides}
 use Rattle.resource.specs.Index.{resourceAt}
 use Rattle.resource.specs.Engine.{noPiece, runsOf}
 use Rattle.resource.proofs.Edge.{In}
-use Rattle.resource.proofs.Apart.{piece-inside, pieces-apart}
+use Rattle.resource.proofs.Apart.{piece-inside, pieces-rise}
+use Rattle.resource.proofs.Test.{below-or}
 use Rattle.records.specs.declared.Record.{Record}
 use Rattle.records.specs.Records.{lead, listAt, recordsFrom, blank as noRecord}
 use Rattle.records.proofs.Lead.{itself-place, span-within}
-use Rattle.records.proofs.Larger.{larger-inside}
+use Rattle.records.proofs.Larger.{larger-inside, larger-cover, larger-span, runs-242}
+use Rattle.records.proofs.Gives.{whole-piece}
 use Rattle.records.proofs.Listing.{recordAt, Located, Somewhere, located, located-record, own-length, own-record, larger-record, larger-most, once-lead}
 
 -- u is one of the resource's
@@ -33,6 +36,11 @@ HasRun n r u = In u (runsOf n (r .segment) (r .resource))
 -- u is one of the 242's at position q
 abbrev pub In242 : ℕ → ℕ → ℕ → Type 0
 In242 n q u = In u (runsOf n (q / 4) (resourceAt (q % 4) (Part S242 1)))
+
+-- which lies in that position
+pub here-242 : (b q u : ℕ) → b < 5 → q < 2 ^ b → In242 (2 ^ b) q u → u / 256 ≡ q
+unfolding ownPieces pieces
+here-242 b q u h l t = let f = piece-inside b (q / 4) (q % 4) 28 h (omega arith) (omega arith) noPiece 0 u (omega arith) t in omega arith
 
 -- a punctured position is given to itself
 alone-26 : (c q v : ℕ) → v ≡ 26 → Fits c q v → c ≡ 0
@@ -67,8 +75,47 @@ module _ (o row : ℕ → ℕ) (b : ℕ) (h : b < 5) (s : Signals o row 0 (2 ^ b
       (equal-or (o p) 0)
 
   -- of resource i
-  placed : (i p m u : ℕ) → Located o row (2 ^ b) i p m → HasRun (2 ^ b) (getD (recordsFrom o row (2 ^ b)) i noRecord) u → Place (o p) p (u / 256)
+  pub placed : (i p m u : ℕ) → Located o row (2 ^ b) i p m → HasRun (2 ^ b) (getD (recordsFrom o row (2 ^ b)) i noRecord) u → Place (o p) p (u / 256)
   placed i p m u w t = cells p m u (w .inside) (w .place) (rw (located-record o row (2 ^ b) i p m w) at t)
+
+  -- and a resource that is no piece has all of the 242s of its places
+  own-covers : (p m q u : ℕ) → o p ≡ 0 → m < length (listAt (o p) row p) → divides (row p) ≡ false → Place (o p) p q → In242 (2 ^ b) q u
+      → HasRun (2 ^ b) (recordAt (o p) row p m) u
+  own-covers p m q u e k d w t =
+      let f : q ≡ p = itself-place p q (subst (λ (x : ℕ). Place x p q) e w) in
+      let g = whole-piece (row p) m d (omega (arith, own-length (o p) row p e)) in
+      rw (own-record (o p) row p m e, g) (rw f at t)
+
+  covers : (p m q u : ℕ) → p < 2 ^ b → m < length (listAt (o p) row p) → divides (row p) ≡ false → Place (o p) p q → In242 (2 ^ b) q u
+      → HasRun (2 ^ b) (recordAt (o p) row p m) u
+  covers p m q u l k d w t =
+      ⊎-elim
+      (λ e. own-covers p m q u e k d w t)
+      (λ n.
+      let two : 1 < 2 ^ b = omega (arith, whole-span p l, larger-span (o p) (kind p l) n) in
+      rw (larger-record (o p) row p m n) (larger-cover (o p) (2 ^ b) p q u (kind p l) n w (rw (runs-242 (2 ^ b) q two) at t)))
+      (equal-or (o p) 0)
+
+  pub covered : (i p m q u : ℕ) → Located o row (2 ^ b) i p m → divides (row p) ≡ false → Place (o p) p q → In242 (2 ^ b) q u
+      → HasRun (2 ^ b) (getD (recordsFrom o row (2 ^ b)) i noRecord) u
+  covered i p m q u w d f t = rw (located-record o row (2 ^ b) i p m w) (covers p m q u (w .inside) (w .place) d f t)
+
+  -- those that are listed at one position rise
+  rise-at : (p m l u v : ℕ) → p < 2 ^ b → m < l → l < length (listAt (o p) row p) → HasRun (2 ^ b) (recordAt (o p) row p m) u
+      → HasRun (2 ^ b) (recordAt (o p) row p l) v → u < v
+  rise-at p m l u v i j k t z =
+      ⊎-elim
+      (λ e.
+      pieces-rise b (p / 4) (p % 4) (row p) h (omega arith) (omega arith) noPiece m l u v j (omega (arith, own-length (o p) row p e))
+      (rw (own-record (o p) row p m e) at t) (rw (own-record (o p) row p l e) at z))
+      (λ d. absurd (omega (arith, larger-most (o p) row p d)))
+      (equal-or (o p) 0)
+
+  pub runs-rise : (i j p m l u v : ℕ) → Located o row (2 ^ b) i p m → Located o row (2 ^ b) j p l → i < j
+      → HasRun (2 ^ b) (getD (recordsFrom o row (2 ^ b)) i noRecord) u → HasRun (2 ^ b) (getD (recordsFrom o row (2 ^ b)) j noRecord) v → u < v
+  runs-rise i j p m l u v a c e t z =
+      rise-at p m l u v (a .inside) (omega (arith, a .numbered, c .numbered)) (c .place)
+      (rw (located-record o row (2 ^ b) i p m a) at t) (rw (located-record o row (2 ^ b) j p l c) at z)
 
   -- a resource has one lowest place
   lead-same : (x p q v : ℕ) → Place x p v → Place x q v → p % span x ≡ lead x → q % span x ≡ lead x → p ≡ q
@@ -86,17 +133,14 @@ module _ (o row : ℕ → ℕ) (b : ℕ) (h : b < 5) (s : Signals o row 0 (2 ^ b
       lead-same (o p) p q (u / 256) a (subst (λ (x : ℕ). Place x q (u / 256)) e c) (once-lead (o p) row p m (v .place))
       (subst (λ (x : ℕ). q % span x ≡ lead x) e (once-lead (o q) row q l (w .place)))
 
-  -- .. where they are one: a larger resource is alone there, and the pieces of a value have none in common
-  apart-at : (p m l u : ℕ) → p < 2 ^ b → m < length (listAt (o p) row p) → l < length (listAt (o p) row p) → m ≢ l
-      → HasRun (2 ^ b) (recordAt (o p) row p m) u → HasRun (2 ^ b) (recordAt (o p) row p l) u → ⊥
-  apart-at p m l u i j k n t z =
+  -- .. where they rise
+  apart-at : (i j p m l u : ℕ) → Located o row (2 ^ b) i p m → Located o row (2 ^ b) j p l → i ≢ j
+      → HasRun (2 ^ b) (getD (recordsFrom o row (2 ^ b)) i noRecord) u → HasRun (2 ^ b) (getD (recordsFrom o row (2 ^ b)) j noRecord) u → ⊥
+  apart-at i j p m l u a c n t z =
       ⊎-elim
-      (λ e.
-      let f = own-length (o p) row p e in
-      pieces-apart b (p / 4) (p % 4) (row p) h (omega arith) (omega arith) noPiece m l u n (omega arith) (omega arith)
-      (rw (own-record (o p) row p m e) at t) (rw (own-record (o p) row p l e) at z))
-      (λ d. n (omega (arith, larger-most (o p) row p d)))
-      (equal-or (o p) 0)
+      (λ e. omega (arith, runs-rise i j p m l u u a c e t z))
+      (λ e. ⊎-elim (λ f. n (sym f)) (λ f. omega (arith, runs-rise j i p l m u u c a f z t)) (eq-or-lt-of-le e))
+      (below-or i j)
 
   -- no two resources share one
   pub runs-apart : (i j u : ℕ) → i < length (recordsFrom o row (2 ^ b)) → j < length (recordsFrom o row (2 ^ b)) → i ≢ j
@@ -107,9 +151,7 @@ module _ (o row : ℕ → ℕ) (b : ℕ) (h : b < 5) (s : Signals o row 0 (2 ^ b
       go (p, m, v) (q, d, w) =
           let e = one-position i j p m q d u v w t z in
           let y : Located o row (2 ^ b) j p d = subst (λ (x : ℕ). Located o row (2 ^ b) j x d) (sym e) w in
-          apart-at p m d u (v .inside) (v .place) (y .place)
-          (λ (f : m ≡ d). n (omega (arith, v .numbered, y .numbered)))
-          (rw (located-record o row (2 ^ b) i p m v) at t) (rw (located-record o row (2 ^ b) j p d y) at z)
+          apart-at i j p m d u v y n t z
 
   -- each lies inside the channel
   pub runs-inside : (i u : ℕ) → i < length (recordsFrom o row (2 ^ b)) → HasRun (2 ^ b) (getD (recordsFrom o row (2 ^ b)) i noRecord) u → u < 256 * 2 ^ b
@@ -125,7 +167,7 @@ module _ (o row : ℕ → ℕ) (b : ℕ) (h : b < 5) (s : Signals o row 0 (2 ^ b
   runs-unpunctured i q u k l e t z = go (located o row (2 ^ b) i k)
     where
       here : u / 256 ≡ q
-      here = let f = piece-inside b (q / 4) (q % 4) 28 h (omega arith) (omega arith) noPiece 0 u (omega arith) t in omega arith
+      here = here-242 b q u h l t
 
       go : Somewhere o row (2 ^ b) i → ⊥
       go (p, m, w) =

@@ -24,10 +24,10 @@ use Rattle.records.proofs.Subcarriers.{runs-apart, runs-inside, runs-un
 use Rattle.records.proofs.Sizes.{record-agrees}
 
 -- ---- a subcarrier of a resource, counted from the channel's lower edge
-from-edge : (n g : ℕ) (r : Resource) (k : ℤ) → AgreesAt n g r → Among k (tonesOf n g r) → (u : ℕ) × (k ≡ signed n u)
+pub from-edge : (n g : ℕ) (r : Resource) (k : ℤ) → AgreesAt n g r → Among k (tonesOf n g r) → (u : ℕ) × (k ≡ signed n u)
 from-edge n g r k w t = among-counted n k (runsOf n g r) (rw (w .tones) at t)
 
-in-runs : (n g : ℕ) (r : Resource) (k : ℤ) (u : ℕ) → AgreesAt n g r → k ≡ signed n u → Among k (tonesOf n g r) → In u (runsOf n g r)
+pub in-runs : (n g : ℕ) (r : Resource) (k : ℤ) (u : ℕ) → AgreesAt n g r → k ≡ signed n u → Among k (tonesOf n g r) → In u (runsOf n g r)
 in-runs n g r k u w e t = among-in n u (runsOf n g r) (subst (λ (z : ℤ). Among z (map (spanOf n) (runsOf n g r))) e (rw (w .tones) at t))
 
 module _ (o row : ℕ → ℕ) (b : ℕ) (h : b < 5) (s : Signals o row 0 (2 ^ b)) where

@@ -115,9 +115,16 @@ recordsOf o row = recordsFrom o (at row) (length row)
 abbrev pub HasTone : ℕ → Record → ℤ → Type 0
 HasTone n r k = Among k (tonesOf n (r .segment) (r .resource))
 
+-- the 242 at position q
+abbrev pub the242 : ℕ → Resource
+the242 q = resourceAt (q % 4) (Part S242 1)
+
+abbrev pub In242 : ℕ → ℕ → ℤ → Type 0
+In242 n q k = Among k (tonesOf n (q / 4) (the242 q))
+
 -- "A punctured position takes its 242's subcarriers"
 abbrev pub Punctured : ℕ → ℕ → ℤ → Type 0
-Punctured n q k = Among k (tonesOf n (q / 4) (resourceAt (q % 4) (Part S242 1)))
+Punctured n q k = In242 n q k
 
 -- what stands past the last resource
 abbrev pub blank : Record

@@ -1,12 +1,15 @@
 -- The runs that the program finds are 01's spans, counted from the channel's lower edge, at every position of every bandwidth; and each
 -- resource has as many subcarriers as its name says, in rising maximal runs.
 use mathlib.Core.Path.{_≡_, refl, ap}
+use mathlib.Core.Logic.{inl}
 use mathlib.Core.Bool.{Bool, true, false, _&&_}
 use mathlib.Core.List.{List, [], _∷_, map}
 use Prim.Native.Nat.{ℕ, _+_, _*_, _^_, _≤_, _<_}
+use native.Mathlib.Omega.{arith}
 use lib.Dec.{T, ltb, leb, eqb, eqb→eq, le→leb, ltb→lt}
-use lib.IntN.{ℤ, pos, negsuc}
-use Rattle.resource.specs.declared.Size.the-variants.{S2x996}
+use lib.IntN.{ℤ, pos, negsuc, natAbs}
+use lib.Signed.{leZ, leZ-yes, ≤ℤ-refl}
+use Rattle.resource.specs.declared.Size.the-variants.{S26, S52, S106, S242, S484, S996, S2x996}
 use Rattle.resource.specs.declared.Pairing.{Pairing}
 use Rattle.resource.specs.declared.Pairing.the-variants.{P106And26, P484And242, P996And484, P3x996, P2x996And484, P3x996And484}
 use Rattle.resource.specs.declared.Piece.{Piece}
@@ -15,7 +18,7 @@ use Rattle.resource.specs.declared.Resource.the-variants.{Single, Joined
 use Rattle.resource.specs.Names.{nameOf}
 use Rattle.resource.specs.Places.{placesOf, segmentsOf}
 use Rattle.resource.specs.Index.{indexOf, resourceAt, isPiece, joinedCount, fromPositions, exists, positionOf, placeOf}
-use Rattle.resource.specs.Tones.{Span, sameℤ, tonesAt, tonesLeavingOut, tonesJoined, tonesOf, howMany, rising, RightSpans}
+use Rattle.resource.specs.Tones.{Span, sameℤ, tonesAt, tonesLeavingOut, tonesJoined, tonesOf, Among, howMany, above, rising, RightSpans}
 use Rattle.resource.specs.Engine.{spanOf, runsOf, placesRuns, spreadRuns, joinedRuns, wide, wideWith26, narrow, narrowWith26}
 use Rattle.resource.specs.Engine.{offset26, offset52, offset106, narrow26, narrow52, narrow106}
 use Rattle.resource.proofs.Test.{both-left, both-right, wherever, met, below, every-below}
@@ -51,6 +54,28 @@ spans-eq (s ∷ ss) (t ∷ ts) h =
     let a = span-eq s t (both-left (sameSpan s t) (sameSpans ss ts) h) in
     let b = spans-eq ss ts (both-right (sameSpan s t) (sameSpans ss ts) h) in
     (λ i. a i ∷ b i)
+
+-- ---- a resource has some subcarrier
+name-some : (r : Resource) → 0 < nameOf r
+name-some (Single S26 i) = omega arith
+name-some (Single S52 i) = omega arith
+name-some (Single S106 i) = omega arith
+name-some (Single S242 i) = omega arith
+name-some (Single S484 i) = omega arith
+name-some (Single S996 i) = omega arith
+name-some (Single S2x996 i) = omega arith
+name-some (Joined P106And26 i) = omega arith
+name-some (Joined P484And242 i) = omega arith
+name-some (Joined P996And484 i) = omega arith
+name-some (Joined P3x996 i) = omega arith
+name-some (Joined P2x996And484 i) = omega arith
+name-some (Joined P3x996And484 i) = omega arith
+
+pub some-tone : (r : Resource) (ss : List Span) → RightSpans r ss → (k : ℤ) × Among k ss
+some-tone r [] w = absurd (omega (arith, ap natAbs (w .named), name-some r))
+some-tone r (s ∷ ss) w =
+    let t = both-left (leZ (s .lo) (s .hi)) (above (s .hi) ss) (both-left (leZ (s .lo) (s .hi) && above (s .hi) ss) (rising ss) (w .rises)) in
+    (s .lo, inl (≤ℤ-refl (s .lo), leZ-yes t))
 
 -- ---- the spans ss of resource r of segment g, in a channel of n positions, are its runs, and right
 pub record Agrees (n g : ℕ) (r : Resource) (ss : List Span) : Type 0 where

@@ -16,7 +16,7 @@ use Rattle.resource.specs.Values.{pieces, ownPieces}
 use Rattle.resource.specs.Index.{indexOf, resourceAt, positionOf, placeOf}
 use Rattle.resource.specs.Engine.{placesRuns, runsOf, wide, wideWith26, narrow, narrowWith26}
 use Rattle.resource.specs.Engine.{offset26, offset52, offset106, narrow26, narrow52, narrow106}
-use Rattle.resource.proofs.Edge.{In}
+use Rattle.resource.proofs.Edge.{In, in-left, in-right}
 use Rattle.resource.proofs.Test.{below-or, both-left, both-right, below, every-below}
 use Rattle.resource.proofs.Everywhere.{everywhere, at-position}
 
@@ -24,15 +24,6 @@ use Rattle.resource.proofs.Everywhere.{everywhere, at-position}
 abbrev pub ascending : ℕ → ℕ → List Run → Bool
 ascending b e [] = leb b e
 ascending b e (r ∷ rs) = leb b (r .lo) && (leb (r .lo) (r .hi) && ascending (suc (r .hi)) e rs)
-
-in-left : (x : ℕ) (xs ys : List Run) → In x xs → In x (xs ++ ys)
-in-left x [] ys h = absurd h
-in-left x (a ∷ xs) ys (inl h) = inl h
-in-left x (a ∷ xs) ys (inr h) = inr (in-left x xs ys h)
-
-in-right : (x : ℕ) (xs ys : List Run) → In x ys → In x (xs ++ ys)
-in-right x [] ys h = h
-in-right x (a ∷ xs) ys h = inr (in-right x xs ys h)
 
 module _ (e : ℕ) where
   parts : (b : ℕ) (r : Run) (rs : List Run) → T (ascending b e (r ∷ rs)) → (b ≤ r .lo) × (r .lo ≤ r .hi) × T (ascending (suc (r .hi)) e rs)
@@ -135,14 +126,17 @@ module _ (b g p v : ℕ) (h : b < 5) (i : p < 4) (j : 4 * g + p < 2 ^ b) where
       (gathered (runs-at (2 ^ b) g p) d (ownPieces v) k u l m) in
       omega arith
 
+  -- they rise, piece after piece
+  pub pieces-rise : (d : Piece) (k l u w : ℕ) → k < l → l < length (ownPieces v) → In u (runsOf (2 ^ b) g (resourceAt p (getD (ownPieces v) k d)))
+      → In w (runsOf (2 ^ b) g (resourceAt p (getD (ownPieces v) l d))) → u < w
+  pieces-rise d k l u w i j m o =
+      rise (runs-at (2 ^ b) g p) d (256 * (4 * g + p) + 256) (256 * (4 * g + p)) (ownPieces v) ascends-at k l u w i j m o
+
   -- and no two pieces share one
   pub pieces-apart : (d : Piece) (k l u : ℕ) → k ≢ l → k < length (ownPieces v) → l < length (ownPieces v)
       → In u (runsOf (2 ^ b) g (resourceAt p (getD (ownPieces v) k d))) → In u (runsOf (2 ^ b) g (resourceAt p (getD (ownPieces v) l d))) → ⊥
   pieces-apart d k l u n c e m o =
-      let r : (x y : ℕ) → x < y → y < length (ownPieces v) → In u (runs-at (2 ^ b) g p (getD (ownPieces v) x d))
-      → In u (runs-at (2 ^ b) g p (getD (ownPieces v) y d)) → u < u
-      = λ x y q z a f. rise (runs-at (2 ^ b) g p) d (256 * (4 * g + p) + 256) (256 * (4 * g + p)) (ownPieces v) ascends-at x y u u q z a f in
       ⊎-elim
-      (λ q. let z = r k l q e m o in omega arith)
-      (λ q. ⊎-elim (λ f. n (sym f)) (λ f. let z = r l k f c o m in omega arith) (eq-or-lt-of-le q))
+      (λ q. let z = pieces-rise d k l u u q e m o in omega arith)
+      (λ q. ⊎-elim (λ f. n (sym f)) (λ f. let z = pieces-rise d l k u u f c o m in omega arith) (eq-or-lt-of-le q))
       (below-or k l)

@@ -2,14 +2,15 @@
 -- among them is counted so.
 use mathlib.Core.Path.{_≡_, refl, sym, ap, _∙_}
 use mathlib.Core.Logic.{_⊎_, inl, inr, ⊎-elim}
-use mathlib.Core.List.{List, [], _∷_, map}
+use mathlib.Core.Bool.{Bool, true, false}
+use mathlib.Core.List.{List, [], _∷_, _++_, map}
 use Prim.Native.Nat.{ℕ, zero, suc, _+_, _-_, _*_, _≤_, _<_}
 use native.Mathlib.Nat.{add-zero}
 use native.Mathlib.Omega.{arith}
 use borrow.Author.Tests.{lt-ltb, le-ltb}
 use lib.Dec.{T, leb→le, le→leb, lt→ltb}
 use lib.IntN.{ℤ, pos, negsuc, subℕ, _-ℤ_}
-use lib.Signed.{leZ, _≤ℤ_, _<ℤ_}
+use lib.Signed.{leZ, ltZ, _≤ℤ_, _<ℤ_, ltZ-no}
 use Rattle.resource.specs.declared.Run.{Run}
 use Rattle.resource.specs.Tones.{minus, Among}
 use Rattle.resource.specs.Engine.{signed, spanOf}
@@ -19,6 +20,15 @@ use Rattle.resource.proofs.Test.{below-or}
 abbrev pub In : ℕ → List Run → Type 0
 In u [] = ⊥
 In u (r ∷ rs) = ((r .lo ≤ u) × (u ≤ r .hi)) ⊎ In u rs
+
+pub in-left : (x : ℕ) (xs ys : List Run) → In x xs → In x (xs ++ ys)
+in-left x [] ys h = absurd h
+in-left x (a ∷ xs) ys (inl h) = inl h
+in-left x (a ∷ xs) ys (inr h) = inr (in-left x xs ys h)
+
+pub in-right : (x : ℕ) (xs ys : List Run) → In x ys → In x (xs ++ ys)
+in-right x [] ys h = h
+in-right x (a ∷ xs) ys h = inr (in-right x xs ys h)
 
 -- ---- a number less m
 below-it : (u m : ℕ) → u < m → subℕ u m ≡ negsuc (m - suc u)
@@ -73,6 +83,13 @@ module _ (n : ℕ) where
 
   le-signed : (a b : ℕ) → signed n a ≤ℤ signed n b → a ≤ b
   le-signed a b h = less-le a b (128 * n) (rw (less a (128 * n), less b (128 * n)) at (h .le))
+
+  pub signed-lt : (a b : ℕ) → a < b → signed n a <ℤ signed n b
+  signed-lt a b h = go (ltZ (signed n a) (signed n b)) refl
+    where
+      go : (t : Bool) → ltZ (signed n a) (signed n b) ≡ t → signed n a <ℤ signed n b
+      go true e = record { lt = rw e tt }
+      go false e = absurd (omega (arith, le-signed b a (ltZ-no (rw e tt))))
 
   pub in-among : (u : ℕ) (rs : List Run) → In u rs → Among (signed n u) (map (spanOf n) rs)
   in-among u [] h = absurd h

@@ -12,7 +12,7 @@ use lib.ListN.{length, length-append}
 use Rattle.resource.specs.declared.Run.{Run}
 use Rattle.resource.specs.Values.{set-at}
 use Rattle.resource.specs.Engine.{runOf, the242, the242If, placesRuns, spreadRuns}
-use Rattle.resource.proofs.Edge.{In}
+use Rattle.resource.proofs.Edge.{In, in-left, in-right}
 use Rattle.resource.proofs.Test.{below-or, both-left, both-right}
 
 -- ---- a single place
@@ -201,6 +201,62 @@ spread-inside (suc s) g m u h =
     (w .0 + 4, record { among = omega (arith, p .among); there = omega (arith, p .there); own = rw (← high-bit (w .0) m) (p .own) }))
     (in-both u (placesRuns (4 * g) (m % 16)) (spreadRuns (4 * g + 4) (m / 16) s) h)
 
+-- ---- and each place's 242 is wholly among them
+if-last : (t : Bool) (p : ℕ) → the242If t p ≡ the242If t p ++ []
+if-last true p = refl
+if-last false p = refl
+
+if-in : (t : Bool) (p u : ℕ) (rs : List Run) → T t → In u (the242 p ∷ []) → In u (the242If t p ++ rs)
+if-in true p u rs h (inl w) = inl w
+if-in true p u rs h (inr w) = absurd w
+if-in false p u rs h w = absurd h
+
+-- of the 996: the first 242 begins where it does, and the fourth ends there
+whole-cover : (g j u : ℕ) → j < 4 → (the242 (4 * g + j) .lo ≤ u) × (u ≤ the242 (4 * g + j) .hi)
+    → In u (runOf (256 * (4 * g) + 12) 498 ∷ runOf (256 * (4 * g) + 515) 498 ∷ [])
+whole-cover g zero u h w = let e : (4 * g + 0) % 2 ≡ 0 = omega arith in let v = rw e at w in inl (omega arith, omega arith)
+whole-cover g (suc zero) u h w = let e = edge-low (eqb ((4 * g + 1) % 2) 0) in inl (omega arith, omega arith)
+whole-cover g (suc (suc zero)) u h w = let e = edge-low (eqb ((4 * g + 2) % 2) 0) in inr (inl (omega arith, omega arith))
+whole-cover g (suc (suc (suc zero))) u h w =
+    let e : (4 * g + 3) % 2 ≡ 1 = omega arith in let v = rw e at w in inr (inl (omega arith, omega arith))
+whole-cover g (suc (suc (suc (suc j)))) u h w = absurd (omega arith)
+
+each-cover : (b m j u : ℕ) → j < 4 → T (set-at j m) → In u (the242 (b + j) ∷ [])
+    → In u (the242If (set-at 0 m) b ++ (the242If (set-at 1 m) (b + 1) ++ (the242If (set-at 2 m) (b + 2) ++ the242If (set-at 3 m) (b + 3))))
+each-cover b m zero u h t w = if-in (set-at 0 m) b u _ t (rw (add-zero b) at w)
+each-cover b m (suc zero) u h t w = in-right u (the242If (set-at 0 m) b) _ (if-in (set-at 1 m) (b + 1) u _ t w)
+each-cover b m (suc (suc zero)) u h t w =
+    in-right u (the242If (set-at 0 m) b) _ (in-right u (the242If (set-at 1 m) (b + 1)) _ (if-in (set-at 2 m) (b + 2) u _ t w))
+each-cover b m (suc (suc (suc zero))) u h t w =
+    in-right u (the242If (set-at 0 m) b) _
+    (in-right u (the242If (set-at 1 m) (b + 1)) _
+    (in-right u (the242If (set-at 2 m) (b + 2)) _ (rw (if-last (set-at 3 m) (b + 3)) (if-in (set-at 3 m) (b + 3) u [] t w))))
+each-cover b m (suc (suc (suc (suc j)))) u h t w = absurd (omega arith)
+
+pub places-cover : (g m j u : ℕ) → j < 4 → T (set-at j m) → In u (the242 (4 * g + j) ∷ []) → In u (placesRuns (4 * g) m)
+unfolding placesRuns
+places-cover g m j u h t w = go (set-at 0 m && set-at 1 m && set-at 2 m && set-at 3 m)
+  where
+    go : (x : Bool) → In u (cond x (runOf (256 * (4 * g) + 12) 498 ∷ runOf (256 * (4 * g) + 515) 498 ∷ [])
+        (the242If (set-at 0 m) (4 * g) ++ (the242If (set-at 1 m) (4 * g + 1) ++ (the242If (set-at 2 m) (4 * g + 2) ++ the242If (set-at 3 m) (4 * g + 3)))))
+    go true = whole-cover g j u h (⊎-elim (λ e. e) (λ e. absurd e) w)
+    go false = each-cover (4 * g) m j u h t w
+
+pub spread-cover : (s g m j u : ℕ) → j < 4 * s → T (set-at j m) → In u (the242 (4 * g + j) ∷ []) → In u (spreadRuns (4 * g) m s)
+unfolding spreadRuns
+spread-cover zero g m j u h t w = absurd (omega arith)
+spread-cover (suc s) g m j u h t w =
+    ⊎-elim
+    (λ (l : j < 4). in-left u (placesRuns (4 * g) (m % 16)) (spreadRuns (4 * g + 4) (m / 16) s) (places-cover g (m % 16) j u l (rw (low-bit j m l) t) w))
+    (λ (l : 4 ≤ j).
+    let i = j - 4 in
+    let e : i + 4 ≡ j = omega arith in
+    let from : 4 * g + 4 ≡ 4 * (g + 1) = omega arith in
+    let there : 4 * (g + 1) + i ≡ 4 * g + j = omega arith in
+    in-right u (placesRuns (4 * g) (m % 16)) (spreadRuns (4 * g + 4) (m / 16) s)
+    (rw from (spread-cover s (g + 1) (m / 16) i u (omega arith) (rw (high-bit i m, e) t) (rw there w))))
+    (below-or j 4)
+
 -- ---- as the program finds them
 odd : (a k : ℕ) → a ≡ 2 * k + 1 → a % 2 ≡ 1
 odd a k e = omega arith
@@ -238,10 +294,6 @@ not-all m n = go (set-at 0 m && set-at 1 m && set-at 2 m && set-at 3 m) refl
         let four : m / 4 ≡ 2 * (m / 8) + 1 = halved (m / 4) (m / 8) y (omega arith) in
         let two : m / 2 ≡ 2 * (m / 4) + 1 = halved (m / 2) (m / 4) x (omega arith) in
         absurd (n (omega (arith, w, two, four, eight)))
-
-if-last : (t : Bool) (p : ℕ) → the242If t p ≡ the242If t p ++ []
-if-last true p = refl
-if-last false p = refl
 
 -- else one after the other
 pub each-place : (b m : ℕ) → (m % 16 ≡ 15 → ⊥)
