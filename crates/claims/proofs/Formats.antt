@@ -1,40 +1,36 @@
 -- The reader's plan is 01's, and each User word is of the format that its field's owner has.
 use mathlib.Core.Path.{_≡_, sym, _∙_, ap, subst}
-use mathlib.Core.Logic.{⊎-elim}
 use mathlib.Core.Bool.{Bool, true, false}
 use mathlib.Core.List.{List}
-use Prim.Native.Nat.{ℕ, _+_, _/_, _%_, _≤_, _<_}
-use native.Mathlib.Decide.{ℕ-discrete}
+use Prim.Native.Nat.{ℕ, _+_, _≤_, _<_}
 use native.Mathlib.Omega.{arith}
 use lib.Dec.{leb}
 use lib.ListN.{length, getD, drop, List·getD-append}
-use borrow.Author.Tests.{le-leb, lt-leb, eq-eqb, ne-eqb}
+use borrow.Author.Tests.{le-leb, lt-leb}
 use denote.Ref.{now}
 use Rattle.answer.specs.declared.Answer.{Answer}
 use Rattle.answer.specs.declared.Outcome.the-variants.{Pass}
 use Rattle.answer.proofs.Order.{pass-left, pass-right}
 use Rattle.bits.specs.Bits.{field}
-use Rattle.resource.specs.Values.{fieldsOf, divides, pieceFields}
-use Rattle.resource.specs.Engine.{pieceAt}
+use Rattle.resource.specs.Values.{fieldsOf, divides}
 use Rattle.resource.proofs.Pieces.{some-pieces, no-pieces-left, divided-low}
-use Rattle.kinds.specs.Kinds.{span}
 use Rattle.answer.specs.Lists.{at}
-use Rattle.kinds.specs.Signals.{Place, Fits, Signals}
-use Rattle.kinds.specs.Fields.{share, fieldsIn, together, shared}
+use Rattle.kinds.specs.Signals.{Place, Signals}
+use Rattle.kinds.specs.Fields.{together, shared}
 use Rattle.plan.specs.Answers.{Laid}
 use Rattle.plan.specs.Engine.{planOutcome}
-use Rattle.kinds.proofs.Tests.{equal-or}
 use Rattle.plan.proofs.Laid.{outcome-laid}
 use Rattle.plan.proofs.Demand.{accepted-plan, only-plan}
 use Rattle.records.specs.declared.Record.{Record}
-use Rattle.records.specs.Records.{inChannel, pieceRecord, recordsFrom, recordsOf, blank}
+use Rattle.records.specs.Records.{recordsFrom, recordsOf, blank}
 use Rattle.records.specs.Owns.{fieldsBefore, ComesFrom, number, Owns, of-piece, of-place}
+use Rattle.records.specs.FieldsOf.{fieldsOn}
 use Rattle.records.specs.Engine.{lowest, ownerOf}
-use Rattle.records.proofs.Listing.{recordAt, Located, located-record, own-record, larger-record}
-use Rattle.records.proofs.Lead.{lowest-only, itself-place}
+use Rattle.records.proofs.Listing.{recordAt, Located, located-record}
+use Rattle.records.proofs.Lead.{lowest-only}
 use Rattle.records.proofs.Owners.{comes-below, one-owner, owner-owns}
-use Rattle.records.proofs.Gives.{low-share, share-fields}
-use Rattle.records.proofs.Spans.{own-fieldsIn}
+use Rattle.records.proofs.Gives.{low-share}
+use Rattle.records.proofs.Totals.{own-total, piece-one, all-places}
 use Rattle.records.proofs.Homes.{home-piece, home-whole}
 use Rattle.records.proofs.Shares.{owner-listed}
 use Rattle.channel.specs.Layout.{row, count, userAt}
@@ -50,23 +46,7 @@ use Rattle.reader.specs.Result.{wordsAfter}
 use Rattle.reader.proofs.Stages.{readOutcome-stages, readOutcome-pass}
 use Rattle.reader.proofs.Exactly.{accepted-exactly}
 use Rattle.reader.proofs.read.Reads as read
-use Rattle.claims.specs.Formats.{fieldsOn, WordOn, OwnsIn, OneOwner, Formatted, UserWords}
-
--- a position is one channel's
-one-channel : (p f : ℕ) → inChannel 1 p f + inChannel 2 p f ≡ f
-one-channel p f = go (ℕ-discrete (p % 2 + 1) 1)
-  where
-    go : Dec (p % 2 + 1 ≡ 1) → inChannel 1 p f + inChannel 2 p f ≡ f
-    go (yes e) = rw (eq-eqb (p % 2 + 1) 1 e, ne-eqb (p % 2 + 1) 2 (λ z. omega arith)) (omega arith)
-    go (no d) = rw (ne-eqb (p % 2 + 1) 1 d, eq-eqb (p % 2 + 1) 2 (omega arith)) (omega arith)
-
-own-total : (row : ℕ → ℕ) (p : ℕ) → together 0 row p ≡ share 0 p (row p)
-own-total row p = rw (own-fieldsIn 1 row p, own-fieldsIn 2 row p) (one-channel p (share 0 p (row p)))
-
--- the resource at a place has the same fields seen from any of its places
-total-place : (x : ℕ) (row : ℕ → ℕ) (p q : ℕ) → q / span x ≡ p / span x → together x row q ≡ together x row p
-unfolding fieldsIn
-total-place x row p q e = rw e
+use Rattle.claims.specs.Formats.{WordOn, OwnsIn, OneOwner, Formatted, UserWords}
 
 -- ---- the fields of the resource that owns a field, and the position that the field comes from
 module _ (o row : ℕ → ℕ) (n : ℕ) (s : Signals o row 0 n) where
@@ -76,32 +56,15 @@ module _ (o row : ℕ → ℕ) (n : ℕ) (s : Signals o row 0 n) where
   -- a piece has one field, and its position gives none to a larger resource
   piece-alone : (i p k : ℕ) → p < n → k < fieldsOf (row p) → o p ≡ 0 → divides (row p) ≡ true → i ≡ number o row p k
       → leb 2 (fieldsOn (rec i)) ≡ shared o row p
-  unfolding pieceFields
   piece-alone i p k l h e d f =
-      let r : rec i ≡ pieceRecord row p (pieceAt (row p) k) =
-      ap rec f ∙ located-record o row n (number o row p k) p k (home-piece o row n s p k l h d) ∙ own-record (o p) row p k e in
-      let a : fieldsOn (rec i) ≡ 1 = ap fieldsOn r ∙ one-channel p (pieceFields (row p)) ∙ rw d in
+      let r : rec i ≡ recordAt (o p) row p k =
+      ap rec f ∙ located-record o row n (number o row p k) p k (home-piece o row n s p k l h d) in
+      let a : fieldsOn (rec i) ≡ 1 = ap fieldsOn r ∙ piece-one o row n s p k d e in
       let z : together (o p) row p ≡ 0 =
       ap (λ (x : ℕ). together x row p) e ∙ own-total row p ∙ low-share 0 p (row p) (omega (arith, divided-low (row p) d)) in
       rw (a, z)
 
   -- any other resource has all the fields of its places
-  own-places : (p : ℕ) → p < n → divides (row p) ≡ false → o p ≡ 0 → fieldsOn (recordAt (o p) row p 0) ≡ together (o p) row p
-  unfolding pieceFields
-  own-places p l d e =
-      ap fieldsOn (own-record (o p) row p 0 e)
-      ∙ one-channel p (pieceFields (row p))
-      ∙ rw d (sym (rw e (own-total row p ∙ share-fields 0 p (row p) (subst (λ (x : ℕ). Fits x p (row p)) e (s .fits p (omega arith) l)) d)))
-
-  all-places : (p q : ℕ) → p < n → divides (row p) ≡ false → Place (o p) p q → fieldsOn (recordAt (o p) row q 0) ≡ together (o p) row p
-  all-places p q l d m =
-      ⊎-elim
-      (λ e.
-      let z : q ≡ p = itself-place p q (subst (λ (x : ℕ). Place x p q) e m) in
-      rw z (own-places p l d e))
-      (λ e. ap fieldsOn (larger-record (o p) row q 0 e) ∙ total-place (o p) row p q (m .0))
-      (equal-or (o p) 0)
-
   place-shared : (i p k q : ℕ) → p < n → k < fieldsOf (row p) → divides (row p) ≡ false → Place (o p) p q → q ≡ lowest (o p) p → i ≡ number o row q 0
       → leb 2 (fieldsOn (rec i)) ≡ shared o row p
   place-shared i p k q l h d m g f =
@@ -109,7 +72,7 @@ module _ (o row : ℕ → ℕ) (n : ℕ) (s : Signals o row 0 n) where
       let t : Located o row n (number o row q 0) q 0 = rw g (home-whole o row n s p l (omega arith) d) in
       let r : rec i ≡ recordAt (o p) row q 0 =
       ap rec f ∙ located-record o row n (number o row q 0) q 0 t ∙ ap (λ (x : ℕ). recordAt x row q 0) w in
-      ap (leb 2) (ap fieldsOn r ∙ all-places p q l d m)
+      ap (leb 2) (ap fieldsOn r ∙ all-places o row n s p q 0 l d m)
 
   -- where the field comes from, and that it is shared there exactly where its owner has two or more
   pub as-owned : (i c j : ℕ) → Owns o row n i c j → (p : ℕ) × (k : ℕ) × ComesFrom row n c j p k × (leb 2 (fieldsOn (rec i)) ≡ shared o row p)

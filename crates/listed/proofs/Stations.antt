@@ -1,6 +1,6 @@
 -- How many `sta=` lines there are, what each says, and whose field it is (01, "Listing": "sta= lines follow the User words"); how many of the
 -- User fields are stations' (02, T-01).
-use mathlib.Core.Path.{_≡_, refl, sym, ap, _∙_}
+use mathlib.Core.Path.{_≡_, refl, sym, ap, _∙_, subst}
 use mathlib.Core.Logic.{_≢_}
 use mathlib.Core.Bool.{Bool, true, false, not, cond}
 use mathlib.Core.List.{List}
@@ -8,7 +8,7 @@ use Prim.Native.Nat.{ℕ, _+_, _-_, _*_, _/_, _%_, _≤_, _<_}
 use native.Mathlib.Omega.{arith}
 use borrow.Author.Tests.{ltb-true, ltb-false}
 use lib.Dec.{ltb, eqb}
-use lib.ListN.{length}
+use lib.ListN.{length, getD}
 use Rattle.answer.specs.declared.Outcome.the-variants.{Pass}
 use Rattle.answer.specs.Lists.{at}
 use Rattle.answer.specs.Tally.{tally}
@@ -20,7 +20,9 @@ use Rattle.channel.specs.Layout.{row, count, userAt}
 use Rattle.stations.specs.Stations.{stationAt, stationOf}
 use Rattle.plan.specs.Worked.{thePlan}
 use Rattle.kinds.proofs.Tests.{Tested, eqb-decides, move}
-use Rattle.records.specs.Owns.{fieldsBefore}
+use Rattle.resource.specs.Tones.{tonesOf}
+use Rattle.records.specs.Records.{HasTone, blank}
+use Rattle.records.specs.Owns.{fieldsBefore, Owns}
 use Rattle.records.specs.Worked.{Worked, theOwner}
 use Rattle.records.proofs.Shares.{counts-of}
 use Rattle.records.proofs.Worked.{worked}
@@ -28,12 +30,12 @@ use Rattle.halves.specs.Table.{outcome11}
 use Rattle.frame_words.specs.Words.{wordCount, wordsOf}
 use Rattle.frame_words.proofs.Determine.{words-length, user-back-1, user-back-2}
 use Rattle.frame_words.proofs.Counts.{row-count-1, row-count-2}
-use Rattle.text.specs.Text.{codes}
-use Rattle.text.specs.Text.{line}
+use Rattle.text.specs.Text.{codes, line}
+use Rattle.resource_line.specs.ResourceLine.{ruHead, ruLine}
 use Rattle.lines.specs.Lines.{assigned, staLine}
 use Rattle.lines.proofs.LineLaws.{number-line, none-line, only-none}
-use Rattle.listed.specs.Listing.{ownerIn, staLineAt, stationsIn}
-use Rattle.listed.specs.Stations.{channelAt, placeIn, wordStation, SaysNone, Station, Counted}
+use Rattle.listed.specs.Listing.{recordLine, resources, ownerIn, staLineAt, stationsIn}
+use Rattle.listed.specs.Stations.{channelAt, placeIn, wordStation, SaysNone, TonesOf, Station, Counted}
 use Rattle.both_halves.proofs.Accepted.{known-code, accepted-signals}
 
 -- ---- how many: "the count is the sum over the row's values", in each channel
@@ -119,6 +121,21 @@ module _ (bw : ℕ) (a b : List ℕ) (e : outcome11 bw a b ≡ Pass) where
       go true f = omega (arith, ltb-true i first f, fields-1 bw a b (known-code bw a b e))
       go false f = omega (arith, ltb-false i first f, fields-words bw a b, fields-2 bw a b (known-code bw a b e))
 
+  -- the line of the resource that owns a field has the field's subcarriers
+  owner-tones : (c j x : ℕ) → x < length (resources the-row) → Owns (thePlan the-row) (at the-row) (length the-row) x c j
+      → ((y : ℕ) → Owns (thePlan the-row) (at the-row) (length the-row) y c j → y ≡ x)
+      → TonesOf the-row c j (recordLine (length the-row) (getD (resources the-row) x blank))
+  unfolding ruLine
+  owner-tones c j x l w only =
+      let y = getD (resources the-row) x blank in
+      record {
+        front = ruHead (y .segment) (y .resource) (y .fields1 + y .fields2);
+        spans = tonesOf (length the-row) (y .segment) (y .resource);
+        is = refl;
+        owned = λ k t. (x, l, w, t);
+        all-owned = λ k t. subst (λ (z : ℕ). HasTone (length the-row) (getD (resources the-row) z blank) k) (only (t .0) (t .2)) (t .3);
+      }
+
   -- each User word has its line
   pub station : (i : ℕ) → i < length (wordsOf bw a b) - 10 → Station bw a b the-row first i
   unfolding staLineAt
@@ -134,6 +151,8 @@ module _ (bw : ℕ) (a b : List ℕ) (e : outcome11 bw a b ≡ Pass) where
         listed = rw o (w .listed);
         owns = rw o (w .owns);
         only-owner = λ x h. w .only x h ∙ sym o;
+        its-tones = owner-tones (channelAt first i) (placeIn first i) (ownerIn the-row first i) (rw o (w .listed)) (rw o (w .owns))
+            (λ x h. w .only x h ∙ sym o);
       }
 
   -- ---- 02, T-01: "stations= leaves it out"

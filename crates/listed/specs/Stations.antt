@@ -5,14 +5,18 @@ use mathlib.Core.List.{List, _++_}
 use mathlib.Core.Logic.{_≢_}
 use Prim.Native.Nat.{ℕ, _+_, _-_, _/_, _%_, _<_}
 use lib.Dec.{ltb}
-use lib.ListN.{length}
+use lib.IntN.{ℤ}
+use lib.ListN.{length, getD}
 use Rattle.answer.specs.Lists.{at}
-use Rattle.text.specs.Text.{codes}
 use Rattle.plan.specs.Worked.{thePlan}
+use Rattle.resource.specs.Tones.{Span, Among}
+use Rattle.records.specs.Records.{blank}
 use Rattle.records.specs.Owns.{Owns, Counts}
+use Rattle.records.specs.Whose.{OwnsTone}
 use Rattle.frame_words.specs.Words.{wordsOf}
-use Rattle.text.specs.Text.{keyed, line}
-use Rattle.listed.specs.Listing.{resources, ownerIn, staLineAt, stationsIn}
+use Rattle.text.specs.Text.{codes, keyed, line}
+use Rattle.resource_line.specs.ResourceLine.{tonesText}
+use Rattle.listed.specs.Listing.{recordLine, resources, ownerIn, staLineAt, stationsIn}
 
 -- "one per User field, channel 1 first": of the i-th User field over both channels, m of which are channel 1's, the channel
 -- and its number there
@@ -30,6 +34,14 @@ wordStation words i = at words (10 + i) / 256 % 2048
 abbrev pub SaysNone : List ℕ → Type 0
 SaysNone t = (rest : List ℕ) × (t ≡ codes "sta=none " ++ rest)
 
+-- a `ru=` line whose tones= are exactly the subcarriers that field j of channel c owns, in the plan of the row r
+pub record TonesOf (r : List ℕ) (c j : ℕ) (text : List ℕ) : Type 0 where
+  pub front : List ℕ
+  pub spans : List Span
+  pub is : text ≡ front ++ codes " tones=" ++ tonesText spans ++ codes "\n"
+  pub owned : (k : ℤ) → Among k spans → OwnsTone (thePlan r) (at r) (length r) c j k
+  pub all-owned : (k : ℤ) → OwnsTone (thePlan r) (at r) (length r) c j k → Among k spans
+
 -- the i-th `sta=` line is that of the i-th User word
 pub record Station (bw : ℕ) (a b r : List ℕ) (m i : ℕ) : Type 0 where
   -- "its line has none for the number, resource= staying": a resource's number, from 1
@@ -45,6 +57,8 @@ pub record Station (bw : ℕ) (a b r : List ℕ) (m i : ℕ) : Type 0 where
   -- and is the one that owns the field
   pub owns : Owns (thePlan r) (at r) (length r) (ownerIn r m i) (channelAt m i) (placeIn m i)
   pub only-owner : (x : ℕ) → Owns (thePlan r) (at r) (length r) x (channelAt m i) (placeIn m i) → x ≡ ownerIn r m i
+  -- its `ru=` line has the subcarriers on which the station is sent its field, and no other
+  pub its-tones : TonesOf r (channelAt m i) (placeIn m i) (recordLine (length r) (getD (resources r) (ownerIn r m i) blank))
 
 -- "stations= leaves it out", of m User fields in channel 1 and k in channel 2
 pub record Counted (bw : ℕ) (a b r : List ℕ) (m k : ℕ) : Type 0 where

@@ -1,10 +1,10 @@
 -- The fields that a resource owns: how many there may be, which is the t-th, and in which order their User words come; for every plan that
 -- signals the row.
-use mathlib.Core.Path.{_≡_, refl, sym, _∙_, ap, subst}
+use mathlib.Core.Path.{_≡_, refl, _∙_, ap, subst}
 use mathlib.Core.Logic.{⊎-elim, _⊎_, inl, inr, _≢_}
-use mathlib.Core.Bool.{true, false}
+use mathlib.Core.Bool.{false}
 use mathlib.Core.List.{List}
-use Prim.Native.Nat.{ℕ, _+_, _-_, _%_, _≤_, _<_}
+use Prim.Native.Nat.{ℕ, _+_, _-_, _≤_, _<_}
 use native.Mathlib.Omega.{arith}
 use lib.ListN.{length}
 use Rattle.resource.specs.Values.{fieldsOf, divides}
@@ -26,7 +26,7 @@ use Rattle.records.proofs.Gives.{low-share, share-fields}
 use Rattle.records.proofs.Homes.{located-below, fit, kind, home-entire, home-whole}
 use Rattle.records.proofs.Shares.{owns-share, owner-listed}
 use Rattle.records.proofs.Counting.{counts-once, counts-below, counts-each, counts-before, counts-same}
-use Rattle.records.proofs.Totals.{own-total, piece-one, all-places, total-place}
+use Rattle.records.proofs.Totals.{own-total, piece-one, all-places}
 
 first : Channel 1
 first = (omega arith, omega arith)
