@@ -6,6 +6,7 @@ use Prim.Native.Nat.{ℕ, _≤_}
 use lib.ListN.{length, take}
 use Rattle.answer.specs.Answer.{no}
 use Rattle.bits.specs.Bits.{Small}
+use Rattle.block.proofs.Remainder.{check-is}
 use Rattle.channel.specs.Layout.{present}
 use Rattle.frame_words.specs.Words.{SameFrame}
 use Rattle.reader.specs.Result.{readAnswer, wordsAfter}
@@ -50,6 +51,7 @@ refused-none d (writes κs a r s p) = thirteen-none κs a r s p
 pub second-demand : Second
 second-demand = record {
   reading-is = is;
+  checks-are = check-is;
   user-words-are = formats;
   words-say-all = all-said;
   writing-gives-back = written-back;

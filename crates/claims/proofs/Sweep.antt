@@ -20,11 +20,12 @@ use Rattle.records.specs.Owns.{ComesFrom}
 use Rattle.records.specs.Engine.{ownerOf}
 use Rattle.records.proofs.Owners.{comes-below, owner-owns}
 use Rattle.records.specs.Demand.{resourceIn}
+use Rattle.records.specs.FieldsOf.{fieldsOn}
 use Rattle.records.proofs.Listing.{same-records}
 use Rattle.records.proofs.Worked.{same-owner}
 use Rattle.listed.specs.Listing.{recordLine}
 use Rattle.claims.specs.Calls.{Call, Reads}
-use Rattle.claims.specs.Formats.{fieldsOn, WordOn, OwnsIn, UserWords}
+use Rattle.claims.specs.Formats.{WordOn, OwnsIn, UserWords}
 use Rattle.claims.specs.Sweep.{Sweeps, PlanOf, elsewhere, tonesIn, Keeps, SameField, FieldShifted, SameOwner, Carries, bitsIn, wordIn, Swept, Sweep}
 use Rattle.claims.proofs.Answers.{all-channels}
 use Rattle.claims.proofs.Second.{second-demand}

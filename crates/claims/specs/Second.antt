@@ -12,6 +12,7 @@ use Prim.Native.Nat.{ℕ, _≤_}
 use lib.ListN.{length, take}
 use Rattle.answer.specs.Answer.{no}
 use Rattle.bits.specs.Bits.{Small}
+use Rattle.block.specs.Remainder.{CheckIs}
 use Rattle.channel.specs.Layout.{present, count}
 use Rattle.frame_words.specs.Words.{SameFrame}
 use Rattle.reader.specs.Result.{readAnswer, wordsAfter}
@@ -40,6 +41,8 @@ pub record Second : Type 1 where
   pub reading-is : (c : Call) → Reads c
       → (c .answer ≡ readAnswer (c .bandwidth) (c .channel-1) (c .channel-2) (length (c .lent)))
       × (c .after ≡ wordsAfter (c .bandwidth) (c .channel-1) (c .channel-2) (c .lent))
+  -- "checks": the check of any bits is made of their remainder by x^8+x^2+x+1, and of no other number
+  pub checks-are : (s : List ℕ) (at n : ℕ) → CheckIs s at n
   -- "User fields, words.": each User word is that of its field, in the format of the resource that owns it in any plan of the row
   pub user-words-are : (c : Call) → Reads c → c .answer .number ≡ 0
       → UserWords (c .bandwidth) (c .channel-1) (c .channel-2) (c .after)
