@@ -1,10 +1,11 @@
-/* driver SEED COUNT: holds the C entries of libbrachymel.a to the reference.
+/* driver [--until-wrong PART] SEED COUNT: holds the C entries of libbrachymel.a to the reference.
  *
  * Makes calls over every length from 0 and every bit, and then COUNT calls drawn from the seed, and compares
  * with the reference the answer and every byte that was lent, and those around it. Each buffer lies against a
  * page that cannot be touched, before it or after it, or at an odd address between bytes that must stay as they
  * are; an empty one is NULL now and then. What the buffers held before is a pattern that changes from call to
- * call. Every answer number has to be met. The last line is 'N passed, M failed'.
+ * call. Every answer number has to be met. The last line is 'N passed, M failed'. With --until-wrong it makes only the
+ * calls of one part ("frames", "triggers" or "comparisons"; they are the same ones) and ends at the first that is wrong.
  */
 #define _DEFAULT_SOURCE
 #include "driver.h"
@@ -18,6 +19,7 @@
 
 static unsigned long long seed;
 static unsigned long calls, wrong;
+static const char *part; /* the only one, until something is wrong; NULL: all, whatever is wrong */
 const char *in_call = "no call";
 
 /* ---- memory to lend */
@@ -76,6 +78,20 @@ const char *const entry_name[ENTRIES] = {"brachymel_read", "brachymel_write", "b
                                          "brachymel_trigger_overlaps", "brachymel_compare"};
 static unsigned long met[ENTRIES][32];
 
+static int sum_up(void)
+{
+    printf("%lu passed, %lu failed\n", calls - wrong, wrong);
+    return wrong == 0 ? 0 : 1;
+}
+
+/* A call more, or something else that is held. */
+static void one_more(void)
+{
+    if (part != NULL && wrong != 0)
+        exit(sum_up());
+    calls++;
+}
+
 int is_told(void)
 {
     return wrong <= 5;
@@ -86,7 +102,7 @@ int compare(int entry, answer should, brachymel_answer is)
     int right = should.number == is.number && should.channel == is.channel && should.place == is.place;
     int kept = is_as_it_should_be(&cc1) && is_as_it_should_be(&cc2) && is_as_it_should_be(&other1)
         && is_as_it_should_be(&other2) && is_as_it_should_be(&other);
-    calls++;
+    one_more();
     met[entry][should.number]++;
     if (right && kept)
         return 1;
@@ -101,7 +117,7 @@ int compare(int entry, answer should, brachymel_answer is)
 
 void hold(int holds, const char *what)
 {
-    calls++;
+    one_more();
     if (holds)
         return;
     wrong++;
@@ -258,7 +274,7 @@ static void every_length(chance *c, unsigned bandwidth)
 /* A size of the header is just what the largest frame needs. */
 static void hold_size(const char *name, unsigned long size, unsigned long long needed)
 {
-    calls++;
+    one_more();
     if (needed == size)
         return;
     wrong++;
@@ -362,7 +378,7 @@ static void fell(int signal)
 }
 
 /* Each entry's answers, with how often each was met; one that was not met is a failure of this driver. */
-static unsigned not_met(void)
+static void hold_met(void)
 {
     static const struct {
         unsigned how_many;
@@ -384,20 +400,42 @@ static unsigned not_met(void)
     }
     if (missing != 0)
         printf("driver: %u answers were not met\n", missing);
-    return missing;
+    calls += missing;
+    wrong += missing;
+}
+
+static int is_in(const char *one)
+{
+    return part == NULL || strcmp(part, one) == 0;
+}
+
+static void every_frame(unsigned long drawn)
+{
+    chance c = chance_from(seed, 'C');
+    largest(&c);
+    unassigned(&c);
+    every_cut(&c);
+    for (unsigned bandwidth = 0; bandwidth <= 4; bandwidth++) {
+        every_length(&c, bandwidth);
+        every_bit(&c, bandwidth);
+    }
+    every_wide(&c);
+    for (unsigned long n = 0; n < drawn; n++)
+        any_call(&c);
 }
 
 int main(int argc, char **argv)
 {
     chance c;
     unsigned long count;
-    unsigned missing;
-    if (argc != 3) {
-        fprintf(stderr, "usage: driver SEED COUNT\n");
+    if (argc == 5 && strcmp(argv[1], "--until-wrong") == 0)
+        part = argv[2];
+    if (argc != (part == NULL ? 3 : 5)) {
+        fprintf(stderr, "usage: driver [--until-wrong PART] SEED COUNT\n");
         return 2;
     }
-    seed = strtoull(argv[1], NULL, 10);
-    count = strtoul(argv[2], NULL, 10);
+    seed = strtoull(argv[argc - 2], NULL, 10);
+    count = strtoul(argv[argc - 1], NULL, 10);
     printf("driver: seed %llu\n", seed);
     fflush(stdout);
     signal(SIGSEGV, fell);
@@ -410,22 +448,15 @@ int main(int argc, char **argv)
     prepare(&other1);
     prepare(&other2);
     prepare(&other);
-    c = chance_from(seed, 'C');
-    largest(&c);
-    unassigned(&c);
-    every_cut(&c);
-    for (unsigned bandwidth = 0; bandwidth <= 4; bandwidth++) {
-        every_length(&c, bandwidth);
-        every_bit(&c, bandwidth);
-    }
-    every_wide(&c);
-    for (unsigned long n = 0; n < count; n++)
-        any_call(&c);
+    if (is_in("frames"))
+        every_frame(count);
     c = chance_from(seed, 'G');
-    every_trigger(&c, count / 15);
+    if (is_in("triggers"))
+        every_trigger(&c, count / 15);
     c = chance_from(seed, 'T');
-    every_comparison(&c, count / 30);
-    missing = not_met();
-    printf("%lu passed, %lu failed\n", calls - wrong, wrong + missing);
-    return wrong + missing == 0 ? 0 : 1;
+    if (is_in("comparisons"))
+        every_comparison(&c, count / 30);
+    if (part == NULL)
+        hold_met();
+    return sum_up();
 }

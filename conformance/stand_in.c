@@ -1,5 +1,6 @@
-/* The C entries, carried out by the reference: what the driver is tried on where there is no library. With
- * FAULT set to a number it is wrong in one way, which the driver has to see. */
+/* The C entries, carried out by the reference: what the driver is tried on where there is no library. With FAULT set to a
+ * number in the environment it is wrong in one way, which the driver has to see. Each FAULT stands under the heading of
+ * the entries that it is in: conformance/faults tries it on the driver's calls of these. */
 #include "brachymel.h"
 #include "reference/reference.h"
 
@@ -7,15 +8,22 @@
 #include <stdlib.h>
 #include <string.h>
 
-#ifndef FAULT
-#define FAULT 0
-#endif
+static int fault(void)
+{
+    static int is = -1;
+    if (is < 0)
+        is = getenv("FAULT") == NULL ? 0 : atoi(getenv("FAULT"));
+    return is;
+}
+#define FAULT fault()
 
 static brachymel_answer as_answer(answer a)
 {
     brachymel_answer b = {a.number, a.channel, a.place};
     return b;
 }
+
+/* ---- frames read, written and listed */
 
 static unsigned users_told(unsigned bandwidth, const uint8_t *s, size_t length)
 {
