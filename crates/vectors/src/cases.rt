@@ -174,7 +174,7 @@ fn by_letter(line: &[u8], letter: u8) {
 }
 
 // The answer to a line, as a line.
-pub fn respond(line: &[u8]) {
+pub(crate) fn respond(line: &[u8]) {
     by_letter(line, bits::byte_at(line, 0));
     text(b"\n");
 }

@@ -5,7 +5,7 @@ use crate::print::words as print_words;
 use crate::words::number;
 use crate::words::string;
 
-pub fn bandwidth(line: &[u8]) -> u32 {
+pub(crate) fn bandwidth(line: &[u8]) -> u32 {
     (number(line, 1) % 4294967296) as u32
 }
 
@@ -36,7 +36,7 @@ fn lend_words(words: &mut [u32; 256], line: &[u8]) {
 }
 
 // R bw S T room: what reading S and T into `room` words, at most 256, comes to.
-pub fn read(line: &[u8]) {
+pub(crate) fn read(line: &[u8]) {
     let mut words = [0xA5A5A5A5u32; 256];
     lend_words(&mut words, line);
 }

@@ -7,21 +7,21 @@ ghost use Prim.Native.Nat.{_≤_, _%_};
 ghost use lib.ListN.{length, take};
 ghost use Rattle.vectors.specs.Text.{glyphOf};
 
-pub fn text(s: &[u8]) {
+pub(crate) fn text(s: &[u8]) {
     io::write_all(STDOUT_FILENO, s);
 }
 
 // What answers a line that is no case.
-pub fn no_case() {
+pub(crate) fn no_case() {
     text(b"?");
 }
 
-pub fn number(n: u64) {
+pub(crate) fn number(n: u64) {
     io::print_decimal(STDOUT_FILENO, n);
 }
 
 // A space and a number.
-pub fn next(n: u64) {
+pub(crate) fn next(n: u64) {
     text(b" ");
     number(n);
 }
@@ -49,7 +49,7 @@ fn encode(s: &[u8], out: &mut [u8]) -> usize
 }
 
 // A byte string: pairs of capital hex digits, `-` where empty.
-pub fn bytes(s: &[u8]) {
+pub(crate) fn bytes(s: &[u8]) {
     if s.len() == 0 {
         text(b"-");
         return;
@@ -60,7 +60,7 @@ pub fn bytes(s: &[u8]) {
 }
 
 // What a call answers.
-pub fn answer(a: Answer) {
+pub(crate) fn answer(a: Answer) {
     number(a.number as u64);
     text(b" ");
     number(a.channel as u64);
@@ -90,7 +90,7 @@ fn word(w: u32) {
 }
 
 // The first 160 words.
-pub fn words(s: &[u32]) {
+pub(crate) fn words(s: &[u32]) {
     let n = lesser(s.len(), 160);
     let mut i = 0;
     while i < n {

@@ -22,7 +22,7 @@ ghost use Rattle.plan.specs.Engine.{kindsOf};
 ghost use Rattle.resource.specs.Values.{ownPieces};
 
 // Whether a line's words are a row of 1, 2, 4, 8 or 16 values.
-pub fn is_row(line: &[u8]) -> bool {
+pub(crate) fn is_row(line: &[u8]) -> bool {
     match words(line) {
         2 => has(line, b"n"),
         3 => has(line, b"nn"),
@@ -259,7 +259,7 @@ fn lend_row(row: &mut [u16; 16], line: &[u8]) {
 }
 
 // r v v ..: what a row of values comes to.
-pub fn row(line: &[u8]) {
+pub(crate) fn row(line: &[u8]) {
     let mut row = [0u16; 16];
     lend_row(&mut row, line);
 }

@@ -45,7 +45,7 @@ fn print_channel(c: Channel)
 }
 
 // w bw S: what walking S, a channel of bandwidth code bw, comes to.
-pub fn walk(line: &[u8]) {
+pub(crate) fn walk(line: &[u8]) {
     let mut space = io::buffer();
     let bw = bandwidth(line);
     if 4 < bw {

@@ -5,7 +5,7 @@ ghost use lib.ListN.{length, take};
 ghost use Rattle.vectors.specs.Text.{withDigit, decimalOf, hexOf, unread};
 
 // What a word that is no number below this is read as.
-pub const UNREAD: usize = 100000000000000000;
+const UNREAD: usize = 100000000000000000;
 
 // The first place from `at` on that holds `b`; the end where there is none.
 fn next(s: &[u8], at: usize, b: u8) -> usize
@@ -23,7 +23,7 @@ fn next(s: &[u8], at: usize, b: u8) -> usize
 }
 
 // Where the line that starts at a place ends.
-pub fn line_end(s: &[u8], at: usize) -> usize
+pub(crate) fn line_end(s: &[u8], at: usize) -> usize
     requires { ⌜ at ≤ length (now s) ⌝ }
     ensures { λ r. ⌜ (at ≤ r) × (r ≤ length (now (s .entry))) ⌝ }
 {
@@ -31,7 +31,7 @@ pub fn line_end(s: &[u8], at: usize) -> usize
 }
 
 // Where the word that starts at a place ends.
-pub fn word_end(s: &[u8], at: usize) -> usize
+pub(crate) fn word_end(s: &[u8], at: usize) -> usize
     requires { ⌜ at ≤ length (now s) ⌝ }
     ensures { λ r. ⌜ (at ≤ r) × (r ≤ length (now (s .entry))) ⌝ }
 {
@@ -39,7 +39,7 @@ pub fn word_end(s: &[u8], at: usize) -> usize
 }
 
 // Where word k starts, the first being 0; the end where there are fewer.
-pub fn word_at(s: &[u8], k: usize) -> usize
+pub(crate) fn word_at(s: &[u8], k: usize) -> usize
     ensures { λ r. ⌜ r ≤ length (now (s .entry)) ⌝ }
 {
     let mut at = 0;
@@ -56,7 +56,7 @@ pub fn word_at(s: &[u8], k: usize) -> usize
 }
 
 // How many words a line has.
-pub fn words(s: &[u8]) -> usize {
+pub(crate) fn words(s: &[u8]) -> usize {
     let mut n: usize = 1;
     let mut i = 0;
     while i < s.len() {
@@ -103,7 +103,7 @@ fn number_of(s: &[u8]) -> usize
 }
 
 // Word k as a number.
-pub fn number(s: &[u8], k: usize) -> usize
+pub(crate) fn number(s: &[u8], k: usize) -> usize
     ensures { λ r. ⌜ r ≤ unread ⌝ }
 {
     let a = word_at(s, k);
@@ -153,7 +153,7 @@ fn pair(high: u8, low: u8) -> u8 {
 }
 
 // The lesser of two numbers.
-pub fn lesser(a: usize, b: usize) -> usize
+pub(crate) fn lesser(a: usize, b: usize) -> usize
     ensures { λ r. ⌜ (r ≤ a) × (r ≤ b) ⌝ }
 {
     if a < b { a } else { b }
@@ -173,7 +173,7 @@ fn decode(s: &[u8], out: &mut [u8]) -> usize
 }
 
 // Word k's bytes, and how many they are.
-pub fn string(s: &[u8], k: usize, out: &mut [u8]) -> usize
+pub(crate) fn string(s: &[u8], k: usize, out: &mut [u8]) -> usize
     ensures { λ r. ⌜ (r ≤ length (now (out .exit))) × (r ≡ length (take r (now (out .exit)))) ⌝ }
 {
     let a = word_at(s, k);
@@ -192,7 +192,7 @@ fn is_kind(s: &[u8], k: usize, kind: u8) -> bool {
 }
 
 // Whether a line has exactly the words that its kinds say, after a letter.
-pub fn has(s: &[u8], kinds: &[u8]) -> bool {
+pub(crate) fn has(s: &[u8], kinds: &[u8]) -> bool {
     if word_end(s, 0) != 1 {
         return false;
     }

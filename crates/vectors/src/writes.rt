@@ -85,7 +85,7 @@ fn lend_words(words: &mut [u32; 256], line: &[u8]) {
 }
 
 // W bw WORDS room1 room2: what writing WORDS, little-endian, into room1 and room2 bytes, at most 640 each, comes to.
-pub fn write(line: &[u8]) {
+pub(crate) fn write(line: &[u8]) {
     let mut words = [0u32; 256];
     lend_words(&mut words, line);
 }
