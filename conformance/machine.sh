@@ -1,23 +1,21 @@
 # Read by the scripts here and in bench/: the compilers, and how a program for x86-64 is run. Works on
 # x86-64 and on Arm.
 
-# Installs packages where that is possible.
-install_packages() { # PACKAGE..
-    [ "$(id -u)" = 0 ] && command -v apt-get >/dev/null 2>&1 || return 0
-    echo "installing $*"
-    apt-get install -y -q --no-install-recommends "$@" >/dev/null 2>&1 ||
-        { apt-get update -q >/dev/null && apt-get install -y -q --no-install-recommends "$@" >/dev/null; } || true
+is_here() { # COMMAND, or a file by its path
+    command -v "$1" >/dev/null 2>&1 || [ -f "$1" ]
 }
 
-# Sees that a command is there, or a file by its path; installs the packages that bring it where that is possible.
+# Sees that a command or a file is there; installs the packages that bring it where that is possible.
 need() { # COMMAND PACKAGE..
     wanted=$1
     shift
-    command -v "$wanted" >/dev/null 2>&1 || [ -f "$wanted" ] || {
-        echo "there is no $wanted"
-        install_packages "$@"
-        command -v "$wanted" >/dev/null 2>&1 || [ -f "$wanted" ] || { echo "there is no $wanted: install the packages $*"; exit 2; }
-    }
+    is_here "$wanted" && return
+    if [ "$(id -u)" = 0 ] && command -v apt-get >/dev/null 2>&1; then
+        echo "there is no $wanted: installing $*"
+        apt-get install -y -q --no-install-recommends "$@" >/dev/null 2>&1 ||
+            { apt-get update -q >/dev/null && apt-get install -y -q --no-install-recommends "$@" >/dev/null; } || true
+    fi
+    is_here "$wanted" || { echo "there is no $wanted: install the packages $*"; exit 2; }
 }
 
 # Sets kit, what the kit of `rt` has for this machine, and emulator, which is empty where none is needed.
