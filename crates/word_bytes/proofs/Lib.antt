@@ -1,3 +1,4 @@
 pub mod Four
 pub mod Back
 pub mod Agree
+pub mod Inverse

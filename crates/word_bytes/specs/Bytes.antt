@@ -17,3 +17,7 @@ wordAt t i = at t (4 * i) + 256 * (at t (4 * i + 1) + 256 * (at t (4 * i + 2) + 
 
 abbrev pub wordsIn : List ℕ → List ℕ
 wordsIn t = build (wordAt t) (length t / 4)
+
+-- the bytes of words
+abbrev pub bytesIn : List ℕ → List ℕ
+bytesIn ws = build (byteAt ws) (4 * length ws)
