@@ -1,4 +1,5 @@
 pub mod Exact
+pub mod FirstWrong
 pub mod Worked
 pub mod Agree
 pub mod Turns

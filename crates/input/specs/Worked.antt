@@ -15,6 +15,7 @@ pub data Said : Type 0 where
   wrong : ℕ → Said
   frame : ℕ → List ℕ → List ℕ → Said
 
+-- by what `parse` found: the number of a wrong line is the place, and as many pairs as were found are the bytes
 abbrev pub saidBy : List ℕ → Parsed → Said
 saidBy s (Wrong k) = wrong k
 saidBy s (Lines d n m) = frame d (bytesAt s 9 n) (bytesAt s (secondAt n) m)
@@ -29,9 +30,14 @@ pub record TextOf (s : List ℕ) (d : ℕ) (a b : List ℕ) : Type 0 where
   pub is : s ≡ textOf d a b
   pub most : length s ≤ 8192
 
+-- 22: "program text over 8,192 bytes, else not the three lines named under Listing | 0, 0; else first wrong line"
+abbrev pub PlaceOf22 : ℕ → List ℕ → Type 0
+PlaceOf22 k s = ((8192 < length s) × (k ≡ 0)) ⊎ ((length s ≤ 8192) × Wrong-line k s)
+
 pub record Worked (s : List ℕ) : Type 0 where
   -- a text says a frame exactly where it is the frame's text
   pub says : (d : ℕ) (a b : List ℕ) → TextOf s d a b → said s ≡ frame d a b
   pub is-said : (d : ℕ) (a b : List ℕ) → said s ≡ frame d a b → TextOf s d a b
-  -- 22: "program text over 8,192 bytes, else not the three lines named under Listing | 0, 0; else first wrong line"
-  pub is-wrong : (k : ℕ) → said s ≡ wrong k → ((8192 < length s) × (k ≡ 0)) ⊎ ((length s ≤ 8192) × Wrong-line k s)
+  -- and a place exactly where it is 22's
+  pub is-wrong : (k : ℕ) → said s ≡ wrong k → PlaceOf22 k s
+  pub wrong-said : (k : ℕ) → PlaceOf22 k s → said s ≡ wrong k

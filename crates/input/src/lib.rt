@@ -15,10 +15,10 @@ ghost use Rattle.input.specs.Engine.{
   afterOne,
   firstThree,
   threeLines,
-  parsed,
   pairOf,
   byteOf,
 };
+ghost use Rattle.input.specs.Worked.{saidBy, said};
 
 enum Scan {
     Bad,
@@ -180,7 +180,7 @@ pub fn three_lines(s: &[u8]) -> Parsed
 
 // The program's text: "over 8,192 bytes, else not the three lines".
 pub fn parse(s: &[u8]) -> Parsed
-    ensures { λ r. ⌜ r ≡ parsed (now (s .entry)) ⌝ }
+    ensures { λ r. ⌜ saidBy (now (s .entry)) r ≡ said (now (s .entry)) ⌝ }
 {
     if 8192 < s.len() {
         Parsed::Wrong(0)

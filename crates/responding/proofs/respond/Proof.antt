@@ -1,8 +1,8 @@
 -- `responding::respond` meets its contract.
 use native.Mathlib.Omega.{arith}
-use mathlib.Core.Path.{sym, _∙_}
-use Rattle.input.specs.Worked.{said}
-use Rattle.input.proofs.Exact.{few}
+use mathlib.Core.Path.{sym, _∙_, ap}
+use Rattle.input.specs.Worked.{saidBy}
+use Rattle.input.proofs.Worked.{few-said}
 use Rattle.listed.specs.Listing.{programText}
 use borrow.Author.Needs.{needs}
 use Rattle.responding.proofs.respond.Statement.{statement}
@@ -24,25 +24,28 @@ put-lines-requires : tie.Need-put-lines-requires
 put-lines-requires c κs =
     let found = c .before .before in
     let asked = found .before .before in
-    let h = few (asked .before .before .before .args .text .now) _ _ _ (sym (asked .parse .ensures) ∙ found .parsed2 .given .1) in
+    let s = asked .before .before .before .args .text .now in
+    let h = few-said s _ _ _ (ap (saidBy s) (sym (found .parsed2 .given .1)) ∙ asked .parse .ensures) in
     (omega arith, omega arith)
 
 same-length : tie.Need-same-length
 same-length c = search needs
 
 returns : tie.Need-returns
-unfolding programText said
+unfolding programText
 returns c =
-    let e = sym (c .before .before .before .before .before .before .before .parse .ensures) ∙ c .before .before .before .before .before .parsed .given .1 in
+    let e = sym (c .before .before .before .before .before .before .before .parse .ensures)
+    ∙ ap (saidBy _) (c .before .before .before .before .before .parsed .given .1) in
     rw e (c .before .before .put-refusal .ensures .0)
 
 same-length-2 : tie.Need-same-length-2
 same-length-2 c = search needs
 
 returns-2 : tie.Need-returns-2
-unfolding programText said
+unfolding programText
 returns-2 c =
-    let e = sym (c .before .before .before .before .before .before .before .parse .ensures) ∙ c .before .before .before .before .before .parsed2 .given .1 in
+    let e = sym (c .before .before .before .before .before .before .before .parse .ensures)
+    ∙ ap (saidBy _) (c .before .before .before .before .before .parsed2 .given .1) in
     rw e (c .before .before .put-lines .ensures)
 
 pub respond-spec : {M : Type 1} → statement M
