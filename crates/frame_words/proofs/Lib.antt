@@ -5,3 +5,4 @@ pub mod Counts
 pub mod Agree
 pub mod Determine
 pub mod Counted
+pub mod Below
