@@ -15,3 +15,6 @@ pub mod Swept
 pub mod SweptOwners
 pub mod SweptRows
 pub mod Sweep
+pub mod InWords
+pub mod FromC
+pub mod Program

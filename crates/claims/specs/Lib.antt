@@ -9,3 +9,5 @@ pub mod CutShort
 pub mod Trigger
 pub mod Compared
 pub mod Sweep
+pub mod FromC
+pub mod Program
