@@ -4,15 +4,16 @@ use mathlib.Core.Bool.{Bool, true, false}
 use mathlib.Core.List.{List, [], _∷_, _++_, append-nil}
 use Prim.Native.Nat.{ℕ, _+_, _*_, _≤_, _<_}
 use native.Mathlib.Omega.{arith}
-use mathlib.Core.Logic.{_⊎_, inl, inr}
+use mathlib.Core.Logic.{inl, inr}
 use borrow.Author.Tests.{le-ltb, eq-eqb, ltb-true, ltb-false, eqb-true}
 use lib.Dec.{ltb, eqb}
 use lib.ListN.{length, drop, length-drop}
 use Rattle.answer.proofs.Lists.{length-build}
 use Rattle.input.specs.declared.Parsed.{Parsed}
 use Rattle.input.specs.declared.Parsed.the-variants.{Wrong, Lines}
-use Rattle.input.specs.Form.{Bytes, textOf, Wrong-line}
+use Rattle.input.specs.Form.{Bytes, textOf}
 use Rattle.input.specs.Engine.{pick, firstThree, pastThree, nothingAfter, threeLines, parsed, byteOf, bytesAt, secondAt}
+use Rattle.input.specs.Worked.{PlaceOf22}
 use Rattle.input.proofs.Lines.{length-text}
 use Rattle.input.proofs.Front.{no-lines, front-read, Front, front-is}
 use Rattle.input.proofs.Wrong.{wrong-line}
@@ -67,11 +68,11 @@ text-read d a b l h k =
     }
 
 -- ---- 22: "program text over 8,192 bytes, else not the three lines named under Listing | 0, 0; else first wrong line"
-pub refused : (s : List ℕ) (k : ℕ) → parsed s ≡ Wrong k → ((8192 < length s) × (k ≡ 0)) ⊎ ((length s ≤ 8192) × Wrong-line k s)
+pub refused : (s : List ℕ) (k : ℕ) → parsed s ≡ Wrong k → PlaceOf22 k s
 unfolding parsed
 refused s k e = go (ltb 8192 (length s)) refl e
   where
-    go : (b : Bool) → ltb 8192 (length s) ≡ b → pick b (Wrong 0) (threeLines s) ≡ Wrong k → ((8192 < length s) × (k ≡ 0)) ⊎ ((length s ≤ 8192) × Wrong-line k s)
+    go : (b : Bool) → ltb 8192 (length s) ≡ b → pick b (Wrong 0) (threeLines s) ≡ Wrong k → PlaceOf22 k s
     go true f e = inl (ltb-true 8192 (length s) f, cc)
     go false f e = inr (ltb-false 8192 (length s) f, wrong-line s k e)
 
