@@ -1,7 +1,7 @@
 -- The program has the first demand.
 use mathlib.Core.Path.{_≡_, refl, sym, _∙_, ap}
 use mathlib.Core.Logic.{_⊎_}
-use mathlib.Core.List.{List, _++_}
+use mathlib.Core.List.{List, _++_, append-assoc}
 use Prim.Native.Nat.{ℕ, _≤_, _<_}
 use native.Mathlib.Decide.{decLt}
 use native.Mathlib.Omega.{arith}
@@ -21,16 +21,17 @@ use Rattle.reader.specs.Table.{check12, noRoom, readChecks, readNumbers}
 use Rattle.reader.specs.Result.{readAnswer}
 use Rattle.reader.proofs.Stages.{readOutcome-stages}
 use Rattle.reader.proofs.Exactly as reading
-use Rattle.text.specs.Text.{Wrote}
+use Rattle.text.specs.Text.{codes, line, Wrote}
 use Rattle.text.proofs.Laws.{front, count as written}
 use Rattle.input.specs.Worked.{Said, wrong, frame, said, TextOf}
 use Rattle.input.proofs.Worked.{worked}
-use Rattle.lines.specs.Lines.{refusalText}
-use Rattle.listed.specs.Listing.{frameText, programText}
+use Rattle.lines.specs.Lines.{refusalText, headText}
+use Rattle.listed.specs.Listing.{listingOf, listing, frameText, programText}
 use Rattle.listing.proofs.Facts.{read-refuses}
 use Rattle.listing_size.proofs.Longest.{respond-most}
 use Rattle.claims.specs.Calls.{Call, TextCall, Responds, responds}
-use Rattle.claims.specs.Program.{Response, says-22, says-refusal, says-listing, Gets, gets-22, gets-refusal, gets-listing, textFor, Reading, Program}
+use Rattle.claims.specs.Program.{Response, says-22, says-refusal, says-listing, Gets, gets-22, gets-refusal, gets-listing, textFor, numberIn, Reading}
+use Rattle.claims.specs.Program.{Program}
 use Rattle.claims.proofs.Compared.{compares-say}
 
 -- ---- a refusal by 1 to 11
@@ -108,6 +109,23 @@ writes c h x g =
     let n = written w in
     (n, λ l. front (omega (arith, n)) w ∙ ap (λ (k : ℕ). textFor x ++ drop k (c .lent)) (sym n))
 
+-- a text t that begins with the line h, and with u after it
+record Begins (h t : List ℕ) : Type 0 where
+  pub rest : List ℕ
+  pub is : t ≡ h ++ rest
+
+then : {h t : List ℕ} (u : List ℕ) → Begins h t → Begins h (t ++ u)
+then {h} u b = record { rest = b .rest ++ u; is = ap (λ (v : List ℕ). v ++ u) (b .is) ∙ append-assoc h (b .rest) u }
+
+alone : (h u : List ℕ) → Begins h (h ++ u)
+alone h u = record { rest = u; is = refl }
+
+begins : (x : Response) → Begins (line (codes "answer=") (numberIn x)) (textFor x)
+unfolding listing listingOf headText
+begins (says-22 k) = then _ (alone (line (codes "answer=") 22) _)
+begins (says-refusal x) = then _ (alone (line (codes "answer=") (x .number)) _)
+begins (says-listing bw a b) = then _ (then _ (then _ (then _ (then _ (then _ (alone (line (codes "answer=") 0) _))))))
+
 -- ---- readings of the frame that a text spells
 the-frame : (s : List ℕ) (bw : ℕ) (a b : List ℕ) (o : Outcome) (c : Call) → Reading s c → TextOf s bw a b → outcome11 bw a b ≡ o
     → outcome11 (c .bandwidth) (c .channel-1) (c .channel-2) ≡ o
@@ -137,6 +155,7 @@ pub program : Program
 program = record {
   exactly-one = λ s. (response (said s), gets s, gets-only s);
   writes = writes;
+  first-line = λ x. (begins x .rest, begins x .is);
   as-read = as-read;
   or-read = or-read;
   always-room = λ c h. respond-most (c .text) (responds-with c h);

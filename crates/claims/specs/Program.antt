@@ -40,6 +40,12 @@ textFor (says-22 k) = linesFor 22 0 k
 textFor (says-refusal x) = linesFor (x .number) (x .channel) (x .place)
 textFor (says-listing bw a b) = listing bw a b
 
+-- "answer=": 0 with a listing, else the refusal's number
+abbrev pub numberIn : Response → ℕ
+numberIn (says-22 k) = 22
+numberIn (says-refusal x) = x .number
+numberIn (says-listing bw a b) = 0
+
 -- a reading of the frame that the text s spells
 pub record Reading (s : List ℕ) (c : Call) : Type 0 where
   pub is-read : Reads c
@@ -51,6 +57,8 @@ pub record Program : Type 0 where
   -- and it is what is written
   pub writes : (c : TextCall) → Responds c → (x : Response) → Gets (c .text) x
       → (c .bytes ≡ length (textFor x)) × (c .bytes ≤ length (c .lent) → c .after ≡ textFor x ++ drop (c .bytes) (c .lent))
+  -- its first line tells which
+  pub first-line : (x : Response) → (rest : List ℕ) × (textFor x ≡ line (codes "answer=") (numberIn x) ++ rest)
   -- a refusal is the one that every reading of the frame gives, 1 to 11; where there is none, a reading gives the words, or 12
   pub as-read : (s : List ℕ) (c : Call) → Reading s c → (x : Answer) → Gets s (says-refusal x)
       → (c .answer ≡ x) × (1 ≤ x .number) × (x .number ≤ 11)
