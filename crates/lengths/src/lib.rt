@@ -2,10 +2,10 @@
 use answer::Answer;
 use answer::Outcome;
 ghost use mathlib.Core.Path.{_≡_};
-ghost use Prim.Native.Nat.{_≤_};
+ghost use Prim.Native.Nat.{_*_, _≤_, _<_};
 ghost use lib.ListN.{length};
 ghost use Rattle.bits.specs.Bits.{lacks};
-ghost use Rattle.channel.specs.Layout.{count};
+ghost use Rattle.channel.specs.Layout.{common, count, endOf};
 ghost use Rattle.channel.specs.Fields.{namedFields};
 ghost use Rattle.faults.specs.RanOut.{ranOutAt};
 ghost use Rattle.faults.specs.Checks.{tooLong, shortCommon, cutCommon, shortUsers, cutUsers};
@@ -79,6 +79,26 @@ pub fn cut_common(bw: u32, channel: u32, s: &[u8]) -> Outcome
     })
 }
 
+// The same of a channel whose common field is whole and whose User blocks are not: the block in which its bits run out, and there the field,
+// the check or the tail.
+fn users_ran_out_at(bw: u32, s: &[u8], n: usize) -> usize
+    requires { ⌜ (length (now s) ≤ 512) × (n ≤ 72) × (common bw ≤ 8 * length (now s)) × (8 * length (now s) < endOf bw n) ⌝ }
+    ensures { λ r. ⌜ r ≡ ranOutAt (now (s .entry)) (namedFields bw n) ⌝ }
+{
+    let past = 8 * s.len() - channel::common_bits(bw);
+    let b = past / 54;
+    let r = past % 54;
+    let at = channel::block_bit(bw, b);
+    let c = channel::covered_bits(n, b);
+    if r < 22 {
+        return at;
+    }
+    if r < c {
+        return at + 22;
+    }
+    if r < c + 4 { at + c } else { at + c + 4 }
+}
+
 pub fn is_short_users(bw: u32, s: &[u8], n: usize) -> bool
     requires { ⌜ (length (now s) ≤ 512) × (n ≤ 72) ⌝ }
     ensures { λ r. ⌜ r ≡ shortUsers bw n (now (s .entry)) ⌝ }
@@ -94,7 +114,11 @@ pub fn cut_users(bw: u32, channel: u32, s: &[u8], n: usize) -> Outcome
     if !is_short_users(bw, s, n) {
         return Outcome::Pass;
     }
-    let place = ran_out_at(bw, s, n);
+    let place = if 8 * s.len() < channel::common_bits(bw) {
+        ran_out_at(bw, s, n)
+    } else {
+        users_ran_out_at(bw, s, n)
+    };
     Outcome::Refuse(Answer {
         number: 9,
         channel,
