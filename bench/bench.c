@@ -4,22 +4,22 @@
  * bench --trigger-calls KIND SIDE TIMES: the same of a Trigger's entries (triggers.c).
  * bench --compare-calls KIND SIDE TIMES: the same of two frames (compares.c).
  *
- * For each kind of frame the library and the baseline are timed in turn, round by round, in one process: nanoseconds
- * per frame in the best round of each, and the library's ratio to the baseline, the median over the rounds. Before
- * that both are held to the reference on every frame. The frames: of each bandwidth with few User fields, drawn at
- * random, and all 0, with the geometric mean of their ratios and the worst of them, none of these with a resource wider than a
- * segment; then of 160 and 320 MHz with such resources; and of each refusal. Then two frames compared (compares.c), a Trigger's
- * entries (triggers.c), and the check alone (check.c).
+ * For each kind of frame the library and the baseline are timed in turn, round by round, in one process: nanoseconds per frame in
+ * the best round of each, and the library's ratio to the baseline, the median over the rounds. Before that both are held to the
+ * reference on every frame, and the baseline on drawn ones (drawn.c). One table has reading, writing and listing: frames of each
+ * bandwidth with few User fields, drawn at random, and all 0, none of these with a resource wider than a segment; then of 160 and
+ * 320 MHz with such resources; with the geometric mean of the ratios and the worst of them. Then each refusal, reading by the
+ * number of fields, two frames compared (compares.c), a Trigger's entries (triggers.c), and the check alone (check.c).
  */
 #include "cases/cases.h"
 #include "check.h"
 #include "compares.h"
+#include "drawn.h"
 #include "fast.h"
 #include "reference/reference.h"
 #include "rounds.h"
 #include "triggers.h"
 
-#include <math.h>
 #include <stdio.h>
 #include <stdlib.h>
 #include <string.h>
@@ -33,7 +33,8 @@ static reads *const read_of[SIDES] = {brachymel_read, fast_read};
 static writes *const write_of[SIDES] = {brachymel_write, fast_write};
 static reads *const list_of[SIDES] = {brachymel_list, fast_list};
 
-enum { READ, WRITE, LIST };
+enum { READ, WRITE, LIST, ENTRIES };
+static const char *const entry_name[ENTRIES] = {"reading", "writing", "listing"};
 static int entry;
 static frame frames[FRAMES];                    /* to read and list */
 static words_case words[FRAMES];                /* to write */
@@ -87,12 +88,16 @@ static void hold_to_reference(int side)
     }
 }
 
-/* Returns the ratio. */
-static double print_kind(const char *name)
+static void hold_sides(void)
 {
     for (int side = 0; side < SIDES; side++)
         hold_to_reference(side);
-    return print_line(name, call_all, used);
+}
+
+static void print_kind(const char *name)
+{
+    hold_sides();
+    print_line(name, call_all, used);
 }
 
 /* ---- the frames */
@@ -169,7 +174,8 @@ static void of_one_station(void)
 /* ---- the tables */
 
 enum { FEW, RANDOM, ALL_0, ONE_WIDE, WIDE_MANY, WIDE_RANDOM };
-static const char *const kind_name[] = {"few fields", "random", "all 0", "one wide, one field", "wide, many fields", "wide, random"};
+static const char *const kind_name[] = {"few fields", "random", "all 0",
+                                        "one wide, one field", "wide, many fields", "wide, random"};
 
 /* Frames of a bandwidth with few User fields, drawn at random, or with all values 0. Of 160 and 320 MHz also with a resource
  * wider than a segment: one field; sixteen or more, of a 996+484 beside 26s and of two that lie in one another's gaps; drawn. */
@@ -199,48 +205,74 @@ static chance narrow_chance(void)
     return c;
 }
 
-/* The geometric mean of the ratios, and the worst of them, close the table. */
-static void print_kinds(chance *c, const char *what, unsigned first_bandwidth, unsigned first_kind)
+/* A line of the table of reading, writing and listing. */
+static void print_row(const char *name, ratios all[ENTRIES])
 {
-    char name[60], worst_name[60] = "";
-    double logs = 0, worst = 0;
-    unsigned sets = 0;
-    print_head(what);
+    printf("| %-29s |", name);
+    for (entry = 0; entry < ENTRIES; entry++) {
+        timing t;
+        complete();
+        hold_sides();
+        t = time_sides(call_all, used);
+        add_ratio(&all[entry], t.ratio);
+        printf(" %7.1f | %6.1f | %5.2f |", t.ns[PROVED], t.ns[FAST], t.ratio);
+        fflush(stdout);
+    }
+    printf("\n");
+}
+
+static void print_rows(chance *c, unsigned first_bandwidth, unsigned first_kind, ratios all[ENTRIES])
+{
+    char name[60];
     for (unsigned bandwidth = first_bandwidth; bandwidth < 5; bandwidth++)
         for (unsigned kind = first_kind; kind < first_kind + 3; kind++) {
-            double ratio;
             of_kind(c, bandwidth, kind);
             sprintf(name, "%u MHz, %s", 20u << bandwidth, kind_name[kind]);
-            ratio = print_kind(name);
-            logs += log(ratio);
-            sets++;
-            if (ratio > worst) {
-                worst = ratio;
-                strcpy(worst_name, name);
-            }
+            print_row(name, all);
         }
-    printf("%s: geometric mean %.2f, worst %.2f (%s)\n", what, exp(logs / sets), worst, worst_name);
 }
 
-static void print_accepted(const char *what)
+static void print_ratios(const char *name, double of(const ratios *), const ratios all[ENTRIES])
 {
-    char wide[60];
-    chance c = narrow_chance();
-    print_kinds(&c, what, 0, FEW);
-    sprintf(wide, "%s, wider than a segment", what);
-    print_kinds(&c, wide, 3, ONE_WIDE);
+    printf("| %-29s |", name);
+    for (unsigned k = 0; k < ENTRIES; k++)
+        printf(" %7s | %6s | %5.2f |", "", "", of(&all[k]));
+    printf("\n");
 }
 
-static void print_refusals(uint32_t first, uint32_t last)
+static double worst_ratio(const ratios *r)
+{
+    return r->worst;
+}
+
+/* As README has it. */
+static void print_accepted(void)
+{
+    ratios all[ENTRIES] = {{0, 0, 0}, {0, 0, 0}, {0, 0, 0}}, narrow[ENTRIES];
+    chance c = narrow_chance();
+    printf("\n| %-29s |", "frames, ns");
+    for (unsigned k = 0; k < ENTRIES; k++)
+        printf(" %s | in C   | ratio |", entry_name[k]);
+    printf("\n|---|---|---|---|---|---|---|---|---|---|\n");
+    print_rows(&c, 0, FEW, all);
+    memcpy(narrow, all, sizeof narrow);
+    print_rows(&c, 3, ONE_WIDE, all);
+    print_ratios("geometric mean, not wide", mean_ratio, narrow);
+    print_ratios("geometric mean, all", mean_ratio, all);
+    print_ratios("worst", worst_ratio, all);
+}
+
+static void print_refusals(int of_entry, uint32_t first, uint32_t last)
 {
     char name[60];
     chance c = narrow_chance();
+    entry = of_entry;
     for (uint32_t number = first; number <= last; number++) {
         if (entry == WRITE)
             of_written_refusal(&c, number);
         else
             of_refusal(&c, number);
-        sprintf(name, "refusal %lu", (unsigned long)number);
+        sprintf(name, "%s, refusal %lu", entry_name[entry], (unsigned long)number);
         print_kind(name);
     }
 }
@@ -250,6 +282,7 @@ static void print_growth(void)
 {
     char name[60];
     chance c = narrow_chance();
+    entry = READ;
     print_head("reading at 320 MHz, by fields");
     for (unsigned full = 0; full <= 16; full += 4) {
         unsigned row[16];
@@ -292,16 +325,13 @@ int main(int argc, char **argv)
     }
     if (argc == 2)
         round_ns = 1e6 * atof(argv[1]);
-    entry = READ;
-    print_accepted("reading");
-    print_refusals(1, 12);
+    hold_drawn();
+    print_accepted();
+    print_head("refusals");
+    print_refusals(READ, 1, 12);
+    print_refusals(WRITE, 13, 14);
+    print_refusals(LIST, 23, 23);
     print_growth();
-    entry = WRITE;
-    print_accepted("writing");
-    print_refusals(13, 14);
-    entry = LIST;
-    print_accepted("listing");
-    print_refusals(23, 23);
     print_comparisons();
     print_triggers();
     print_check_alone();
