@@ -1,7 +1,9 @@
 pub mod Agree
 pub mod Least
 pub mod Tally
+pub mod Every
 pub mod Lists
+pub mod Grow
 pub mod Order
 pub mod First
 pub mod Numbers

@@ -11,7 +11,7 @@ use lib.ListN.{length, getD, set, take, drop, length-append, length-drop, List·
 use lib.Dec.{ltb}
 use lib.Seq.{drop-cons, set-at, getD-at, take-at, drop-at, getD-append-add, getD-drop, ext-getD}
 use borrow.Author.Tests.{ltb-true, ltb-false}
-use Rattle.answer.specs.Lists.{build, filled}
+use Rattle.answer.specs.Lists.{build, filled, Front}
 
 module _ {A : Type 0} where
   pub length-build : (f : ℕ → A) (n : ℕ) → length (build f n) ≡ n
@@ -98,3 +98,7 @@ module _ {A : Type 0} where
       go : (i : ℕ) (t : Bool) → ltb i n ≡ t → getD v i d ≡ getD (filled f n w) i d
       go i true t = let b : i < n = ltb-true i n t in h i b ∙ sym (getD-filled f n w i d b)
       go i false t = let b : n ≤ i = ltb-false i n t in k i b ∙ sym (getD-kept f n w i d b)
+
+-- what was filled stands in front
+pub front-filled : (f : ℕ → ℕ) (n : ℕ) (w v : List ℕ) → v ≡ filled f n w → Front f n v
+front-filled f n w v e = record { front = λ i l. ap (λ (z : List ℕ). getD z i 0) e ∙ getD-filled f n w i 0 l }

@@ -7,6 +7,7 @@ use native.Mathlib.Decide.{decLt, ℕ-discrete}
 use native.Mathlib.Numerals.{add-one}
 use native.Mathlib.Omega.{arith}
 use lib.ListN.{length}
+use Rattle.answer.proofs.Every.{every-at, all-every}
 use Rattle.answer.proofs.Order.{pass-left, pass-right, or-pass}
 use Rattle.answer.specs.declared.Outcome.the-variants.{Pass}
 use Rattle.resource.specs.Values.{carried}
@@ -15,37 +16,7 @@ use Rattle.channel.specs.Layout.{positions, subfieldsIn, row}
 use Rattle.channel.proofs.Laws.{place-1, place-2, row-length, row-even, row-odd, position-subfield}
 use Rattle.faults.proofs.Passing.{notCarried-pass, pass-notCarried}
 use Rattle.halves.specs.Table.{check6}
-use Rattle.halves.specs.Engine.{every, allCarried}
-
-pub every-next : (t : ℕ → Bool) (n : ℕ) → every t n && t n ≡ every t (n + 1)
-every-next t n = rw add-one refl
-
-both-left : (x y : Bool) → x && y ≡ true → x ≡ true
-both-left true y e = refl
-both-left false y e = e
-
-both-right : (x y : Bool) → x && y ≡ true → y ≡ true
-both-right true y e = e
-both-right false true e = refl
-both-right false false e = e
-
-both : (x y : Bool) → x ≡ true → y ≡ true → x && y ≡ true
-both x y e f = rw (e, f)
-
-every-at : (t : ℕ → Bool) (n : ℕ) → every t n ≡ true → (k : ℕ) → k < n → t k ≡ true
-every-at t zero e k l = absurd (omega arith)
-every-at t (suc n) e k l = go (every-at t n (both-left (every t n) (t n) e) k) (decLt k n)
-  where
-    top : (k : ℕ) → k ≡ n → t k ≡ true
-    top k d = rw d (both-right (every t n) (t n) e)
-
-    go : (k < n → t k ≡ true) → Dec (k < n) → t k ≡ true
-    go h (yes m) = h m
-    go h (no m) = top k (omega arith)
-
-all-every : (t : ℕ → Bool) (n : ℕ) → ((k : ℕ) → k < n → t k ≡ true) → every t n ≡ true
-all-every t zero h = refl
-all-every t (suc n) h = both (every t n) (t n) (all-every t n (λ k l. h k (omega arith))) (h n (omega arith))
+use Rattle.halves.specs.Engine.{allCarried}
 
 module _ (bw : ℕ) (a b : List ℕ) (l : bw ≤ 4) where
   -- each channel's values are the row's

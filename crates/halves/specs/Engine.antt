@@ -1,11 +1,12 @@
 -- Engine: the groups in which the code runs the checks, what its halves ask of their callers, and what they hand on. The contracts of the code
 -- cite it; nobody has to believe it: `proofs/Stages.antt`, `proofs/Half.antt`.
 use mathlib.Core.Path.{_≡_}
-use mathlib.Core.Bool.{Bool, true, _&&_}
+use mathlib.Core.Bool.{Bool}
 use mathlib.Core.List.{List}
-use Prim.Native.Nat.{ℕ, _≤_, zero, suc}
+use Prim.Native.Nat.{ℕ, _≤_}
 use lib.ListN.{length, replicate}
 use Rattle.answer.specs.Answer.{_or_}
+use Rattle.answer.specs.Every.{every}
 use Rattle.answer.specs.declared.Outcome.{Outcome}
 use Rattle.answer.specs.declared.Outcome.the-variants.{Pass, Refuse}
 use Rattle.resource.specs.Values.{carried}
@@ -35,11 +36,6 @@ pub record AtMost512 (a b : List ℕ) : Type 0 where
 pub record Sealed (bw : ℕ) (a b : List ℕ) : Type 0 where
   pub common-sealed : check4 bw a b ≡ Pass
   pub users-sealed : check10 bw a b ≡ Pass
-
--- all below n pass
-abbrev pub every : (ℕ → Bool) → ℕ → Bool
-every t zero = true
-every t (suc n) = every t n && t n
 
 -- every value of the row is one that 01 lists
 unfoldable pub allCarried : List ℕ → Bool

@@ -5,8 +5,9 @@ use native.Mathlib.Omega.{arith}
 use lib.ListN.{length}
 use Rattle.resource.specs.Values.{carried}
 use Rattle.answer.specs.Lists.{at}
-use Rattle.halves.specs.Engine.{every, allCarried}
-use Rattle.halves.proofs.Carried.{every-next}
+use Rattle.answer.specs.Every.{every}
+use Rattle.answer.proofs.Every.{every-next}
+use Rattle.halves.specs.Engine.{allCarried}
 use borrow.Author.Needs.{needs}
 use Rattle.first_half.proofs.all_carried.Statement.{statement}
 use Rattle.first_half.proofs.all_carried.Tie as tie

@@ -1,0 +1,44 @@
+-- The laws of a test that all numbers below a bound pass.
+use mathlib.Core.Path.{_≡_, refl}
+use mathlib.Core.Bool.{Bool, true, false, _&&_}
+use Prim.Native.Nat.{ℕ, zero, suc, _+_, _<_}
+use native.Mathlib.Decide.{decLt}
+use native.Mathlib.Numerals.{add-one}
+use native.Mathlib.Omega.{arith}
+use Rattle.answer.specs.Every.{every}
+
+pub every-next : (t : ℕ → Bool) (n : ℕ) → every t n && t n ≡ every t (n + 1)
+every-next t n = rw add-one refl
+
+both-left : (x y : Bool) → x && y ≡ true → x ≡ true
+both-left true y e = refl
+both-left false y e = e
+
+both-right : (x y : Bool) → x && y ≡ true → y ≡ true
+both-right true y e = e
+both-right false true e = refl
+both-right false false e = e
+
+both : (x y : Bool) → x ≡ true → y ≡ true → x && y ≡ true
+both x y e f = rw (e, f)
+
+-- each of them passes
+pub every-at : (t : ℕ → Bool) (n : ℕ) → every t n ≡ true → (k : ℕ) → k < n → t k ≡ true
+every-at t zero e k l = absurd (omega arith)
+every-at t (suc n) e k l = go (every-at t n (both-left (every t n) (t n) e) k) (decLt k n)
+  where
+    top : (k : ℕ) → k ≡ n → t k ≡ true
+    top k d = rw d (both-right (every t n) (t n) e)
+
+    go : (k < n → t k ≡ true) → Dec (k < n) → t k ≡ true
+    go h (yes m) = h m
+    go h (no m) = top k (omega arith)
+
+pub all-every : (t : ℕ → Bool) (n : ℕ) → ((k : ℕ) → k < n → t k ≡ true) → every t n ≡ true
+all-every t zero h = refl
+all-every t (suc n) h = both (every t n) (t n) (all-every t n (λ k l. h k (omega arith))) (h n (omega arith))
+
+-- only the numbers below the bound count
+pub every-cong : (t u : ℕ → Bool) (n : ℕ) → ((k : ℕ) → k < n → t k ≡ u k) → every t n ≡ every u n
+every-cong t u zero h = refl
+every-cong t u (suc n) h = rw (every-cong t u n (λ k l. h k (omega arith)), h n (omega arith))
