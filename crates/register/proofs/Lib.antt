@@ -5,3 +5,4 @@ pub mod Places
 pub mod Series
 pub mod Bytes
 pub mod Word
+pub mod Gathered

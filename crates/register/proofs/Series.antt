@@ -11,7 +11,7 @@ use lib.Bits.{bitXor, xor-mod, xor-zero-r}
 use lib.Pow as P
 use Rattle.answer.specs.Least.{least}
 use Rattle.bits.proofs.Windows.{low-low}
-use Rattle.register.specs.Engine.{shift, shifts, product, times}
+use Rattle.register.specs.Engine.{shift, shifts, product, times, quotient}
 use Rattle.register.proofs.Xor.{xor-shl, xor-split}
 use Rattle.register.proofs.Linear.{Linear, itself, ups, lows, both, next, agree-tested}
 use Rattle.register.proofs.Places.{shift-linear, shift-even, below}
@@ -94,8 +94,8 @@ times-linear i = both _ _ itself (up _ _ (both _ _ itself (up _ _ (both _ _ itse
     up : (f : ℕ → ℕ) (k : ℕ) → Linear f → Linear (λ z. f z * 2 ^ k % 2 ^ 64)
     up f k p = next (λ z. f z * 2 ^ k) _ (next f _ p (ups k)) (lows 64)
 
-pub four-factors : (z : ℕ) → z < 2 ^ 64 → product (times (times (times (times z 1) 2) 4) 8) % 2 ^ 64 ≡ z
-unfolding product times least
+pub four-factors : (z : ℕ) → z < 2 ^ 64 → product (quotient z) % 2 ^ 64 ≡ z
+unfolding product times quotient least
 four-factors =
     agree-tested (λ z. product (times (times (times (times z 1) 2) 4) 8) % 2 ^ 64) (λ z. z)
     (next (λ z. times (times (times (times z 1) 2) 4) 8) _

@@ -4,16 +4,16 @@ use mathlib.Core.Path.{_≡_, refl, sym, _∙_, ap, ap₂}
 use mathlib.Core.Bool.{Bool, true, false, not, _&&_}
 use native.Mathlib.Decide.{ℕ-discrete}
 use native.Mathlib.Omega.{arith}
-use lib.Bits.{bitXor, xor-mod, xor-shr}
+use lib.Bits.{bitXor, xor-mod, xor-shr, xor-lt}
 use lib.Dec.{eqb}
 use lib.Pow as P
 use borrow.Author.Tests.{eq-eqb, ne-eqb, not-false}
 use Rattle.answer.specs.Least.{least}
 use Rattle.answer.proofs.Least.{least-all}
-use Rattle.register.specs.Engine.{shifts, product, checkFrom, rightOf}
+use Rattle.register.specs.Engine.{shifts, product, quotient, checkFrom, rightOf, allRight}
 use Rattle.register.proofs.Xor.{xor-again}
 use Rattle.register.proofs.Places.{above}
-use Rattle.register.proofs.Series.{quotient-law}
+use Rattle.register.proofs.Series.{quotient-law, four-factors}
 
 -- what would leave after n places: the register's lowest, with what stands in w above its n bits
 leaves : (r w q n : ℕ) → n ≤ 60 → product q % 2 ^ 64 ≡ bitXor r w
@@ -33,23 +33,25 @@ check-quotient r w q n l e =
     ∙ ap (λ (x : ℕ). bitXor x a) (leaves r w q n l e)
     ∙ xor-again a (shifts (bitXor r (w % 2 ^ n)) n % 16))
 
+-- tests that the checker computes to be the same at every number below n
+unfoldable pub same : Bool → Bool → Bool
+same true b = b
+same false b = not b
+
+told-of : (a b : Bool) → same a b ≡ true → a ≡ b
+unfolding same
+told-of true true e = refl
+told-of true false e = sym e
+told-of false true e = e
+told-of false false e = refl
+
+pub same-below : (t u : ℕ → Bool) (n : ℕ) → least (λ k. not (same (t k) (u k))) n ≡ n → (k : ℕ) → k < n → t k ≡ u k
+same-below t u n e k h = told-of (t k) (u k) (not-false _ (least-all (λ k. not (same (t k) (u k))) n e k h))
+
 -- four bits and their complement, added, are four ones: tested at all 256
 nibbles-test : (k : ℕ) → k < 256 → eqb (bitXor (k / 16) (k % 16)) 15 ≡ eqb (k / 16) (15 - k % 16)
-unfolding least
-nibbles-test k h = told _ _ (not-false _ (least-all (λ k. differ k) 256 refl k h))
-  where
-    same : Bool → Bool → Bool
-    same true b = b
-    same false b = not b
-
-    differ : ℕ → Bool
-    differ k = not (same (eqb (bitXor (k / 16) (k % 16)) 15) (eqb (k / 16) (15 - k % 16)))
-
-    told : (a b : Bool) → same a b ≡ true → a ≡ b
-    told true true e = refl
-    told true false e = sym e
-    told false true e = e
-    told false false e = refl
+unfolding least same
+nibbles-test = same-below (λ k. eqb (bitXor (k / 16) (k % 16)) 15) (λ k. eqb (k / 16) (15 - k % 16)) 256 refl
 
 nibbles : (a b : ℕ) → a < 16 → b < 16 → eqb (bitXor a b) 15 ≡ eqb a (15 - b)
 nibbles a b h l =
@@ -66,8 +68,8 @@ and-false true = refl
 and-false false = refl
 
 pub right-quotient : (w q n : ℕ) → n ≤ 60 → product q % 2 ^ 64 ≡ bitXor 255 w
-    → eqb (q / 2 ^ n % 16) 15 && eqb (w / 2 ^ (n + 4) % 64) 0 ≡ rightOf w n
-unfolding rightOf checkFrom
+    → allRight q w n ≡ rightOf w n
+unfolding rightOf allRight checkFrom
 right-quotient w q n l e =
     let f : w / 2 ^ (n + 4) ≡ x / 16 = sym (P.shr-shr w n 4) in
     ap₂ (λ (y z : ℕ). eqb y 15 && eqb (z % 64) 0) (leaves 255 w q n l e) f ∙ go (ℕ-discrete (x / 16 % 64) 0)
@@ -89,3 +91,6 @@ right-quotient w q n l e =
         ap (λ (p : Bool). eqb (bitXor (x % 16) a) 15 && p) (ne-eqb (x / 16 % 64) 0 t)
         ∙ and-false (eqb (bitXor (x % 16) a) 15)
         ∙ sym (ne-eqb (x % 1024) (15 - a) (λ g. t (omega arith)))
+
+pub right-leaving : (w n : ℕ) → w < 2 ^ 64 → n ≤ 60 → allRight (quotient (bitXor 255 w)) w n ≡ rightOf w n
+right-leaving w n h l = right-quotient w _ n l (four-factors (bitXor 255 w) (xor-lt 64 255 w (omega arith) h))

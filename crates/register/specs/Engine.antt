@@ -3,8 +3,8 @@
 --
 -- The register is held mirrored, so that the bit that leaves next is the lowest, with the bits that are to come in added
 -- to it. Numbers stand for polynomials in t with coefficients 0 and 1, bit k for t^k.
-use Prim.Native.Nat.{ℕ, zero, suc, _-_, _*_, _/_, _%_, _^_}
-use mathlib.Core.Bool.{Bool}
+use Prim.Native.Nat.{ℕ, zero, suc, _+_, _-_, _*_, _/_, _%_, _^_}
+use mathlib.Core.Bool.{Bool, _&&_}
 use lib.Bits.{bitXor}
 use lib.Dec.{eqb}
 
@@ -25,6 +25,10 @@ unfoldable pub times : ℕ → ℕ → ℕ
 times z i =
     bitXor z (bitXor z (bitXor z (z * 2 ^ i % 2 ^ 64) * 2 ^ i % 2 ^ 64) * 2 ^ (6 * i) % 2 ^ 64)
 
+-- z divided by p, at 64 bits
+unfoldable pub quotient : ℕ → ℕ
+quotient z = times (times (times (times z 1) 2) 4) 8
+
 -- the check of a mirrored register r after the n lowest bits of w
 unfoldable pub checkFrom : ℕ → ℕ → ℕ → ℕ
 checkFrom r w n = 15 - shifts (bitXor r (w % 2 ^ n)) n % 16
@@ -32,3 +36,7 @@ checkFrom r w n = 15 - shifts (bitXor r (w % 2 ^ n)) n % 16
 -- whether the ten bits above the n lowest of w are their check and a tail of zeros
 unfoldable pub rightOf : ℕ → ℕ → Bool
 rightOf w n = eqb (w / 2 ^ n % 1024) (checkFrom 255 w n)
+
+-- the same of blocks of n bits, of what leaves them all and what any of them has: four ones after the n, and a tail of zeros
+unfoldable pub allRight : ℕ → ℕ → ℕ → Bool
+allRight q x n = eqb (q / 2 ^ n % 16) 15 && eqb (x / 2 ^ (n + 4) % 64) 0

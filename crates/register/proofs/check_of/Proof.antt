@@ -1,5 +1,7 @@
 -- `register::check_of` meets its contract.
 use native.Mathlib.Omega.{arith}
+use lib.Bits.{bitXor, xor-lt}
+use Rattle.register.proofs.Series.{four-factors}
 use Rattle.register.proofs.Word.{check-quotient}
 use borrow.Author.Needs.{needs}
 use Rattle.register.proofs.check_of.Statement.{statement}
@@ -20,7 +22,9 @@ sub-result c = search needs
 returns : tie.Need-returns
 returns c =
     let a = c .before .args in
-    check-quotient (a .r) (a .w) (c .quotient .result) (a .n) (omega arith) (c .quotient .ensures)
+    let z = bitXor (a .r) (a .w) in
+    check-quotient (a .r) (a .w) (c .quotient .result) (a .n) (omega arith)
+    (rw (c .quotient .ensures) (four-factors z (xor-lt 64 (a .r) (a .w) (omega arith) (omega arith))))
 
 pub check-of-spec : {M : Type 1} → statement M
 check-of-spec = tie.close (tie.spec quotient-requires shr-result cast-result sub-result returns)

@@ -1,9 +1,7 @@
 -- `register::quotient` meets its contract.
-use Prim.Native.Nat.{ℕ, _%_, _^_}
+use Prim.Native.Nat.{ℕ}
 use mathlib.Core.Path.{_∙_, ap}
-use native.Mathlib.Omega.{arith}
-use Rattle.register.specs.Engine.{product, times}
-use Rattle.register.proofs.Series.{four-factors}
+use Rattle.register.specs.Engine.{times, quotient}
 use borrow.Author.Needs.{needs}
 use Rattle.register.proofs.quotient.Statement.{statement}
 use Rattle.register.proofs.quotient.Tie as tie
@@ -21,14 +19,12 @@ times-requires-4 : tie.Need-times-requires-4
 times-requires-4 c κs = search needs
 
 returns : tie.Need-returns
+unfolding quotient
 returns c =
-    let a = c .before .before .before .before .args in
-    ap (λ (q : ℕ). product q % 2 ^ 64)
-    (c .times4 .ensures
+    c .times4 .ensures
     ∙ ap (λ (q : ℕ). times q 8)
     (c .before .times3 .ensures
-    ∙ ap (λ (q : ℕ). times q 4) (c .before .before .times2 .ensures ∙ ap (λ (q : ℕ). times q 2) (c .before .before .before .times .ensures))))
-    ∙ four-factors (a .z) (omega arith)
+    ∙ ap (λ (q : ℕ). times q 4) (c .before .before .times2 .ensures ∙ ap (λ (q : ℕ). times q 2) (c .before .before .before .times .ensures)))
 
 pub quotient-spec : {M : Type 1} → statement M
 quotient-spec =

@@ -1,26 +1,23 @@
 -- `register::right_of` meets its contract.
+use Prim.Native.Nat.{ℕ}
+use mathlib.Core.Path.{_∙_, ap}
 use native.Mathlib.Omega.{arith}
-use Rattle.register.proofs.Word.{right-quotient}
+use Rattle.register.specs.Engine.{allRight}
+use Rattle.register.proofs.Word.{right-leaving}
 use borrow.Author.Needs.{needs}
 use Rattle.register.proofs.right_of.Statement.{statement}
 use Rattle.register.proofs.right_of.Tie as tie
 
-quotient-requires : tie.Need-quotient-requires
-quotient-requires c κs = search needs
+leaving-requires : tie.Need-leaving-requires
+leaving-requires c κs = search needs
 
-shr-result : tie.Need-shr-result
-shr-result c = search needs
-
-add-result : tie.Need-add-result
-add-result c = search needs
-
-shr-result-2 : tie.Need-shr-result-2
-shr-result-2 c = search needs
+all-right-requires : tie.Need-all-right-requires
+all-right-requires c κs = search needs
 
 returns : tie.Need-returns
 returns c =
-    let a = c .before .args in
-    right-quotient (a .w) (c .quotient .result) (a .n) (omega arith) (c .quotient .ensures)
+    let a = c .before .before .args in
+    c .all-right .ensures ∙ ap (λ (q : ℕ). allRight q (a .w) (a .n)) (c .before .leaving .ensures) ∙ right-leaving (a .w) (a .n) (omega arith) (omega arith)
 
 pub right-of-spec : {M : Type 1} → statement M
-right-of-spec = tie.close (tie.spec quotient-requires shr-result add-result shr-result-2 returns)
+right-of-spec = tie.close (tie.spec leaving-requires all-right-requires returns)
