@@ -111,9 +111,17 @@ total f (suc n) = total f n + f n
 unfoldable pub count : ℕ → ℕ → List ℕ → ℕ
 count bw c s = total (λ k. fieldsOf (value bw s k)) (subfieldsIn bw c)
 
--- "User blocks of two fields of 22 bits, check 4, tail 6": the first bit of User field i, from 0, and of block b
+-- "User blocks of two fields of 22 bits, check 4, tail 6": the first bit of User field i, from 0, and below of block b
 unfoldable pub userAt : ℕ → ℕ → ℕ
 userAt bw i = common bw + 54 * (i / 2) + 22 * (i % 2)
+
+-- "fields of 22 bits": User field i of a channel
+abbrev pub user : ℕ → List ℕ → ℕ → ℕ
+user bw s i = field s (userAt bw i) 22
+
+-- "one per User field, channel 1 first": the j-th over both channels, n of which are channel 1's
+unfoldable pub userOf : ℕ → List ℕ → List ℕ → ℕ → ℕ → ℕ
+userOf bw a b n j = cond (ltb j n) (user bw a j) (user bw b (j - n))
 
 unfoldable pub blockAt : ℕ → ℕ → ℕ
 blockAt bw b = common bw + 54 * b

@@ -1,0 +1,133 @@
+-- The fields of a block out of a number that starts with it, and what is wrong with any block, gathered.
+use Prim.Native.Nat.{ℕ, _+_, _-_, _*_, _/_, _%_, _^_, _≤_, _<_}
+use mathlib.Core.Path.{_≡_, refl, sym, _∙_, ap, ap₂}
+use mathlib.Core.Bool.{Bool, true, false, _&&_}
+use mathlib.Core.List.{List}
+use native.Mathlib.Omega.{arith}
+use lib.Bits.{bitXor, bitAnd, bitOr}
+use lib.Dec.{ltb}
+use lib.ListN.{length, set, take, drop}
+use borrow.Author.Tests.{lt-ltb, le-ltb}
+use borrow.Rule.Slice.PartMut.{putMid}
+use Rattle.answer.specs.Answer.{_or_}
+use Rattle.answer.specs.declared.Outcome.the-variants.{Pass}
+use Rattle.answer.specs.Every.{every}
+use Rattle.answer.specs.Lists.{filled}
+use Rattle.answer.proofs.Every.{every-next, every-at}
+use Rattle.answer.proofs.Lists.{filled-step, filled-cong, filled-length}
+use Rattle.answer.proofs.Grow.{grown}
+use Rattle.answer.proofs.Order.{or-pass}
+use Rattle.bits.specs.Bits.{field}
+use Rattle.bits.proofs.Fields.{field-part}
+use Rattle.bits.proofs.Windows.{field-low, window-low}
+use Rattle.register.specs.Engine.{quotient, allRight, rightOf}
+use Rattle.register.proofs.Word.{right-leaving}
+use Rattle.register.proofs.Gathered.{right-more}
+use Rattle.block.specs.Check.{right}
+use Rattle.block.proofs.Checks.{right-says}
+use Rattle.block.proofs.Word.{right-whole}
+use Rattle.channel.specs.Layout.{user, userOf, blockAt, covered, blocks, count}
+use Rattle.channel.proofs.Blocks.{user-even, user-odd, covered-two, covered-one}
+use Rattle.faults.specs.Checks.{wrongUsers}
+use Rattle.faults.proofs.Passing.{pass-wrongUsers}
+use Rattle.user_fields.specs.Engine.{blockRight, usersRight}
+
+-- ---- a number w that starts with block b
+
+module _ (bw b : ℕ) (s : List ℕ) (k w : ℕ) (e : w ≡ field s (blockAt bw b) k) where
+  pub first-is : 22 ≤ k → w % 2 ^ 22 ≡ user bw s (2 * b)
+  first-is l =
+      ap (λ (x : ℕ). x % 2 ^ 22) e
+      ∙ field-low s (blockAt bw b) k 22 l
+      ∙ ap (λ (i : ℕ). field s i 22) (sym (user-even bw b))
+
+  pub second-is : 44 ≤ k → w / 2 ^ 22 % 2 ^ 22 ≡ user bw s (2 * b + 1)
+  second-is l =
+      ap (λ (x : ℕ). x / 2 ^ 22 % 2 ^ 22) e
+      ∙ field-part s (blockAt bw b) k 22 22 l
+      ∙ ap (λ (i : ℕ). field s i 22) (sym (user-odd bw b))
+
+-- the test of a block of n fields in it
+pub test-is : (bw b : ℕ) (s : List ℕ) (n c w : ℕ) → w ≡ field s (blockAt bw b) (64 - blockAt bw b % 8) → covered n b ≡ c → c ≤ 44
+    → rightOf w c ≡ blockRight bw s n b
+unfolding blockRight
+test-is bw b s n c w e f l =
+    right-whole s (blockAt bw b) c w (window-low s (blockAt bw b) w (c + 10) e (omega arith)) ∙ ap (right s (blockAt bw b)) (sym f)
+
+-- ---- the blocks of two, one more at a time
+
+pub right-next : (bw b : ℕ) (s : List ℕ) (n q x w : ℕ) → w < 2 ^ 64 → w ≡ field s (blockAt bw b) (64 - blockAt bw b % 8) → 2 * b + 1 < n
+    → allRight q x 44 ≡ every (blockRight bw s n) b
+    → allRight (bitAnd q (quotient (bitXor 255 w))) (bitOr x w) 44 ≡ every (blockRight bw s n) (b + 1)
+right-next bw b s n q x w h e l i =
+    right-more q x (quotient (bitXor 255 w)) w 44
+    ∙ ap₂ _&&_ i (right-leaving w 44 h (omega arith) ∙ test-is bw b s n 44 w e (covered-two n b l) (omega arith))
+    ∙ every-next (blockRight bw s n) b
+
+pub two-more : (f : ℕ → ℕ) (b x y : ℕ) (out w : List ℕ) → 2 * b + 1 < length w → out ≡ filled f (2 * b) w → x ≡ f (2 * b) → y ≡ f (2 * b + 1)
+    → set (set out (2 * b) x) (2 * b + 1) y ≡ filled f (2 * (b + 1)) w
+two-more f b x y out w l e p q =
+    let two : 2 * b + 1 + 1 ≡ 2 * (b + 1) = omega arith in
+    ap (λ (z : List ℕ). set (set z (2 * b) x) (2 * b + 1) y) e
+    ∙ ap (λ (z : List ℕ). set z (2 * b + 1) y) (filled-step f (2 * b) x w (omega arith) p)
+    ∙ filled-step f (2 * b + 1) y w l q
+    ∙ ap (λ (j : ℕ). filled f j w) two
+
+-- ---- all of a channel's
+
+pub even-right : (bw : ℕ) (s : List ℕ) (n : ℕ) → n % 2 ≡ 0 → every (blockRight bw s n) (n / 2) ≡ usersRight bw s n
+unfolding usersRight blocks
+even-right bw s n e = let h : n / 2 ≡ (n + 1) / 2 = omega arith in ap (every (blockRight bw s n)) h
+
+pub odd-right : (bw : ℕ) (s : List ℕ) (n : ℕ) → n % 2 ≡ 1 → every (blockRight bw s n) (n / 2) && blockRight bw s n (n / 2) ≡ usersRight bw s n
+unfolding usersRight blocks
+odd-right bw s n e =
+    let h : n / 2 + 1 ≡ (n + 1) / 2 = omega arith in
+    every-next (blockRight bw s n) (n / 2) ∙ ap (every (blockRight bw s n)) h
+
+pub odd-filled : (f : ℕ → ℕ) (n : ℕ) (out w : List ℕ) → n ≤ length w → n % 2 ≡ 1 → out ≡ filled f (2 * (n / 2)) w → set out (n - 1) (f (n - 1)) ≡ filled f n w
+odd-filled f n out w l e h =
+    let p : 2 * (n / 2) ≡ n - 1 = omega arith in
+    let q : n - 1 + 1 ≡ n = omega arith in
+    ap (λ (z : List ℕ). set z (n - 1) (f (n - 1))) (h ∙ ap (λ (j : ℕ). filled f j w) p)
+    ∙ filled-step f (n - 1) (f (n - 1)) w (omega arith) refl
+    ∙ ap (λ (j : ℕ). filled f j w) q
+
+-- ---- 10 where nothing is wrong
+
+pass-right : (bw c : ℕ) (s : List ℕ) (n : ℕ) → n ≡ count bw c s → usersRight bw s n ≡ true → wrongUsers bw c s ≡ Pass
+unfolding usersRight blockRight
+pass-right bw c s n e h =
+    pass-wrongUsers bw c s
+    (λ b l. right-says s (blockAt bw b) (covered (count bw c s) b)
+    (every-at (blockRight bw s (count bw c s)) (blocks (count bw c s)) (rw e at h) b l))
+
+both-left : (x y : Bool) → x && y ≡ true → (x ≡ true) × (y ≡ true)
+both-left true y e = (refl, e)
+both-left false true e = (e, refl)
+both-left false false e = (e, e)
+
+pub both-pass : (bw : ℕ) (a b : List ℕ) (n m : ℕ) (x y : Bool) → n ≡ count bw 1 a → m ≡ count bw 2 b → x ≡ usersRight bw a n → y ≡ usersRight bw b m
+    → x && y ≡ true → Pass ≡ wrongUsers bw 1 a or wrongUsers bw 2 b
+both-pass bw a b n m x y e f g h t =
+    let p = both-left x y t in
+    sym (or-pass _ _ (pass-right bw 1 a n e (sym g ∙ p .0)) (pass-right bw 2 b m f (sym h ∙ p .1)))
+
+-- ---- the numbers of both channels
+
+pub user-one : (bw : ℕ) (a b : List ℕ) (n i : ℕ) → i < n → user bw a i ≡ userOf bw a b n i
+unfolding userOf
+user-one bw a b n i l = rw (lt-ltb i n l)
+
+pub user-other : (bw : ℕ) (a b : List ℕ) (n i : ℕ) → user bw b i ≡ userOf bw a b n (n + i)
+unfolding userOf
+user-other bw a b n i = let e : n + i - n ≡ i = omega arith in rw (le-ltb (n + i) n (omega arith), e)
+
+pub both-filled : (bw : ℕ) (a b w v ys : List ℕ) (n m : ℕ) → n ≤ length w → v ≡ filled (user bw a) n w
+    → ys ≡ filled (user bw b) m (take (length v - n) (drop n v)) → putMid n (length v - n) v ys ≡ filled (userOf bw a b n) (n + m) w
+both-filled bw a b w v ys n m l e f =
+    let g = ap length e ∙ filled-length (user bw a) n w l in
+    grown (userOf bw a b n) (user bw b) w v ys n m (omega arith)
+    (e ∙ filled-cong (user bw a) (userOf bw a b n) n w (λ i h. user-one bw a b n i h))
+    (λ i h. user-other bw a b n i)
+    f
