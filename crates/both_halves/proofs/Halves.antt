@@ -4,8 +4,7 @@ use mathlib.Core.List.{List}
 use Prim.Native.Nat.{ℕ, _≤_}
 use native.Mathlib.Omega.{arith}
 use lib.ListN.{length, take}
-use Rattle.answer.specs.Answer.{_or_}
-use Rattle.answer.proofs.Order.{pass-left, or-next}
+use Rattle.answer.proofs.Order.{pass-left}
 use Rattle.answer.specs.declared.Answer.{Answer}
 use Rattle.answer.specs.declared.Outcome.{Outcome}
 use Rattle.answer.specs.declared.Outcome.the-variants.{Pass, Refuse}
@@ -30,10 +29,10 @@ module _ (bw : ℕ) (a b : List ℕ) (p : Planned) where
       ap (withOutcome (p .outcome)) e ∙ ap (λ (o : Outcome). withOutcome o (plannedOf bw a b)) g
 
   -- the second's outcome o, where the first passes
-  pub both : (o : Outcome) → p ≡ plannedOf bw a b → p .outcome ≡ Pass → o ≡ (p .outcome or outcome9to11 bw a b) → withOutcome o p ≡ acceptedPlan bw a b
+  pub both : (o : Outcome) → p ≡ plannedOf bw a b → p .outcome ≡ Pass → o ≡ outcome9to11 bw a b → withOutcome o p ≡ acceptedPlan bw a b
   unfolding acceptedPlan
   both o e f h =
-      let g : o ≡ outcome11 bw a b = h ∙ or-next _ _ f ∙ sym (planned-rest bw a b (outcome-made e f)) in
+      let g : o ≡ outcome11 bw a b = h ∙ sym (planned-rest bw a b (outcome-made e f)) in
       ap (withOutcome o) e ∙ ap (λ (o : Outcome). withOutcome o (plannedOf bw a b)) g
 
 -- ---- the plan that both have told

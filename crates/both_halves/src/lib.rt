@@ -15,7 +15,8 @@ pub fn plan_accepted(bw: u32, a: &[u8], b: &[u8]) -> Planned
     }
     let m = plan.fields1;
     let k = plan.fields2;
-    let outcome = second_half::then_users(planned, bw, a, b, m, k, false);
+    let mut fields = [0u32; 144];
+    let outcome = second_half::check_users(&mut fields, bw, a, b, m, k);
     let row = plan.row;
     let kinds = plan.kinds;
     Planned {

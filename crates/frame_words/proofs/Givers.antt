@@ -1,21 +1,26 @@
 -- Which value of a channel gives a User field.
 use mathlib.Core.Path.{_≡_, refl, sym, _∙_, ap}
-use mathlib.Core.Bool.{false}
+use mathlib.Core.Bool.{false, cond}
 use mathlib.Core.List.{List}
 use mathlib.Core.Logic.{⊎-elim}
-use Prim.Native.Nat.{ℕ, zero, suc, _+_, _^_, _≤_, _<_}
+use Prim.Native.Nat.{ℕ, zero, suc, _+_, _-_, _^_, _≤_, _<_}
 use native.Mathlib.Omega.{arith}
 use native.Mathlib.Nat.{eq-or-lt-of-le, zero-div}
+use native.Mathlib.Decide.{decLt}
 use lib.Dec.{ltb}
-use lib.ListN.{length, getD}
+use lib.ListN.{length, getD, take, drop}
+use lib.Seq.{getD-drop}
 use borrow.Author.Tests.{lt-ltb, le-ltb}
+use Rattle.answer.specs.Lists.{at, Front}
 use Rattle.answer.specs.Least.{least}
+use Rattle.answer.proofs.Grow.{part-tail}
 use Rattle.answer.proofs.Least.{least-is, least-below}
 use Rattle.resource.specs.Values.{fieldsOf}
-use Rattle.channel.specs.Layout.{subfieldsIn, value, total, count}
+use Rattle.channel.specs.Layout.{subfieldsIn, value, total, count, user, userOf}
 use Rattle.channel.proofs.Laws.{total-next, count-le}
+use Rattle.words.specs.Words.{userWord}
 use Rattle.user_words.specs.Engine.{runWord}
-use Rattle.frame_words.specs.Engine.{Holds, Formats}
+use Rattle.frame_words.specs.Engine.{Holds, Formats, userWordOf}
 use Rattle.frame_words.specs.Words.{before, giver, sharedAt, positionIn, userWordAt}
 
 total-rises : (f : ℕ → ℕ) (m n : ℕ) → m ≤ n → total f m ≤ total f n
@@ -42,11 +47,13 @@ module _ (bw c : ℕ) (s : List ℕ) (k : ℕ) (l : k < subfieldsIn bw c) where
       (λ h. lt-ltb j (before bw s (k + 1)) z)
       (λ i h. le-ltb j (before bw s (i + 1)) (omega (arith, total-rises (λ q. fieldsOf (value bw s q)) (i + 1) k (omega arith))))
 
-  -- so its run of words is the channel's from there on
-  pub run-words : (row : List ℕ) (i : ℕ) → i < fieldsOf (value bw s k)
-      → runWord bw s (before bw s k) (sharedAt row (positionIn c k)) i ≡ userWordAt bw row c s (before bw s k + i)
-  unfolding userWordAt
-  run-words row i h = rw (giver-is (before bw s k + i) (omega arith) (omega (arith, before-next)))
+  -- so its run of words, of the channel's fields as numbers, is the channel's from there on
+  pub run-words : (row fields : List ℕ) (i : ℕ) → Front (user bw s) (count bw c s) fields → i < fieldsOf (value bw s k)
+      → runWord fields (before bw s k) (sharedAt row (positionIn c k)) i ≡ userWordAt bw row c s (before bw s k + i)
+  unfolding userWordAt runWord
+  run-words row fields i f h =
+      let e = f .front (before bw s k + i) (omega (arith, before-next, before-count)) in
+      rw (e, giver-is (before bw s k + i) (omega arith) (omega (arith, before-next)))
 
 -- a turn of the loop over a channel's values: at value k, which the row r has at its position, j fields came before and m are its own
 pub record Turn (bw c : ℕ) (s r : List ℕ) (j k m : ℕ) : Type 0 where
@@ -84,12 +91,53 @@ giver-below bw c s j l = go (subfieldsIn bw c) refl
         let h : j < before bw s (n + 1) = let f : subfieldsIn bw c ≡ n + 1 = omega arith in rw f at l in
         omega (arith, least-below (λ k. ltb j (before bw s (k + 1))) (subfieldsIn bw c) n (omega arith) (lt-ltb j (before bw s (n + 1)) h))
 
--- where no position's fields share their resource, a channel's words are one run
-pub lone-words : (bw c : ℕ) (s r : List ℕ) → Holds bw c s r → Formats r 0 → (j : ℕ) → j < count bw c s → runWord bw s 0 false j ≡ userWordAt bw r c s j
+-- where no position's fields share their resource, each word is that of a field alone
+lone-word : (bw c : ℕ) (s r : List ℕ) → Holds bw c s r → Formats r 0 → (j : ℕ) → j < count bw c s → userWord false (user bw s j) ≡ userWordAt bw r c s j
 unfolding userWordAt
-lone-words bw c s r h f j l =
+lone-word bw c s r h f j l =
     let g = giver-below bw c s j l in
     let p = positionIn c (giver bw c s j) in
     let e : sharedAt r p ≡ false = sym (f .format p (h .inside (giver bw c s j) g)) ∙ rw (zero-div (2 ^ p)) refl in
-    let i : 0 + j ≡ j = omega arith in
-    rw (e, i)
+    rw e
+
+-- ---- both channels, of whose fields n are channel 1's and m channel 2's
+
+module _ (bw : ℕ) (a b r : List ℕ) (n : ℕ) where
+  pub word-one : (i : ℕ) → i < n → userWordAt bw r 1 a i ≡ userWordOf bw r a b n i
+  unfolding userWordOf
+  word-one i l = rw (lt-ltb i n l)
+
+  pub word-other : (i : ℕ) → userWordAt bw r 2 b i ≡ userWordOf bw r a b n (n + i)
+  unfolding userWordOf
+  word-other i = let e : n + i - n ≡ i = omega arith in rw (le-ltb (n + i) n (omega arith), e)
+
+  -- one run, where all fields are alone
+  pub lone-words : (fields : List ℕ) (m : ℕ) → Holds bw 1 a r → Holds bw 2 b r → Formats r 0 → n ≡ count bw 1 a → m ≡ count bw 2 b
+      → Front (userOf bw a b n) (n + m) fields → (j : ℕ) → j < n + m → runWord fields 0 false j ≡ userWordOf bw r a b n j
+  unfolding runWord userWordOf userOf
+  lone-words fields m h k f e d w j l =
+      let i : 0 + j ≡ j = omega arith in
+      ap (λ (x : ℕ). userWord false (at fields x)) i ∙ ap (userWord false) (w .front j l) ∙ go (decLt j n)
+    where
+      go : Dec (j < n) → userWord false (cond (ltb j n) (user bw a j) (user bw b (j - n))) ≡ cond (ltb j n) (userWordAt bw r 1 a j) (userWordAt bw r 2 b (j - n))
+      go (yes q) = rw (lt-ltb j n q) (lone-word bw 1 a r h f j (omega arith))
+      go (no q) = rw (le-ltb j n (omega arith)) (lone-word bw 2 b r k f (j - n) (omega arith))
+
+  -- the numbers of one channel
+  pub front-1 : (fields : List ℕ) (m k : ℕ) → k ≡ n → Front (userOf bw a b n) (n + m) fields → Front (user bw a) k fields
+  unfolding userOf
+  front-1 fields m k e w = record {
+    front = λ i l. w .front i (omega arith) ∙ rw (lt-ltb i n (omega arith));
+  }
+
+  pub front-2 : (fields : List ℕ) (m : ℕ) → n + m ≤ length fields → Front (userOf bw a b n) (n + m) fields
+      → Front (user bw b) m (take (length fields - n) (drop n fields))
+  unfolding userOf
+  front-2 fields m l w = record {
+    front = λ i k.
+        let e : n + i - n ≡ i = omega arith in
+        ap (λ (z : List ℕ). at z i) (part-tail fields n (omega arith))
+        ∙ getD-drop n fields i 0
+        ∙ w .front (n + i) (omega arith)
+        ∙ rw (le-ltb (n + i) n (omega arith), e);
+  }

@@ -1,5 +1,5 @@
 pub mod Rows
-pub mod Grow
+pub mod Laid
 pub mod Givers
 pub mod Counts
 pub mod Agree

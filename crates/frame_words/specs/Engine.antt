@@ -2,12 +2,13 @@
 -- it; nobody has to believe it.
 use mathlib.Core.Path.{_≡_}
 use mathlib.Core.List.{List}
-use Prim.Native.Nat.{ℕ, _/_, _%_, _^_, _<_}
-use lib.Dec.{eqb}
+use mathlib.Core.Bool.{cond}
+use Prim.Native.Nat.{ℕ, _-_, _/_, _%_, _^_, _<_}
+use lib.Dec.{eqb, ltb}
 use lib.ListN.{length, getD}
 use Rattle.kinds.specs.Fields.{shared}
 use Rattle.channel.specs.Layout.{subfieldsIn, value}
-use Rattle.frame_words.specs.Words.{positionIn, sharedAt}
+use Rattle.frame_words.specs.Words.{positionIn, sharedAt, userWordAt}
 
 -- the row r has channel c's values, of bytes s, at the channel's positions
 pub record Holds (bw c : ℕ) (s r : List ℕ) : Type 0 where
@@ -17,3 +18,7 @@ pub record Holds (bw c : ℕ) (s r : List ℕ) : Type 0 where
 -- bit p of x is set where the fields of position p share their resource
 pub record Formats (r : List ℕ) (x : ℕ) : Type 0 where
   pub format : (p : ℕ) → p < length r → eqb (x / 2 ^ p % 2) 1 ≡ sharedAt r p
+
+-- the word of the j-th User field over both channels, n of which are channel 1's
+unfoldable pub userWordOf : ℕ → List ℕ → List ℕ → List ℕ → ℕ → ℕ → ℕ
+userWordOf bw r a b n j = cond (ltb j n) (userWordAt bw r 1 a j) (userWordAt bw r 2 b (j - n))

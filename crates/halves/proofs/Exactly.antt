@@ -14,7 +14,7 @@ use Rattle.plan.specs.Answers.{segments}
 use Rattle.plan.specs.Worked.{isHeld, atMostEight, lowestWithout, outcome7, outcome8}
 use Rattle.channel.specs.Layout.{row, count, userAt}
 use Rattle.faults.proofs.Passing.{tooLong-only, cutCommon-only, wrongCommon-only, overflowDiffers-only, notCarried-only, cutUsers-only, wrongUsers-only}
-use Rattle.stations.specs.Stations.{stationTwice, stationPlace, firstRepeated}
+use Rattle.stations.specs.Stations.{stationOf, stationTwice, stationPlace, firstRepeated}
 use Rattle.halves.specs.Table.{check1, check2, check3, check4, check5, check6, check7, check8, check9, check10, check11, checks11}
 
 -- stationTwice's answer has one of two forms, both with number 11
@@ -22,8 +22,9 @@ only-11 : (bw : ℕ) (a b : List ℕ) (n m : ℕ) → Only 11 (stationTwice bw a
 unfolding stationTwice
 only-11 bw a b n m = record {
   number-is = λ x e.
-      let r = refuse-if (ltb (firstRepeated bw a b n m) (n + m)) (stationPlace bw n (firstRepeated bw a b n m)) x e in
-      sym (ap (λ (y : Answer). y .number) (r .1)) ∙ place-11 bw n (firstRepeated bw a b n m);
+      let j = firstRepeated (stationOf bw a b n) (n + m) in
+      let r = refuse-if (ltb j (n + m)) (stationPlace bw n j) x e in
+      sym (ap (λ (y : Answer). y .number) (r .1)) ∙ place-11 bw n j;
 }
   where
     place-11 : (bw n j : ℕ) → stationPlace bw n j .number ≡ 11

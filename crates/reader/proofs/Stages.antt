@@ -33,7 +33,7 @@ pub reading-rest : (bw : ℕ) (a b : List ℕ) (room : ℕ) → outcome11 bw a b
     → readOutcome bw a b room ≡ outcome9to11 bw a b or check12 bw a b room
 reading-rest bw a b room e = readOutcome-stages bw a b room ∙ ap (λ (o : Outcome). o or check12 bw a b room) e
 
-room-pass : (bw : ℕ) (a b : List ℕ) (room : ℕ) → check12 bw a b room ≡ Pass → wordCount bw a b ≤ room
+pub room-pass : (bw : ℕ) (a b : List ℕ) (room : ℕ) → check12 bw a b room ≡ Pass → wordCount bw a b ≤ room
 unfolding check12 noRoom
 room-pass bw a b room e = ltb-false room (wordCount bw a b) (pass-if _ _ e)
 

@@ -1,3 +1,4 @@
 pub mod Table
 pub mod Result
+pub mod Engine
 pub mod Padding

@@ -3,13 +3,13 @@ use answer::Answer;
 use answer::Outcome;
 ghost use mathlib.Core.Path.{_≡_};
 ghost use mathlib.Core.Bool.{true};
-ghost use Prim.Native.Nat.{_≤_};
+ghost use Prim.Native.Nat.{_+_, _≤_};
 ghost use lib.ListN.{length};
 ghost use Rattle.answer.specs.Answer.{_or_};
-ghost use Rattle.channel.specs.Layout.{count};
-ghost use Rattle.halves.specs.Engine.{AtMost512, Sealed, outcome9to11};
-ghost use Rattle.reader.specs.Table.{noRoom, check12};
+ghost use Rattle.halves.specs.Engine.{Sealed};
+ghost use Rattle.reader.specs.Table.{noRoom};
 ghost use Rattle.reader.specs.Result.{readAnswer, wordsAfter};
+ghost use Rattle.reader.specs.Engine.{Planned8, usersAnswer, usersAfter};
 
 fn then_room(prev: Outcome, need: usize, room: usize) -> Outcome
     ensures { λ r. ⌜ r ≡ (prev or noRoom need room) ⌝ }
@@ -17,23 +17,58 @@ fn then_room(prev: Outcome, need: usize, room: usize) -> Outcome
     answer::or_else(prev, answer::refuse_if(room < need, 12, 0, need))
 }
 
-// 9 to 12, the second half, of a frame that passes 1 to 8 and has n and m User fields.
-fn check_users(
+// 9 to 12, the second half, of a frame that passes 1 to 8 and has n and m User fields, and its words where they pass. The fields are kept in
+// the room that is lent for them.
+fn read_users(
     bw: u32,
     a: &[u8],
     b: &[u8],
+    row: &[u16],
+    shared: u32,
     n: usize,
     m: usize,
-    room: usize,
-    sealed: bool,
-) -> Outcome
-    requires { ⌜ (sealed ≡ true → Sealed bw (now a) (now b)) × AtMost512 (now a) (now b) × (n ≤ 72) × (m ≤ 72) × (n ≡ count bw 1 (now a))
-        × (m ≡ count bw 2 (now b)) ⌝ }
-    ensures { λ r. ⌜ r ≡ (outcome9to11 bw (now (a .entry)) (now (b .entry)) or check12 bw (now (a .entry)) (now (b .entry)) room) ⌝ }
+    fields: &mut [u32],
+    words: &mut [u32],
+) -> Answer
+    requires { ⌜ Planned8 bw (now a) (now b) (now row) shared n m × (n + m ≤ length (now fields)) ⌝ }
+    ensures { λ r. ⌜ r ≡ usersAnswer bw (now (a .entry)) (now (b .entry)) (length (now (words .entry))) ⌝ }
+    ensures { λ _. ⌜ now (words .exit) ≡ usersAfter bw (now (a .entry)) (now (b .entry)) (now (words .entry)) ⌝ }
 {
-    let seen = second_half::then_users(Outcome::Pass, bw, a, b, n, m, sealed);
+    let seen = second_half::check_users(fields, bw, a, b, n, m);
     let need = 10 + (n + m);
-    then_room(seen, need, room)
+    let outcome = then_room(seen, need, words.len());
+    if let Outcome::Refuse(x) = outcome {
+        return x;
+    }
+    frame_words::put_frame(words, fields, bw, a, b, row, shared, n, m);
+    Answer {
+        number: 0,
+        channel: 0,
+        place: need,
+    }
+}
+
+// The same with room for the fields, so that a small frame does not clear what a large one needs.
+fn read_planned(
+    bw: u32,
+    a: &[u8],
+    b: &[u8],
+    row: &[u16],
+    shared: u32,
+    n: usize,
+    m: usize,
+    words: &mut [u32],
+) -> Answer
+    requires { ⌜ Planned8 bw (now a) (now b) (now row) shared n m ⌝ }
+    ensures { λ r. ⌜ r ≡ usersAnswer bw (now (a .entry)) (now (b .entry)) (length (now (words .entry))) ⌝ }
+    ensures { λ _. ⌜ now (words .exit) ≡ usersAfter bw (now (a .entry)) (now (b .entry)) (now (words .entry)) ⌝ }
+{
+    if n + m <= 16 {
+        let mut few = [0u32; 16];
+        return read_users(bw, a, b, row, shared, n, m, &mut few, words);
+    }
+    let mut fields = [0u32; 144];
+    read_users(bw, a, b, row, shared, n, m, &mut fields, words)
 }
 
 // The reading in its two halves, of channels that may be known to be sealed.
@@ -47,20 +82,18 @@ fn read_as(bandwidth: u32, cc1: &[u8], cc2: &[u8], words: &mut [u32], sealed: bo
     if let Outcome::Refuse(x) = planned {
         return x;
     }
-    let n = plan.fields1;
-    let m = plan.fields2;
-    let outcome = check_users(bandwidth, cc1, cc2, n, m, words.len(), sealed);
-    if let Outcome::Refuse(x) = outcome {
-        return x;
-    }
     let row = plan.row;
     let p = channel::positions_of(bandwidth);
-    frame_words::put_frame(words, bandwidth, cc1, cc2, &row[..p], plan.shared, n, m);
-    Answer {
-        number: 0,
-        channel: 0,
-        place: 10 + (n + m),
-    }
+    read_planned(
+        bandwidth,
+        cc1,
+        cc2,
+        &row[..p],
+        plan.shared,
+        plan.fields1,
+        plan.fields2,
+        words,
+    )
 }
 
 // Reads a frame: the answer, and on acceptance the words at the front of the lent buffer. A refusal writes nothing.
@@ -71,7 +104,7 @@ pub fn read(bandwidth: u32, cc1: &[u8], cc2: &[u8], words: &mut [u32]) -> Answer
     read_as(bandwidth, cc1, cc2, words, false)
 }
 
-// The same of channels that pass 4 and 10, as those that the writer has built do: no check is worked out again.
+// The same of channels that pass 4 and 10, as those that the writer has built do: the common checks are not worked out again.
 pub fn read_sealed(bandwidth: u32, cc1: &[u8], cc2: &[u8], words: &mut [u32]) -> Answer
     requires { ⌜ Sealed bandwidth (now cc1) (now cc2) ⌝ }
     ensures { λ r. ⌜ r ≡ readAnswer bandwidth (now (cc1 .entry)) (now (cc2 .entry)) (length (now (words .entry))) ⌝ }

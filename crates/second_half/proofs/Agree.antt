@@ -1,7 +1,8 @@
--- Any two results that a public function's contract allows for one input agree: each contract is an equation.
-use mathlib.Core.Path.{sym, _∙_}
-use Rattle.answer.proofs.Agree.{Agrees}
-use Rattle.second_half.proofs.then_users.Reads as then-users
+-- Any two results that the contract allows for one input agree, and so do the numbers: it is two equations.
+use mathlib.Core.Path.{_≡_, sym, _∙_}
+use denote.Ref.{now}
+use Rattle.second_half.proofs.check_users.Reads as check-users
 
-pub then-users-agrees : Agrees then-users.Post
-then-users-agrees κs a r r' s s' p q = p ∙ sym q
+pub check-users-agrees : (κs : _) (a : _) (r r' : _) (s s' : _) → check-users.Post κs a r s → check-users.Post κs a r' s'
+    → (r ≡ r') × (now (s .0) ≡ now (s' .0))
+check-users-agrees κs a r r' s s' p q = (p .0 ∙ sym (q .0), p .1 ∙ sym (q .1))

@@ -1,13 +1,14 @@
-// The second half of a reading, whatever the room: 9 to 11, of n fields in channel 1 and m in channel 2. Each check is run only where
-// the earlier ones pass; 10 not where the channels are known to be sealed.
+// The second half of a reading, whatever the room: 9 to 11, of n fields in channel 1 and m in channel 2, and the fields as numbers. Each check is
+// run only where the earlier ones pass.
 use answer::Outcome;
 ghost use mathlib.Core.Path.{_≡_};
-ghost use mathlib.Core.Bool.{true};
-ghost use Prim.Native.Nat.{_≤_};
-ghost use Rattle.answer.specs.Answer.{_or_};
-ghost use Rattle.channel.specs.Layout.{count};
+ghost use Prim.Native.Nat.{_+_, _≤_};
+ghost use lib.ListN.{length};
+ghost use Rattle.answer.specs.Answer.{_or_, after};
+ghost use Rattle.answer.specs.Lists.{filled};
+ghost use Rattle.channel.specs.Layout.{count, userOf};
 ghost use Rattle.halves.specs.Table.{check9, check10, check11};
-ghost use Rattle.halves.specs.Engine.{AtMost512, Sealed, outcome9to11};
+ghost use Rattle.halves.specs.Engine.{AtMost512, outcome9to11};
 
 // 9, measured as 3 is.
 fn cut_users(bw: u32, a: &[u8], b: &[u8], n: usize, m: usize) -> Outcome
@@ -24,57 +25,29 @@ fn cut_users(bw: u32, a: &[u8], b: &[u8], n: usize, m: usize) -> Outcome
     )
 }
 
-fn then_wrong_users(
-    prev: Outcome,
-    bw: u32,
-    a: &[u8],
-    b: &[u8],
-    n: usize,
-    m: usize,
-    sealed: bool,
-) -> Outcome
-    requires { ⌜ (sealed ≡ true → Sealed bw (now a) (now b)) × (n ≤ 72) × (m ≤ 72) × (n ≡ count bw 1 (now a)) × (m ≡ count bw 2 (now b)) ⌝ }
-    ensures { λ r. ⌜ r ≡ (prev or check10 bw (now (a .entry)) (now (b .entry))) ⌝ }
+// 10 on the way to the numbers, and 11 of them.
+fn take_checked(fields: &mut [u32], bw: u32, a: &[u8], b: &[u8], n: usize, m: usize) -> Outcome
+    requires { ⌜ (n + m ≤ length (now fields)) × (n ≤ 72) × (m ≤ 72) × (n ≡ count bw 1 (now a)) × (m ≡ count bw 2 (now b)) ⌝ }
+    ensures { λ r. ⌜ r ≡ (check10 bw (now (a .entry)) (now (b .entry)) or check11 bw (now (a .entry)) (now (b .entry))) ⌝ }
+    ensures { λ _. ⌜ now (fields .exit) ≡ filled (userOf bw (now (a .entry)) (now (b .entry)) n) (n + m) (now (fields .entry)) ⌝ }
 {
-    if let Outcome::Refuse(_) = prev {
-        return prev;
+    let wrong = user_fields::take_users(fields, bw, a, b, n, m);
+    if let Outcome::Refuse(_) = wrong {
+        return wrong;
     }
-    if sealed {
-        return prev;
-    }
-    answer::or_else(
-        wrong_blocks::wrong_users(bw, 1, a, n),
-        wrong_blocks::wrong_users(bw, 2, b, m),
-    )
+    stations::station_twice(fields, bw, n, m)
 }
 
-fn then_twice(prev: Outcome, bw: u32, a: &[u8], b: &[u8], n: usize, m: usize) -> Outcome
-    requires { ⌜ (n ≤ 72) × (m ≤ 72) × (n ≡ count bw 1 (now a)) × (m ≡ count bw 2 (now b)) ⌝ }
-    ensures { λ r. ⌜ r ≡ (prev or check11 bw (now (a .entry)) (now (b .entry))) ⌝ }
+// 9 to 11. The numbers are written where 9 passes.
+pub fn check_users(fields: &mut [u32], bw: u32, a: &[u8], b: &[u8], n: usize, m: usize) -> Outcome
+    requires { ⌜ AtMost512 (now a) (now b) × (n + m ≤ length (now fields)) × (n ≤ 72) × (m ≤ 72) × (n ≡ count bw 1 (now a)) × (m ≡ count bw 2 (now b)) ⌝ }
+    ensures { λ r. ⌜ r ≡ outcome9to11 bw (now (a .entry)) (now (b .entry)) ⌝ }
+    ensures { λ _. ⌜ now (fields .exit) ≡ after (check9 bw (now (a .entry)) (now (b .entry)))
+        (filled (userOf bw (now (a .entry)) (now (b .entry)) n) (n + m) (now (fields .entry))) (now (fields .entry)) ⌝ }
 {
-    if let Outcome::Refuse(_) = prev {
-        return prev;
+    let cut = cut_users(bw, a, b, n, m);
+    if let Outcome::Refuse(_) = cut {
+        return cut;
     }
-    stations::station_twice(bw, a, b, n, m)
-}
-
-pub fn then_users(
-    prev: Outcome,
-    bw: u32,
-    a: &[u8],
-    b: &[u8],
-    n: usize,
-    m: usize,
-    sealed: bool,
-) -> Outcome
-    requires { ⌜ (sealed ≡ true → Sealed bw (now a) (now b)) × AtMost512 (now a) (now b) × (n ≤ 72) × (m ≤ 72) × (n ≡ count bw 1 (now a))
-        × (m ≡ count bw 2 (now b)) ⌝ }
-    ensures { λ r. ⌜ r ≡ (prev or outcome9to11 bw (now (a .entry)) (now (b .entry))) ⌝ }
-{
-    if let Outcome::Refuse(_) = prev {
-        return prev;
-    }
-    let r = cut_users(bw, a, b, n, m);
-    let r = then_wrong_users(r, bw, a, b, n, m, sealed);
-    then_twice(r, bw, a, b, n, m)
+    take_checked(fields, bw, a, b, n, m)
 }

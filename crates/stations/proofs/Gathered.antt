@@ -3,21 +3,24 @@ use Prim.Native.Nat.{ℕ, zero, suc, _+_, _-_, _*_, _/_, _%_, _^_, _<_}
 use mathlib.Core.Path.{_≡_, refl, sym, _∙_, ap, ap₂}
 use mathlib.Core.Bool.{Bool, true, false, cond, _&&_, _||_}
 use mathlib.Core.List.{List}
-use native.Mathlib.Nat.{zero-div, zero-mod, div-eq-of-lt, one-mul, pow-suc, zero-add}
+use native.Mathlib.Nat.{zero-div, zero-mod, div-eq-of-lt, one-mul, pow-suc}
 use native.Mathlib.Decide.{decLt, ℕ-discrete}
 use native.Mathlib.Omega.{arith}
 use lib.Bits.{bitOr, or-shr, or-mod, or-zero-r}
 use lib.Pow as P
 use lib.Dec.{eqb, ltb, leb}
-use lib.ListN.{length, getD, set, replicate, length-set}
+use lib.ListN.{length, getD, set, replicate}
 use lib.Seq.{getD-set-same, getD-set-other}
-use borrow.Author.Tests.{eq-eqb, ne-eqb, ltb-false, lt-ltb, le-ltb}
+use borrow.Author.Tests.{eq-eqb, ne-eqb, ltb-false}
 use Rattle.answer.specs.Least.{least}
 use Rattle.answer.proofs.Least.{least-cong, least-le}
-use Rattle.bits.proofs.Fields.{field-lt}
-use Rattle.channel.specs.Layout.{userAt}
-use Rattle.stations.specs.Stations.{seenBefore, repeated, stationAt, stationOf}
-use Rattle.stations.specs.Engine.{Holds, Entered, stationIn, anyRepeated}
+use Rattle.answer.specs.Answer.{refuseIf}
+use Rattle.answer.specs.Lists.{filled, Front}
+use Rattle.answer.proofs.Lists.{getD-filled}
+use Rattle.bits.proofs.Windows.{field-low}
+use Rattle.channel.specs.Layout.{userAt, user, userOf}
+use Rattle.stations.specs.Stations.{seenBefore, repeated, stationAt, stationOf, stationPlace, firstRepeated, twice, stationTwice}
+use Rattle.stations.specs.Engine.{stationIn, anyRepeated}
 use Rattle.stations.proofs.Kept.{among, among-next}
 
 pub station-lt : (ids : List ℕ) (i : ℕ) → stationIn ids i < 2048
@@ -114,7 +117,7 @@ marked-more id marks j y e b n f = record { marked = λ x l. go x l (ℕ-discret
 -- ---- gathered
 
 pub again-none : (id : ℕ → ℕ) → false ≡ anyRepeated id 0
-unfolding anyRepeated least
+unfolding anyRepeated firstRepeated least
 again-none id = refl
 
 one : (s : Bool) → eqb (cond s 1 0) 1 ≡ s
@@ -128,59 +131,49 @@ seen id marks j x b e l f q =
     q ∙ ap (_&&_ (ltb 0 x && leb x 2006)) (ap (λ (z : ℕ). eqb z 1) (f .marked x l) ∙ one (among id j x)) ∙ ap (λ (z : ℕ). seenBefore id j z) e
 
 pub again-more : (id : ℕ → ℕ) (j : ℕ) (a b : Bool) → a ≡ anyRepeated id j → b ≡ repeated id j → a || b ≡ anyRepeated id (j + 1)
-unfolding anyRepeated
+unfolding anyRepeated firstRepeated
 again-more id j a b h q = ap₂ _||_ h q ∙ or-cond (anyRepeated id j) (repeated id j) ∙ sym (among-next (repeated id) j)
   where
     or-cond : (s t : Bool) → s || t ≡ cond s true t
     or-cond true t = refl
     or-cond false t = refl
 
--- a STA-ID has 11 bits
-pub station-low : (bw : ℕ) (a b : List ℕ) (n j : ℕ) → stationOf bw a b n j < 2048
-station-low bw a b n j = go (ltb j n)
-  where
-    go : (t : Bool) → cond t (stationAt bw a j) (stationAt bw b (j - n)) < 2048
-    go true = field-lt a (userAt bw j) 11
-    go false = field-lt b (userAt bw (j - n)) 11
-
--- the first that stands again in an array that holds them is theirs
-pub repeat-in : (id : ℕ → ℕ) (ids : List ℕ) (t : ℕ) → ((k : ℕ) → id k < 2048) → Holds id ids t → least (repeated (stationIn ids)) t ≡ least (repeated id) t
-unfolding stationIn
-repeat-in id ids t h f = least-cong (repeated (stationIn ids)) (repeated id) t here
-  where
-    at : (k : ℕ) → k < t → getD ids k 0 % 2048 ≡ id k
-    at k l = let q = f .holds k l in let r = h k in omega arith
-
-    here : (k : ℕ) → k < t → repeated (stationIn ids) k ≡ repeated id k
-    here k l =
-        rw (at k l, least-cong (λ i. eqb (getD ids i 0 % 2048) (id k)) (λ i. eqb (id i) (id k)) k (λ i m. ap (λ (y : ℕ). eqb y (id k)) (at i (omega arith))))
-
--- and none does where the gathered answer says so
-pub none-again : (id : ℕ → ℕ) (t : ℕ) → anyRepeated id t ≡ false → least (repeated id) t ≡ t
-unfolding anyRepeated
+-- none does where the gathered answer says so
+pub none-again : (id : ℕ → ℕ) (t : ℕ) → anyRepeated id t ≡ false → firstRepeated id t ≡ t
+unfolding anyRepeated firstRepeated
 none-again id t e = let l = ltb-false (least (repeated id) t) t e in let m = least-le (repeated id) t in omega arith
 
--- ---- the array, one channel after the other
-pub entered-none : (f : ℕ → ℕ) (w : List ℕ) (a : ℕ) → Entered f w a 0 w
-entered-none f w a = record { entered = λ k l. absurd (omega arith); kept = λ k l. refl; as-long = refl }
+-- ---- the same STA-IDs, held in other ways
 
-pub entered-more : (f : ℕ → ℕ) (w v : List ℕ) (a n x : ℕ) → x ≡ f n → a + n < length w → Entered f w a n v → Entered f w a (n + 1) (set v (a + n) x)
-entered-more f w v a n x e l h = record {
-  entered = λ k m. at k m (ℕ-discrete k n);
-  kept = λ k m. getD-set-other v (a + n) k x 0 (λ r. omega arith) ∙ h .kept k m;
-  as-long = length-set v (a + n) x ∙ h .as-long;
-}
+pub repeat-cong : (f g : ℕ → ℕ) (t : ℕ) → ((k : ℕ) → k < t → f k ≡ g k) → firstRepeated f t ≡ firstRepeated g t
+unfolding firstRepeated
+repeat-cong f g t h = least-cong (repeated f) (repeated g) t here
   where
-    at : (k : ℕ) → k < n + 1 → Dec (k ≡ n) → getD (set v (a + n) x) (a + k) 0 ≡ f k
-    at k m (yes q) = rw q (getD-set-same v (a + n) x 0 (omega (arith, h .as-long)) ∙ e)
-    at k m (no q) = getD-set-other v (a + n) (a + k) x 0 (λ r. q (omega arith)) ∙ h .entered k (omega arith)
+    here : (k : ℕ) → k < t → repeated f k ≡ repeated g k
+    here k l = rw (h k l, least-cong (λ i. eqb (f i) (g k)) (λ i. eqb (g i) (g k)) k (λ i m. ap (λ (y : ℕ). eqb y (g k)) (h i (omega arith))))
 
-pub both-entered : (bw : ℕ) (a b w v u : List ℕ) (n m : ℕ) → Entered (stationAt bw a) w 0 n v → Entered (stationAt bw b) v n m u
-    → Holds (stationOf bw a b n) u (n + m)
-both-entered bw a b w v u n m f g = record { holds = λ k l. at k l (decLt k n) }
+-- in the array of 144
+pub repeat-held : (fields w : List ℕ) (t : ℕ) → firstRepeated (stationIn (filled (stationIn fields) t w)) t ≡ firstRepeated (stationIn fields) t
+unfolding stationIn
+repeat-held fields w t =
+    repeat-cong (stationIn (filled (stationIn fields) t w)) (stationIn fields) t
+    (λ k l. ap (λ (x : ℕ). x % 2048) (getD-filled (stationIn fields) t w k 0 l) ∙ omega (arith, station-lt fields k))
+
+-- in the numbers of both channels' User fields
+station-is : (bw : ℕ) (a b : List ℕ) (n k : ℕ) → userOf bw a b n k % 2048 ≡ stationOf bw a b n k
+unfolding userOf
+station-is bw a b n k = go (ltb k n)
   where
-    at : (k : ℕ) → k < n + m → Dec (k < n) → getD u k 0 ≡ cond (ltb k n) (stationAt bw a k) (stationAt bw b (k - n))
-    at k l (yes q) = rw (lt-ltb k n q) (g .kept k q ∙ ap (λ (i : ℕ). getD v i 0) (sym (zero-add k)) ∙ f .entered k q)
-    at k l (no q) =
-        let e : n + (k - n) ≡ k = omega arith in
-        rw (le-ltb k n (omega arith)) (ap (λ (i : ℕ). getD u i 0) (sym e) ∙ g .entered (k - n) (omega arith))
+    low : (s : List ℕ) (i : ℕ) → user bw s i % 2048 ≡ stationAt bw s i
+    low s i = field-low s (userAt bw i) 22 11 (omega arith)
+
+    go : (t : Bool) → cond t (user bw a k) (user bw b (k - n)) % 2048 ≡ cond t (stationAt bw a k) (stationAt bw b (k - n))
+    go true = low a k
+    go false = low b (k - n)
+
+pub twice-held : (bw : ℕ) (a b fields : List ℕ) (n m : ℕ) → Front (userOf bw a b n) (n + m) fields
+    → twice bw (stationIn fields) n m ≡ stationTwice bw a b n m
+unfolding stationTwice stationIn
+twice-held bw a b fields n m h =
+    ap (λ (j : ℕ). refuseIf (ltb j (n + m)) (stationPlace bw n j))
+    (repeat-cong (stationIn fields) (stationOf bw a b n) (n + m) (λ k l. ap (λ (x : ℕ). x % 2048) (h .front k l) ∙ station-is bw a b n k))

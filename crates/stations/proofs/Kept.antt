@@ -8,7 +8,7 @@ use lib.Dec.{eqb, ltb, leb}
 use borrow.Author.Tests.{lt-ltb, le-ltb, ltb-true}
 use Rattle.answer.specs.Least.{least}
 use Rattle.answer.proofs.Least.{least-none}
-use Rattle.stations.specs.Stations.{repeated}
+use Rattle.stations.specs.Stations.{repeated, firstRepeated}
 
 -- the first of all was not seen before
 lone : (id : ℕ → ℕ) → repeated id 0 ≡ false
@@ -19,7 +19,8 @@ lone id = go (ltb 0 (id 0) && leb (id 0) 2006)
     go true = refl
     go false = refl
 
-pub repeat-none : (id : ℕ → ℕ) (n : ℕ) → n < 2 → least (repeated id) n ≡ n
+pub repeat-none : (id : ℕ → ℕ) (n : ℕ) → n < 2 → firstRepeated id n ≡ n
+unfolding firstRepeated
 repeat-none id n l = least-none (repeated id) n (λ k m. let e : k ≡ 0 = omega arith in rw e (lone id))
 
 -- ---- a bit for each STA-ID, set where it is one of them

@@ -32,10 +32,14 @@ repeated id j = seenBefore id j (id j)
 abbrev pub stationPlace : ℕ → ℕ → ℕ → Answer
 stationPlace bw n j = cond (ltb j n) (no 11 1 (userAt bw j)) (no 11 2 (userAt bw (j - n)))
 
--- of n fields in channel 1 and m in channel 2
-unfoldable pub firstRepeated : ℕ → List ℕ → List ℕ → ℕ → ℕ → ℕ
-firstRepeated bw a b n m = least (repeated (stationOf bw a b n)) (n + m)
+-- the lowest of t that was
+unfoldable pub firstRepeated : (ℕ → ℕ) → ℕ → ℕ
+firstRepeated id t = least (repeated id) t
 
+-- 11 of STA-IDs, the first n of which are channel 1's and the other m channel 2's
+abbrev pub twice : ℕ → (ℕ → ℕ) → ℕ → ℕ → Outcome
+twice bw id n m = refuseIf (ltb (firstRepeated id (n + m)) (n + m)) (stationPlace bw n (firstRepeated id (n + m)))
+
+-- of the channels' own
 unfoldable pub stationTwice : ℕ → List ℕ → List ℕ → ℕ → ℕ → Outcome
-stationTwice bw a b n m =
-    refuseIf (ltb (firstRepeated bw a b n m) (n + m)) (stationPlace bw n (firstRepeated bw a b n m))
+stationTwice bw a b n m = twice bw (stationOf bw a b n) n m

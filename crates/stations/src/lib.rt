@@ -4,34 +4,24 @@ use answer::Outcome;
 ghost use mathlib.Core.Path.{_≡_};
 ghost use Prim.Native.Nat.{_+_, _/_, _%_, _^_, _≤_, _<_};
 ghost use mathlib.Core.Bool.{_&&_};
-ghost use lib.Dec.{eqb, ltb, leb};
-ghost use lib.ListN.{length};
-ghost use Rattle.answer.specs.Least.{least};
-ghost use Rattle.stations.specs.Stations.{stationAt, stationOf, repeated, stationPlace, firstRepeated, stationTwice};
-ghost use Rattle.stations.specs.Engine.{Holds, Entered};
-ghost use Rattle.stations.specs.Engine.{stationIn, anyRepeated};
 ghost use lib.Bits.{bitOr};
+ghost use lib.Dec.{eqb, ltb, leb};
+ghost use lib.ListN.{length, replicate};
+ghost use Rattle.answer.specs.Lists.{filled};
+ghost use Rattle.stations.specs.Stations.{stationPlace, firstRepeated, twice};
+ghost use Rattle.stations.specs.Engine.{stationIn, anyRepeated};
 
-// Enters the STA-IDs of a channel's n User fields, from place `at` on.
-fn enter_stations(ids: &mut [u16; 144], at: usize, bw: u32, s: &[u8], n: usize)
-    requires { ⌜ (n ≤ 72) × (at + n ≤ 144) × (length (now ids) ≡ 144) ⌝ }
-    ensures { λ _. ⌜ Entered (stationAt bw (now (s .entry))) (now (ids .entry)) at n (now (ids .exit)) ⌝ }
-{
-    let mut i = 0;
-    while i < n {
-        ids[at + i] = bits::field_at(s, channel::user_bit(bw, i), 11) as u16;
-        i += 1;
-    }
-}
-
-// "room for 144 STA-IDs is set aside at once, empty": those of n fields in channel 1 and m in channel 2.
-fn stations_of(bw: u32, a: &[u8], b: &[u8], n: usize, m: usize) -> [u16; 144]
-    requires { ⌜ (n ≤ 72) × (m ≤ 72) ⌝ }
-    ensures { λ r. ⌜ (length r ≡ 144) × Holds (stationOf bw (now (a .entry)) (now (b .entry)) n) r (n + m) ⌝ }
+// "room for 144 STA-IDs is set aside at once, empty": those of the first t User fields.
+fn stations_of(fields: &[u32], t: usize) -> [u16; 144]
+    requires { ⌜ (t ≤ 144) × (t ≤ length (now fields)) ⌝ }
+    ensures { λ r. ⌜ r ≡ filled (stationIn (now (fields .entry))) t (replicate 144 0) ⌝ }
 {
     let mut ids = [0u16; 144];
-    enter_stations(&mut ids, 0, bw, a, n);
-    enter_stations(&mut ids, n, bw, b, m);
+    let mut j = 0;
+    while j < t {
+        ids[j] = (fields[j] % 2048) as u16;
+        j += 1;
+    }
     ids
 }
 
@@ -73,7 +63,7 @@ fn any_again(ids: &[u16; 144], t: usize) -> bool
 // The first of t that may not stand again and does.
 fn first_again(ids: &[u16; 144], t: usize) -> usize
     requires { ⌜ t ≤ 144 ⌝ }
-    ensures { λ r. ⌜ (r ≤ t) × (r ≡ least (repeated (stationIn (now (ids .entry)))) t) ⌝ }
+    ensures { λ r. ⌜ (r ≤ t) × (r ≡ firstRepeated (stationIn (now (ids .entry))) t) ⌝ }
 {
     let mut marks = [0u64; 32];
     let mut j = 0;
@@ -90,20 +80,19 @@ fn first_again(ids: &[u16; 144], t: usize) -> usize
     j
 }
 
-// The first field whose STA-ID was seen before, of n in channel 1 and m in channel 2.
-fn first_repeated(bw: u32, a: &[u8], b: &[u8], n: usize, m: usize) -> usize
-    requires { ⌜ (n ≤ 72) × (m ≤ 72) ⌝ }
-    ensures { λ r. ⌜ r ≡ firstRepeated bw (now (a .entry)) (now (b .entry)) n m ⌝ }
-    ensures { λ r. ⌜ r ≤ n + m ⌝ }
+// The first of t fields whose STA-ID was seen before.
+fn first_repeated(fields: &[u32], t: usize) -> usize
+    requires { ⌜ (t ≤ 144) × (t ≤ length (now fields)) ⌝ }
+    ensures { λ r. ⌜ (r ≤ t) × (r ≡ firstRepeated (stationIn (now (fields .entry))) t) ⌝ }
 {
-    if n + m < 2 {
-        return n + m; // one station repeats none
+    if t < 2 {
+        return t; // one station repeats none
     }
-    let ids = stations_of(bw, a, b, n, m);
-    if !any_again(&ids, n + m) {
-        return n + m;
+    let ids = stations_of(fields, t);
+    if !any_again(&ids, t) {
+        return t;
     }
-    first_again(&ids, n + m)
+    first_again(&ids, t)
 }
 
 fn station_place(bw: u32, n: usize, j: usize) -> Answer
@@ -125,12 +114,14 @@ fn station_place(bw: u32, n: usize, j: usize) -> Answer
     }
 }
 
-// Answer 11.
-pub fn station_twice(bw: u32, a: &[u8], b: &[u8], n: usize, m: usize) -> Outcome
-    requires { ⌜ (n ≤ 72) × (m ≤ 72) ⌝ }
-    ensures { λ r. ⌜ r ≡ stationTwice bw (now (a .entry)) (now (b .entry)) n m ⌝ }
+// Answer 11, of fields that are held as numbers: channel 1's n, then channel 2's m.
+pub fn station_twice(fields: &[u32], bw: u32, n: usize, m: usize) -> Outcome
+    requires { ⌜ (n ≤ 72) × (m ≤ 72) × (n + m ≤ length (now fields)) ⌝ }
+    ensures { λ r. ⌜ r ≡ twice bw (stationIn (now (fields .entry))) n m ⌝ }
 {
-    let j = first_repeated(bw, a, b, n, m);
-    let x = station_place(bw, n, j);
-    answer::refuse_if(j < n + m, x.number, x.channel, x.place)
+    let j = first_repeated(fields, n + m);
+    if j < n + m {
+        return Outcome::Refuse(station_place(bw, n, j));
+    }
+    Outcome::Pass
 }

@@ -2,10 +2,9 @@
 use mathlib.Core.Bool.{Bool}
 use mathlib.Core.List.{List}
 use Prim.Native.Nat.{ℕ, _+_}
-use Rattle.bits.specs.Bits.{field}
-use Rattle.channel.specs.Layout.{userAt}
+use Rattle.answer.specs.Lists.{at}
 use Rattle.words.specs.Words.{userWord}
 
--- the word of the i-th User field from field j on, in one format
-abbrev pub runWord : ℕ → List ℕ → ℕ → Bool → ℕ → ℕ
-runWord bw s j shared i = userWord shared (field s (userAt bw (j + i)) 22)
+-- the word of the i-th number from number j on, in one format
+unfoldable pub runWord : List ℕ → ℕ → Bool → ℕ → ℕ
+runWord fields j shared i = userWord shared (at fields (j + i))

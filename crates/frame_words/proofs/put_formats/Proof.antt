@@ -4,22 +4,22 @@ use mathlib.Core.Path.{_≡_, refl, _∙_, ap}
 use native.Mathlib.Omega.{arith}
 use lib.Dec.{eqb}
 use lib.ListN.{length, length-drop}
+use Rattle.answer.proofs.Grow.{part-tail, grown}
 use Rattle.answer.proofs.Lists.{filled-length, filled-start}
 use Rattle.answer.specs.Lists.{filled}
 use Rattle.channel.specs.Layout.{subfieldsIn, count}
 use Rattle.frame_words.specs.Words.{positionIn, before, userWordAt}
 use Rattle.user_words.specs.Engine.{runWord}
 use Rattle.frame_words.proofs.Givers.{Turn, turn, count-before, before-none, run-words}
-use Rattle.frame_words.proofs.Grow.{part-tail, grown}
 use borrow.Author.Needs.{needs}
 use Rattle.frame_words.proofs.put_formats.Statement.{statement}
 use Rattle.frame_words.proofs.put_formats.Tie as tie
 
 abbrev Inv-loop : tie.InvT-loop
-Inv-loop out₀ bw c s row shared n j₀ k₀ out j k = (k ≤ n) × (j ≡ before bw s k) × (out ≡ filled (userWordAt bw row c s) j out₀) × (length out ≡ length out₀)
+Inv-loop out₀ fields bw c s row shared n j₀ k₀ out j k = (k ≤ n) × (j ≡ before bw s k) × (out ≡ filled (userWordAt bw row c s) j out₀) × (length out ≡ length out₀)
 
 abbrev μ-loop : tie.MeasureT-loop
-μ-loop out₀ bw c s row shared n j₀ k₀ out j k = n - k
+μ-loop out₀ fields bw c s row shared n j₀ k₀ out j k = n - k
 
 subfields-of-requires : tie.Need-subfields-of-requires Inv-loop μ-loop
 subfields-of-requires c κs = search needs
@@ -42,17 +42,17 @@ mul-fields-of c = search needs
 shared-slice-read-fields-of : tie.Need-shared-slice-read-fields-of Inv-loop μ-loop
 shared-slice-read-fields-of c =
     let l = c .before .before .loop in
-    c .before .before .before .before .before .before .before .pre .4 .inside (l .k) (omega (arith, c .before .before .before .subfields-of .ensures .0))
+    c .before .before .before .before .before .before .before .before .pre .5 .inside (l .k) (omega (arith, c .before .before .before .subfields-of .ensures .0))
 
 -- the turn that the loop is in, once the value's fields are counted
 in-turn : (c : tie.After-fields-of Inv-loop μ-loop)
-    → let a = c .before .before .before .before .before .before .before .before .args in
+    → let a = c .before .before .before .before .before .before .before .before .before .args in
     let l = c .before .before .before .loop in
     Turn (a .bw) (a .c) (a .s .now) (a .row .now) (l .j) (l .k) (c .fields-of .result)
 in-turn c =
-    let s = c .before .before .before .before .before .before .before .before in
+    let s = c .before .before .before .before .before .before .before .before .before in
     let l = c .before .before .before .loop in
-    turn (s .args .bw) (s .args .c) (s .args .s .now) (s .args .row .now) (l .j) (l .k) (c .fields-of .result) (s .pre .4)
+    turn (s .args .bw) (s .args .c) (s .args .s .now) (s .args .row .now) (l .j) (l .k) (c .fields-of .result) (s .pre .5)
     (omega (arith, c .before .before .before .before .subfields-of .ensures .0)) (l .inv .1) (c .fields-of .ensures)
 
 fields-of-requires : tie.Need-fields-of-requires Inv-loop μ-loop
@@ -83,7 +83,7 @@ put-value-requires : tie.Need-put-value-requires Inv-loop μ-loop
 put-value-requires c κs =
     let l = c .before .before .before .before .loop in
     let t = in-turn (c .before) in
-    (rw (part-tail (l .out) (l .j) (omega (arith, t .fits))) (omega (arith, t .fits, length-drop (l .j) (l .out))), omega (arith, t .few))
+    (rw (part-tail (l .out) (l .j) (omega (arith, t .fits))) (omega (arith, t .fits, length-drop (l .j) (l .out))), omega (arith, t .fits))
 
 add-j : tie.Need-add-j Inv-loop μ-loop
 add-j c = omega (arith, in-turn (c .before .before .before .before) .few)
@@ -99,14 +99,15 @@ loop-again c =
     let fields-of = c .before .before .before .before .fields-of in
     let put-value = c .before .before .put-value in
     let l = c .before .before .before .before .before .before .before .loop in
-    let a = c .before .before .before .before .before .before .before .before .before .before .before .before .args in
+    let b = c .before .before .before .before .before .before .before .before .before .before .before .before .before in
+    let a = b .args in
     let t = in-turn (c .before .before .before .before) in
     let p = positionIn (a .c) (l .k) in
-    let e = c .before .before .before .before .before .before .before .before .before .before .before .before .pre .5 .format p (t .inside) in
+    let e = b .pre .6 .format p (t .inside) in
     let f = userWordAt (a .bw) (a .row .now) (a .c) (a .s .now) in
-    let g = runWord (a .bw) (a .s .now) (l .j) (eqb (a .shared / 2 ^ p % 2) 1) in
+    let g = runWord (a .fields .now) (l .j) (eqb (a .shared / 2 ^ p % 2) 1) in
     let w : (i : ℕ) → i < fields-of .result → g i ≡ f (l .j + i) =
-    λ i h. rw (e, l .inv .1) (run-words (a .bw) (a .c) (a .s .now) (l .k) (t .there) (a .row .now) i (omega (arith, t .own))) in
+    λ i h. rw (e, l .inv .1) (run-words (a .bw) (a .c) (a .s .now) (l .k) (t .there) (a .row .now) (a .fields .now) i (b .pre .7) (omega (arith, t .own))) in
     let o = grown f g (a .out .now) (l .out) (put-value .last .0) (l .j) (fields-of .result) (omega (arith, t .fits)) (l .inv .2) w (put-value .ensures) in
     (omega arith, t .next, o, ap length o ∙ filled-length f (l .j + fields-of .result) (a .out .now) (omega (arith, t .fits)))
 
@@ -115,7 +116,7 @@ same-length c = c .before .loop .inv .3
 
 returns : tie.Need-returns Inv-loop μ-loop
 returns c =
-    let a = c .before .before .before .before .before .before .args in
+    let a = c .before .before .before .before .before .before .before .args in
     let e : c .before .loop .k ≡ subfieldsIn (a .bw) (a .c) = omega (arith, c .before .before .subfields-of .ensures .0) in
     let n : c .before .loop .j ≡ count (a .bw) (a .c) (a .s .now) =
     c .before .loop .inv .1 ∙ ap (before (a .bw) (a .s .now)) e ∙ count-before (a .bw) (a .c) (a .s .now) in

@@ -1,7 +1,7 @@
 -- `stations::first_again` meets its contract.
 use Rattle.stations.proofs.Gathered.{station-lt, Marked, marked-none, marked-more, seen}
 use Rattle.stations.specs.Engine.{stationIn}
-use Rattle.stations.specs.Stations.{repeated}
+use Rattle.stations.specs.Stations.{repeated, firstRepeated}
 use Rattle.answer.specs.Least.{least}
 use Rattle.answer.proofs.Least.{least-start, least-step, least-stop, least-end}
 use lib.ListN.{length, length-set}
@@ -40,7 +40,7 @@ is-marked-requires : tie.Need-is-marked-requires Inv-loop μ-loop
 is-marked-requires c κs = search needs
 
 returns : tie.Need-returns Inv-loop μ-loop
-unfolding stationIn
+unfolding stationIn firstRepeated
 returns c =
     let a = c .before .before .before .before .before .args in
     let l = c .before .before .before .before .loop in (
@@ -84,6 +84,7 @@ loop-again c =
     )
 
 returns-2 : tie.Need-returns-2 Inv-loop μ-loop
+unfolding firstRepeated
 returns-2 c =
     let a = c .before .before .args in
     (omega arith, sym (least-end (repeated (stationIn (a .ids .now))) (c .before .loop .j) (a .t) (omega arith) (c .before .loop .inv .2)))
