@@ -5,9 +5,9 @@ use Prim.Native.Nat.{ℕ, _+_, _-_, _≤_, _<_}
 use native.Mathlib.Omega.{arith}
 use lib.ListN.{length, take, drop, length-drop}
 use lib.Seq.{take-all, drop-length, drop-drop, take-at, drop-at}
-use borrow.Rule.Slice.PartMut.{putMid, post-is, same-len-mid}
+use borrow.Rule.Slice.PartMut.{putMid, post-is}
 use Rattle.answer.specs.Lists.{build, filled}
-use Rattle.answer.proofs.Lists.{build-cong, build-append, length-build, filled-length}
+use Rattle.answer.proofs.Lists.{build-cong, build-append, length-build}
 
 module _ (xs : List ℕ) (j : ℕ) (l : j ≤ length xs) where
   -- the part from j on, and the list with another in its place
@@ -32,9 +32,3 @@ grown f g w out ys j m l e h q =
       drop-drop m j w,
     )
     (sym (append-assoc (build f j) (build (λ i. f (j + i)) m) (drop (j + m) w)) ∙ ap (λ (z : List ℕ). z ++ drop (j + m) w) (sym (build-append f j m)))
-
-pub filled-put-length : (f : ℕ → ℕ) (n : ℕ) (xs : List ℕ) (j : ℕ) (ys : List ℕ) → j + n ≤ length xs
-    → ys ≡ filled f n (take (length xs - j) (drop j xs)) → length (putMid j (length xs - j) xs ys) ≡ length xs
-filled-put-length f n xs j ys l e =
-    same-len-mid j (length xs - j) xs ys
-    (ap length e ∙ filled-length f n (take (length xs - j) (drop j xs)) (rw (part-tail xs j (omega arith)) (omega (arith, length-drop j xs))))

@@ -4,9 +4,7 @@ use mathlib.Core.List.{List, _++_}
 use Prim.Native.Nat.{ℕ, _≤_}
 use lib.ListN.{length, drop}
 use Rattle.answer.specs.Answer.{answerAt, after}
-use Rattle.answer.specs.Lists.{filled, Front}
-use Rattle.answer.proofs.Lists.{front-filled}
-use Rattle.answer.proofs.Order.{pass-left, pass-right, after-passed}
+use Rattle.answer.proofs.Order.{pass-left, pass-right}
 use Rattle.answer.specs.declared.Answer.{Answer}
 use Rattle.answer.specs.declared.Outcome.{Outcome}
 use Rattle.answer.specs.declared.Outcome.the-variants.{Pass, Refuse}
@@ -14,7 +12,6 @@ use Rattle.channel.specs.Layout.{row}
 use Rattle.channel.proofs.Laws.{row-length}
 use Rattle.halves.specs.declared.Planned.{Planned}
 use Rattle.halves.specs.Engine.{plannedOf, outcome9to11}
-use Rattle.halves.specs.Table.{check9, check10, check11}
 use Rattle.halves.proofs.Stages.{common-pass}
 use Rattle.halves.proofs.Half.{planned-made, outcome-made, planned-refuse, planned-rest}
 use Rattle.frame_words.specs.Words.{wordCount, wordsOf}
@@ -58,13 +55,9 @@ handed bw a b r e f q =
       count2 = m .count2;
     }
 
--- what passing 9 to 12 says: room enough, and the numbers are the frame's fields
+-- what passing 9 to 12 says: 9 to 11 pass, and there is room enough
+pub users-pass : (bw : ℕ) (a b : List ℕ) (room : ℕ) → usersOutcome bw a b room ≡ Pass → outcome9to11 bw a b ≡ Pass
+users-pass bw a b room e = pass-left (outcome9to11 bw a b) (check12 bw a b room) e
+
 pub room-enough : (bw : ℕ) (a b : List ℕ) (room : ℕ) → usersOutcome bw a b room ≡ Pass → wordCount bw a b ≤ room
 room-enough bw a b room e = room-pass bw a b room (pass-right (outcome9to11 bw a b) (check12 bw a b room) e)
-
-pub fields-held : (bw : ℕ) (a b : List ℕ) (room : ℕ) (f : ℕ → ℕ) (t : ℕ) (w v : List ℕ) → usersOutcome bw a b room ≡ Pass
-    → v ≡ after (check9 bw a b) (filled f t w) w → Front f t v
-unfolding outcome9to11
-fields-held bw a b room f t w v e h =
-    let p = pass-left (check9 bw a b) (check10 bw a b) (pass-left _ (check11 bw a b) (pass-left (outcome9to11 bw a b) (check12 bw a b room) e)) in
-    front-filled f t w v (h ∙ after-passed _ _ _ p)

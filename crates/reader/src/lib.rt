@@ -84,7 +84,7 @@ fn read_as(bandwidth: u32, cc1: &[u8], cc2: &[u8], words: &mut [u32], sealed: bo
     }
     let row = plan.row;
     let p = channel::positions_of(bandwidth);
-    read_planned(
+    let x = read_planned(
         bandwidth,
         cc1,
         cc2,
@@ -93,7 +93,13 @@ fn read_as(bandwidth: u32, cc1: &[u8], cc2: &[u8], words: &mut [u32], sealed: bo
         plan.fields1,
         plan.fields2,
         words,
-    )
+    );
+    // made anew, so that the first half's refusals do not go through the memory that a call answers in
+    Answer {
+        number: x.number,
+        channel: x.channel,
+        place: x.place,
+    }
 }
 
 // Reads a frame: the answer, and on acceptance the words at the front of the lent buffer. A refusal writes nothing.

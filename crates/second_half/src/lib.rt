@@ -4,7 +4,7 @@ use answer::Outcome;
 ghost use mathlib.Core.Path.{_≡_};
 ghost use Prim.Native.Nat.{_+_, _≤_};
 ghost use lib.ListN.{length};
-ghost use Rattle.answer.specs.Answer.{_or_, after};
+ghost use Rattle.answer.specs.Answer.{_or_};
 ghost use Rattle.answer.specs.Lists.{filled};
 ghost use Rattle.channel.specs.Layout.{count, userOf};
 ghost use Rattle.halves.specs.Table.{check9, check10, check11};
@@ -29,7 +29,8 @@ fn cut_users(bw: u32, a: &[u8], b: &[u8], n: usize, m: usize) -> Outcome
 fn take_checked(fields: &mut [u32], bw: u32, a: &[u8], b: &[u8], n: usize, m: usize) -> Outcome
     requires { ⌜ (n + m ≤ length (now fields)) × (n ≤ 72) × (m ≤ 72) × (n ≡ count bw 1 (now a)) × (m ≡ count bw 2 (now b)) ⌝ }
     ensures { λ r. ⌜ r ≡ (check10 bw (now (a .entry)) (now (b .entry)) or check11 bw (now (a .entry)) (now (b .entry))) ⌝ }
-    ensures { λ _. ⌜ now (fields .exit) ≡ filled (userOf bw (now (a .entry)) (now (b .entry)) n) (n + m) (now (fields .entry)) ⌝ }
+    ensures { λ r. ⌜ (r ≡ Outcome.Pass
+        → now (fields .exit) ≡ filled (userOf bw (now (a .entry)) (now (b .entry)) n) (n + m) (now (fields .entry))) ⌝ }
 {
     let wrong = user_fields::take_users(fields, bw, a, b, n, m);
     if let Outcome::Refuse(_) = wrong {
@@ -38,12 +39,12 @@ fn take_checked(fields: &mut [u32], bw: u32, a: &[u8], b: &[u8], n: usize, m: us
     stations::station_twice(fields, bw, n, m)
 }
 
-// 9 to 11. The numbers are written where 9 passes.
+// 9 to 11, and where they pass the numbers.
 pub fn check_users(fields: &mut [u32], bw: u32, a: &[u8], b: &[u8], n: usize, m: usize) -> Outcome
     requires { ⌜ AtMost512 (now a) (now b) × (n + m ≤ length (now fields)) × (n ≤ 72) × (m ≤ 72) × (n ≡ count bw 1 (now a)) × (m ≡ count bw 2 (now b)) ⌝ }
     ensures { λ r. ⌜ r ≡ outcome9to11 bw (now (a .entry)) (now (b .entry)) ⌝ }
-    ensures { λ _. ⌜ now (fields .exit) ≡ after (check9 bw (now (a .entry)) (now (b .entry)))
-        (filled (userOf bw (now (a .entry)) (now (b .entry)) n) (n + m) (now (fields .entry))) (now (fields .entry)) ⌝ }
+    ensures { λ r. ⌜ (r ≡ Outcome.Pass
+        → now (fields .exit) ≡ filled (userOf bw (now (a .entry)) (now (b .entry)) n) (n + m) (now (fields .entry))) ⌝ }
 {
     let cut = cut_users(bw, a, b, n, m);
     if let Outcome::Refuse(_) = cut {

@@ -1,8 +1,9 @@
 -- The fields of a block out of a number that starts with it, and what is wrong with any block, gathered.
 use Prim.Native.Nat.{ℕ, _+_, _-_, _*_, _/_, _%_, _^_, _≤_, _<_}
 use mathlib.Core.Path.{_≡_, refl, sym, _∙_, ap, ap₂}
-use mathlib.Core.Bool.{Bool, true, false, _&&_}
+use mathlib.Core.Bool.{Bool, true, false, _&&_, false≢true}
 use mathlib.Core.List.{List}
+use mathlib.Core.Logic.{⊎-elim}
 use native.Mathlib.Omega.{arith}
 use lib.Bits.{bitXor, bitAnd, bitOr}
 use lib.Dec.{ltb}
@@ -10,13 +11,14 @@ use lib.ListN.{length, set, take, drop}
 use borrow.Author.Tests.{lt-ltb, le-ltb}
 use borrow.Rule.Slice.PartMut.{putMid}
 use Rattle.answer.specs.Answer.{_or_}
+use Rattle.answer.specs.declared.Outcome.{Outcome}
 use Rattle.answer.specs.declared.Outcome.the-variants.{Pass}
 use Rattle.answer.specs.Every.{every}
 use Rattle.answer.specs.Lists.{filled}
-use Rattle.answer.proofs.Every.{every-next, every-at}
+use Rattle.answer.proofs.Every.{every-next, every-at, all-every}
 use Rattle.answer.proofs.Lists.{filled-step, filled-cong, filled-length}
 use Rattle.answer.proofs.Grow.{grown}
-use Rattle.answer.proofs.Order.{or-pass}
+use Rattle.answer.proofs.Order.{pass-or-refuse, or-refuse}
 use Rattle.bits.specs.Bits.{field}
 use Rattle.bits.proofs.Fields.{field-part}
 use Rattle.bits.proofs.Windows.{field-low, window-low}
@@ -24,12 +26,12 @@ use Rattle.register.specs.Engine.{quotient, allRight, rightOf}
 use Rattle.register.proofs.Word.{right-leaving}
 use Rattle.register.proofs.Gathered.{right-more}
 use Rattle.block.specs.Check.{right}
-use Rattle.block.proofs.Checks.{right-says}
+use Rattle.block.proofs.Checks.{right-says, says-right}
 use Rattle.block.proofs.Word.{right-whole}
 use Rattle.channel.specs.Layout.{user, userOf, blockAt, covered, blocks, count}
 use Rattle.channel.proofs.Blocks.{user-even, user-odd, covered-two, covered-one}
 use Rattle.faults.specs.Checks.{wrongUsers}
-use Rattle.faults.proofs.Passing.{pass-wrongUsers}
+use Rattle.faults.proofs.Passing.{wrongUsers-pass, pass-wrongUsers}
 use Rattle.user_fields.specs.Engine.{blockRight, usersRight}
 
 -- ---- a number w that starts with block b
@@ -93,25 +95,30 @@ odd-filled f n out w l e h =
     ∙ filled-step f (n - 1) (f (n - 1)) w (omega arith) refl
     ∙ ap (λ (j : ℕ). filled f j w) q
 
--- ---- 10 where nothing is wrong
+-- ---- 10: a channel's passes where all its blocks are right, and only there
 
-pass-right : (bw c : ℕ) (s : List ℕ) (n : ℕ) → n ≡ count bw c s → usersRight bw s n ≡ true → wrongUsers bw c s ≡ Pass
-unfolding usersRight blockRight
-pass-right bw c s n e h =
-    pass-wrongUsers bw c s
-    (λ b l. right-says s (blockAt bw b) (covered (count bw c s) b)
-    (every-at (blockRight bw s (count bw c s)) (blocks (count bw c s)) (rw e at h) b l))
+module _ (bw c : ℕ) (s : List ℕ) (n : ℕ) (e : n ≡ count bw c s) where
+  pub right-passes : usersRight bw s n ≡ true → wrongUsers bw c s ≡ Pass
+  unfolding usersRight blockRight
+  right-passes h =
+      pass-wrongUsers bw c s
+      (λ b l.
+      right-says s (blockAt bw b) (covered (count bw c s) b)
+      (every-at (blockRight bw s (count bw c s)) (blocks (count bw c s)) (rw e at h) b l))
 
-both-left : (x y : Bool) → x && y ≡ true → (x ≡ true) × (y ≡ true)
-both-left true y e = (refl, e)
-both-left false true e = (e, refl)
-both-left false false e = (e, e)
+  pub wrong-refuses : usersRight bw s n ≡ false → wrongUsers bw c s ≡ Pass → ⊥
+  unfolding usersRight blockRight
+  wrong-refuses h p =
+      false≢true
+      (sym h
+      ∙ rw e
+      (all-every (blockRight bw s (count bw c s)) (blocks (count bw c s))
+      (λ b l. says-right s (blockAt bw b) (covered (count bw c s) b) (wrongUsers-pass bw c s p b l))))
 
-pub both-pass : (bw : ℕ) (a b : List ℕ) (n m : ℕ) (x y : Bool) → n ≡ count bw 1 a → m ≡ count bw 2 b → x ≡ usersRight bw a n → y ≡ usersRight bw b m
-    → x && y ≡ true → Pass ≡ wrongUsers bw 1 a or wrongUsers bw 2 b
-both-pass bw a b n m x y e f g h t =
-    let p = both-left x y t in
-    sym (or-pass _ _ (pass-right bw 1 a n e (sym g ∙ p .0)) (pass-right bw 2 b m f (sym h ∙ p .1)))
+  -- so it is the answer of both, where it is the first
+  pub wrong-first : (o : Outcome) → usersRight bw s n ≡ false → wrongUsers bw c s ≡ wrongUsers bw c s or o
+  wrong-first o h =
+      ⊎-elim (λ p. absurd (wrong-refuses h p)) (λ r. r .1 ∙ sym (or-refuse (wrongUsers bw c s) o (r .0) (r .1))) (pass-or-refuse (wrongUsers bw c s))
 
 -- ---- the numbers of both channels
 

@@ -69,19 +69,18 @@ fn take_fields(fields: &mut [u32], bw: u32, s: &[u8], n: usize) -> bool
     right & take_last(fields, bw, s, n)
 }
 
-// 10, and the fields of both channels, channel 1's n first.
+// 10, and where it passes the fields of both channels, channel 1's n first.
 pub fn take_users(fields: &mut [u32], bw: u32, a: &[u8], b: &[u8], n: usize, m: usize) -> Outcome
     requires { ⌜ (n + m ≤ length (now fields)) × (n ≤ 72) × (m ≤ 72) × (n ≡ count bw 1 (now a)) × (m ≡ count bw 2 (now b)) ⌝ }
     ensures { λ r. ⌜ r ≡ (wrongUsers bw 1 (now (a .entry)) or wrongUsers bw 2 (now (b .entry))) ⌝ }
-    ensures { λ _. ⌜ now (fields .exit) ≡ filled (userOf bw (now (a .entry)) (now (b .entry)) n) (n + m) (now (fields .entry)) ⌝ }
+    ensures { λ r. ⌜ (r ≡ Outcome.Pass
+        → now (fields .exit) ≡ filled (userOf bw (now (a .entry)) (now (b .entry)) n) (n + m) (now (fields .entry))) ⌝ }
 {
-    let first = take_fields(fields, bw, a, n);
-    let second = take_fields(&mut fields[n..], bw, b, m);
-    if first & second {
-        return Outcome::Pass;
+    if !take_fields(fields, bw, a, n) {
+        return wrong_blocks::wrong_users(bw, 1, a, n);
     }
-    answer::or_else(
-        wrong_blocks::wrong_users(bw, 1, a, n),
-        wrong_blocks::wrong_users(bw, 2, b, m),
-    )
+    if !take_fields(&mut fields[n..], bw, b, m) {
+        return wrong_blocks::wrong_users(bw, 2, b, m);
+    }
+    Outcome::Pass
 }

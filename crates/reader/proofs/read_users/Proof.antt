@@ -5,11 +5,12 @@ use native.Mathlib.Omega.{arith}
 use lib.ListN.{length}
 use Rattle.answer.specs.Answer.{_or_}
 use Rattle.answer.specs.declared.Outcome.{Outcome}
+use Rattle.answer.proofs.Lists.{front-filled}
 use Rattle.frame_words.specs.Words.{wordsOf}
 use Rattle.frame_words.proofs.Counted.{counted}
 use Rattle.reader.specs.Table.{noRoom, check12}
 use Rattle.reader.specs.Engine.{usersOutcome, usersAnswer, usersAfter}
-use Rattle.reader.proofs.Halves.{room-enough, fields-held}
+use Rattle.reader.proofs.Halves.{users-pass, room-enough}
 use borrow.Author.Needs.{needs}
 use Rattle.reader.proofs.read_users.Statement.{statement}
 use Rattle.reader.proofs.read_users.Tie as tie
@@ -64,7 +65,8 @@ put-frame-requires c κs =
       p .formats,
       p .count1,
       p .count2,
-      fields-held (s .bw) (s .a .now) (s .b .now) (length (s .words .now)) _ (s .n + s .m) (s .fields .now) (t .last .0) e (t .ensures .1),
+      front-filled _ (s .n + s .m) (s .fields .now) (t .last .0)
+          (t .ensures .1 (t .ensures .0 ∙ users-pass (s .bw) (s .a .now) (s .b .now) (length (s .words .now)) e)),
     )
 
 same-length-2 : tie.Need-same-length-2

@@ -1,6 +1,6 @@
 -- `second_half::check_users` meets its contract.
 use mathlib.Core.Path.{sym, _∙_}
-use Rattle.answer.proofs.Order.{or-refuse, or-assoc, after-refused, after-passed}
+use Rattle.answer.proofs.Order.{or-refuse, or-assoc, pass-not-refuse}
 use Rattle.halves.specs.Engine.{outcome9to11}
 use Rattle.halves.proofs.Stages.{pass-next}
 use borrow.Author.Needs.{needs}
@@ -19,7 +19,7 @@ returns c =
     let e = c .before .before .cut-users .ensures in
     let q = c .enum-told .given .1 in
     let f = sym e ∙ q in
-    (q ∙ sym (or-refuse _ _ _ (or-refuse _ _ _ f)), sym (after-refused _ _ _ _ f))
+    (q ∙ sym (or-refuse _ _ _ (or-refuse _ _ _ f)), λ p. absurd (pass-not-refuse p q))
 
 enum-told-2 : tie.Need-enum-told-2
 enum-told-2 c = search needs
@@ -35,7 +35,7 @@ unfolding outcome9to11
 returns-2 c =
     let t = c .before .before .take-checked in
     let f = sym (c .before .before .before .before .before .before .cut-users .ensures) ∙ c .before .before .before .before .enum-told2 .given .1 in
-    (pass-next f (t .ensures .0) ∙ sym (or-assoc _ _ _), t .ensures .1 ∙ sym (after-passed _ _ _ f))
+    (pass-next f (t .ensures .0) ∙ sym (or-assoc _ _ _), t .ensures .1)
 
 pub check-users-spec : {M : Type 1} → statement M
 check-users-spec =

@@ -2,7 +2,7 @@
 use Prim.Native.Nat.{_+_}
 use mathlib.Core.Path.{sym, _∙_}
 use Rattle.answer.proofs.Lists.{front-filled}
-use Rattle.answer.proofs.Order.{or-refuse}
+use Rattle.answer.proofs.Order.{or-refuse, pass-not-refuse}
 use Rattle.channel.specs.Layout.{userOf}
 use Rattle.stations.proofs.Gathered.{twice-held}
 use Rattle.halves.specs.Table.{check10, check11}
@@ -25,7 +25,7 @@ unfolding check10
 returns c =
     let t = c .before .before .before .before .take-users in
     let e = c .enum-told .given .1 in
-    (e ∙ sym (or-refuse _ _ _ (sym (t .ensures .0) ∙ e)), t .ensures .1)
+    (e ∙ sym (or-refuse _ _ _ (sym (t .ensures .0) ∙ e)), λ p. absurd (pass-not-refuse p e))
 
 enum-told-2 : tie.Need-enum-told-2
 enum-told-2 c = search needs
@@ -42,10 +42,11 @@ returns-2 c =
     let s = c .before .before .before .before .before .before .before .before .before .before .before .args in
     let p = c .before .before .before .before .before .before .before .before .before .before .before .pre in
     let t = c .before .before .before .before .before .before .take-users in
-    let f = front-filled (userOf (s .bw) (s .a .now) (s .b .now) (s .n)) (s .n + s .m) (s .fields .now) _ (t .ensures .1) in (
-      pass-next (sym (t .ensures .0) ∙ c .before .before .enum-told2 .given .1)
+    let o = c .before .before .enum-told2 .given .1 in
+    let f = front-filled (userOf (s .bw) (s .a .now) (s .b .now) (s .n)) (s .n + s .m) (s .fields .now) _ (t .ensures .1 o) in (
+      pass-next (sym (t .ensures .0) ∙ o)
           (rw (← p .3, ← p .4) (c .station-twice .ensures ∙ twice-held (s .bw) (s .a .now) (s .b .now) (t .last .0) (s .n) (s .m) f)),
-      t .ensures .1,
+      λ _. t .ensures .1 o,
     )
 
 pub take-checked-spec : {M : Type 1} → statement M
