@@ -119,7 +119,8 @@ module _ (bw : ℕ) (a b r : List ℕ) (n : ℕ) where
       let i : 0 + j ≡ j = omega arith in
       ap (λ (x : ℕ). userWord false (at fields x)) i ∙ ap (userWord false) (w .front j l) ∙ go (decLt j n)
     where
-      go : Dec (j < n) → userWord false (cond (ltb j n) (user bw a j) (user bw b (j - n))) ≡ cond (ltb j n) (userWordAt bw r 1 a j) (userWordAt bw r 2 b (j - n))
+      go : Dec (j < n)
+          → userWord false (cond (ltb j n) (user bw a j) (user bw b (j - n))) ≡ cond (ltb j n) (userWordAt bw r 1 a j) (userWordAt bw r 2 b (j - n))
       go (yes q) = rw (lt-ltb j n q) (lone-word bw 1 a r h f j (omega arith))
       go (no q) = rw (le-ltb j n (omega arith)) (lone-word bw 2 b r k f (j - n) (omega arith))
 

@@ -34,7 +34,9 @@ check-users-requires c κs =
 returns-2 : tie.Need-returns-2
 returns-2 c =
     let s = c .before .before .before .before .before .before .before .before .before .before .args in
-    both (s .bw) (s .a .now) (s .b .now) _ _ (c .before .before .before .before .before .before .before .plan-frame .ensures) (c .before .before .before .before .before .enum-told2 .given .1) (c .before .before .before .check-users .ensures .0)
+    let e = c .before .before .before .before .before .before .before .plan-frame .ensures in
+    let f = c .before .before .before .before .before .enum-told2 .given .1 in
+    both (s .bw) (s .a .now) (s .b .now) _ _ e f (c .before .before .before .check-users .ensures .0)
 
 pub plan-accepted-spec : {M : Type 1} → statement M
 plan-accepted-spec =

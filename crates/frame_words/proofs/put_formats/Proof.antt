@@ -16,7 +16,8 @@ use Rattle.frame_words.proofs.put_formats.Statement.{statement}
 use Rattle.frame_words.proofs.put_formats.Tie as tie
 
 abbrev Inv-loop : tie.InvT-loop
-Inv-loop out₀ fields bw c s row shared n j₀ k₀ out j k = (k ≤ n) × (j ≡ before bw s k) × (out ≡ filled (userWordAt bw row c s) j out₀) × (length out ≡ length out₀)
+Inv-loop out₀ fields bw c s row shared n j₀ k₀ out j k =
+    (k ≤ n) × (j ≡ before bw s k) × (out ≡ filled (userWordAt bw row c s) j out₀) × (length out ≡ length out₀)
 
 abbrev μ-loop : tie.MeasureT-loop
 μ-loop out₀ fields bw c s row shared n j₀ k₀ out j k = n - k
@@ -42,7 +43,8 @@ mul-fields-of c = search needs
 shared-slice-read-fields-of : tie.Need-shared-slice-read-fields-of Inv-loop μ-loop
 shared-slice-read-fields-of c =
     let l = c .before .before .loop in
-    c .before .before .before .before .before .before .before .before .pre .5 .inside (l .k) (omega (arith, c .before .before .before .subfields-of .ensures .0))
+    let h = c .before .before .before .before .before .before .before .before .pre .5 in
+    h .inside (l .k) (omega (arith, c .before .before .before .subfields-of .ensures .0))
 
 -- the turn that the loop is in, once the value's fields are counted
 in-turn : (c : tie.After-fields-of Inv-loop μ-loop)

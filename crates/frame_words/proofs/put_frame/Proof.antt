@@ -51,8 +51,9 @@ returns c =
     let w = c .before .before .before .before .before .before .put-head .last .0 in
     let f = userWordAt (s .bw) (s .row .now) 1 (s .a .now) in
     let g = userWordAt (s .bw) (s .row .now) 2 (s .b .now) in
+    let k = userWordOf (s .bw) (s .row .now) (s .a .now) (s .b .now) (s .n) in
     rw (← p .5, ← p .6)
-    (laid-out (headerOf (s .bw) (s .row .now) (s .a .now)) (userWordOf (s .bw) (s .row .now) (s .a .now) (s .b .now) (s .n)) f g (s .n) (s .m) (s .words .now) w _
+    (laid-out (headerOf (s .bw) (s .row .now) (s .a .now)) k f g (s .n) (s .m) (s .words .now) w _
     refl
     (omega (arith, p .5, p .6))
     (word-one (s .bw) (s .a .now) (s .b .now) (s .row .now) (s .n))

@@ -107,7 +107,8 @@ returns-2 c =
     let w = c .before .before .before .before .before .before .before .put-formats .last .0 in
     let q = c .before .before .before .before .before .before .before .put-formats .kept .0 in
     let e : w ≡ filled f (s .n) (s .out .now) = rw (p .5) (c .before .before .before .before .before .before .before .put-formats .ensures) in
-    let d : c .before .before .put-formats2 .last .0 ≡ filled g (s .m) (take (length w - s .n) (drop (s .n) w)) = rw (p .6) (c .before .before .put-formats2 .ensures) in
+    let u = c .before .before .put-formats2 in
+    let d : u .last .0 ≡ filled g (s .m) (take (length w - s .n) (drop (s .n) w)) = rw (p .6) (u .ensures) in
     grown h g (s .out .now) w _ (s .n) (s .m) (omega arith)
     (e ∙ filled-cong f h (s .n) (s .out .now) (word-one (s .bw) (s .a .now) (s .b .now) (s .row .now) (s .n)))
     (λ i l. word-other (s .bw) (s .a .now) (s .b .now) (s .row .now) (s .n) i)

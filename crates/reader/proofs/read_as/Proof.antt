@@ -24,8 +24,8 @@ returns : tie.Need-returns
 unfolding readAnswer wordsAfter
 returns c =
     let s = c .before .before .before .before .before .before .before .args in
-    let e =
-    first-refuses (s .bandwidth) (s .cc1 .now) (s .cc2 .now) (length (s .words .now)) (c .before .before .before .plan-frame .ensures) _ (c .before .planned .given .1) in
+    let p = c .before .before .before .plan-frame .ensures in
+    let e = first-refuses (s .bandwidth) (s .cc1 .now) (s .cc2 .now) (length (s .words .now)) p _ (c .before .planned .given .1) in
     (rw e, rw e)
 
 enum-told : tie.Need-enum-told
@@ -70,7 +70,8 @@ slice-aggregate-read-planned c =
 read-planned-requires : tie.Need-read-planned-requires
 read-planned-requires c κs =
     let s = c .before .before .before .before .before .before .before .before .before .before .args in
-    handed (s .bandwidth) (s .cc1 .now) (s .cc2 .now) _ (c .before .before .before .before .before .before .plan-frame .ensures) (c .before .before .before .before .enum-told .given .1) (row-is (c .before .before))
+    let e = c .before .before .before .before .before .before .plan-frame .ensures in
+    handed (s .bandwidth) (s .cc1 .now) (s .cc2 .now) _ e (c .before .before .before .before .enum-told .given .1) (row-is (c .before .before))
 
 same-length : tie.Need-same-length
 same-length c = search needs

@@ -53,7 +53,8 @@ returns-2 c =
     let b = c .before .before .before .before .before .before .before .before .before .before .before .before .before .before in
     let a = b .args in
     let w = c .wrong-users2 .ensures in
-    let f = sym (c .before .before .before .before .before .before .before .before .before .take-fields .ensures .0) ∙ not-false _ (c .before .before .before .before .before .before .if1 .left) in
+    let t = c .before .before .before .before .before .before .before .before .before .take-fields in
+    let f = sym (t .ensures .0) ∙ not-false _ (c .before .before .before .before .before .before .if1 .left) in
     let h = sym (c .before .before .before .before .take-fields2 .ensures .0) ∙ not-true _ (c .before .if2 .taken) in (
       w ∙ sym (or-next _ _ (right-passes (a .bw) 1 (a .a .now) (a .n) (b .pre .3) f)),
       λ p. absurd (wrong-refuses (a .bw) 2 (a .b .now) (a .m) (b .pre .4) h (sym w ∙ p)),
