@@ -8,5 +8,7 @@ pub mod Worked
 pub mod Demand
 pub mod Narrow
 pub mod Value
+pub mod Told
+pub mod Roles
 pub mod Steps
 pub mod Agree

@@ -10,10 +10,14 @@ use lib.ListN.{length, replicate}
 use Rattle.answer.specs.Answer.{no, refuseIf, _or_}
 use Rattle.answer.specs.Least.{least}
 use Rattle.answer.specs.declared.Outcome.{Outcome}
+use Rattle.answer.specs.declared.Outcome.the-variants.{Pass}
 use Rattle.answer.specs.Lists.{filled, at}
+use Rattle.resource.specs.Values.{fieldsOf}
 use Rattle.kinds.specs.Kinds.{none, span, takes}
 use Rattle.kinds.specs.Fields.{together, shared, fieldsTo}
 use Rattle.segments.specs.Engine.{fitting}
+use Rattle.roles.specs.declared.Settled.{Settled}
+use Rattle.roles.specs.Engine.{Role, settleOf, kindIn}
 use Rattle.spans.specs.Engine.{partPlan}
 use Rattle.plan.specs.Answers.{segments, partEnd}
 use Rattle.plan.specs.declared.Plan.{Plan}
@@ -103,4 +107,39 @@ planOf row = record {
   shared = sharedTo row (firstOver row);
   fields1 = fieldsTo 1 (at row) (length row);
   fields2 = fieldsTo 2 (at row) (length row);
+}
+
+-- ---- at one glance, by the roles of the values: `proofs/Told.antt` shows that what they tell is the row's plan
+-- the roles of the row's first m values are entered in a list, and the others stand
+pub record Cast (row : List ℕ) (m : ℕ) (before after : List ℕ) : Type 0 where
+  pub cast : (p : ℕ) → p < m → Role (at row p) (fieldsOf (at row p)) (at after p)
+  pub stands : (p : ℕ) → m ≤ p → at after p ≡ at before p
+  pub as-long : length after ≡ length before
+
+pub record Low (roles : List ℕ) : Type 0 where
+  pub low : (p : ℕ) → at roles p < 2 ^ 60
+
+-- what the roles of segment s tell
+unfoldable pub segmentOf : (ℕ → ℕ) → ℕ → Settled
+segmentOf r s = settleOf (r (4 * s + 0)) (r (4 * s + 1)) (r (4 * s + 2)) (r (4 * s + 3))
+
+unfoldable pub glanceKind : (ℕ → ℕ) → ℕ → ℕ
+glanceKind r p = kindIn (segmentOf r (p / 4) .kinds) (p % 4)
+
+unfoldable pub glanceMarks : (ℕ → ℕ) → ℕ → ℕ
+glanceMarks r zero = 0
+glanceMarks r (suc s) = glanceMarks r s + segmentOf r s .marks * 2 ^ (4 * s)
+
+-- the roles of the places i and i + 2 of the first s segments
+unfoldable pub roleSum : ℕ → (ℕ → ℕ) → ℕ → ℕ
+roleSum i r zero = 0
+roleSum i r (suc s) = roleSum i r s + (r (4 * s + i) + r (4 * s + (i + 2)))
+
+unfoldable pub glanceOf : ℕ → List ℕ → Plan
+glanceOf n roles = record {
+  outcome = Pass;
+  kinds = filled (glanceKind (at roles)) (4 * ((n + 3) / 4)) (replicate 16 0);
+  shared = glanceMarks (at roles) ((n + 3) / 4);
+  fields1 = roleSum 0 (at roles) ((n + 3) / 4) % 256;
+  fields2 = roleSum 1 (at roles) ((n + 3) / 4) % 256;
 }

@@ -6,16 +6,17 @@ ghost use mathlib.Core.Path.{_≡_};
 ghost use mathlib.Core.Logic.{_⊎_};
 ghost use mathlib.Core.Bool.{false, cond};
 ghost use lib.Dec.{eqb, leb};
-ghost use Prim.Native.Nat.{_+_, _-_, _*_, _/_, _%_, _^_, _≤_, _<_, min};
+ghost use Prim.Native.Nat.{ℕ, _+_, _-_, _*_, _/_, _%_, _^_, _≤_, _<_, min};
 ghost use lib.ListN.{length};
 ghost use Rattle.answer.specs.Lists.{at};
 ghost use Rattle.resource.specs.Values.{fieldsOf};
 ghost use Rattle.kinds.specs.Fields.{together, fieldsTo};
-ghost use Rattle.segments.specs.Engine.{segmentKinds};
+ghost use Rattle.segments.specs.Engine.{segmentKinds, Entered};
+ghost use Rattle.roles.specs.Engine.{kindIn};
 ghost use Rattle.plan.specs.Answers.{Size, Laid};
 ghost use Rattle.plan.specs.Engine.{wider, anyWider, onlyPlan, given, placeGiven, entirely, isRight, Before};
 ghost use Rattle.plan.specs.Engine.{GivenTo, partRight, heldBy, firstUnheld};
-ghost use Rattle.plan.specs.Engine.{firstOver, sharedTo, kindsOf, planOf};
+ghost use Rattle.plan.specs.Engine.{firstOver, sharedTo, kindsOf, planOf, Cast, Low, glanceOf};
 
 // The plan of a row.
 pub struct Plan {
@@ -342,14 +343,88 @@ fn unheld_in(kinds: &[u16; 16], row: &[u16], wide: bool) -> usize
     }
 }
 
-// The plan of a row.
-pub fn plan_of(row: &[u16]) -> Plan
+// The plan, sought.
+fn sought_plan(row: &[u16]) -> Plan
     requires { ⌜ length (now row) ≤ 16 ⌝ }
     ensures { λ r. ⌜ r ≡ planOf (now (row .entry)) ⌝ }
-    ensures { λ r. ⌜ Laid (now (row .entry)) (r .outcome) ⌝ }
 {
     let wide = has_wider(row);
     let kinds = kinds_of(row, wide);
     let unheld = unheld_in(&kinds, row, wide);
     plan_from(row, kinds, unheld)
+}
+
+// ---- at one glance, by the roles of the values
+
+// Enters the roles of the row's values.
+fn enter_roles(roles: &mut [u64; 16], row: &[u16])
+    requires { ⌜ (length (now row) ≤ 16) × (length (now roles) ≡ 16) ⌝ }
+    ensures { λ _. ⌜ Cast (now (row .entry)) (length (now (row .entry))) (now (roles .entry)) (now (roles .exit)) ⌝ }
+{
+    let n = row.len();
+    let mut p: usize = 0;
+    while p < n {
+        roles[p] = roles::role_of(row[p]);
+        p += 1;
+    }
+}
+
+// Enters the kinds of the four places from b on, which are 0 before.
+fn enter_kinds(kinds: &mut [u16; 16], b: usize, k: u16)
+    requires { ⌜ (length (now kinds) ≡ 16) × (b + 4 ≤ 16) × ((p : ℕ) → b ≤ p → at (now kinds) p ≡ 0) ⌝ }
+    ensures { λ _. ⌜ Entered (λ p. kindIn k (p - b)) b (b + 4) (now (kinds .entry)) (now (kinds .exit)) ⌝ }
+{
+    if k != 0 {
+        kinds[b] = k % 16;
+        kinds[b + 1] = k / 16 % 16;
+        kinds[b + 2] = k / 256 % 16;
+        kinds[b + 3] = k / 4096;
+    }
+}
+
+// What the roles of a row of n values tell. The counts are the lowest digits of sums of roles; marks from 65536 on say that a segment's do not
+// tell.
+fn glance(n: usize, roles: &[u64; 16]) -> Plan
+    requires { ⌜ (n ≤ 16) × Low (now roles) ⌝ }
+    ensures { λ r. ⌜ r ≡ glanceOf n (now (roles .entry)) ⌝ }
+{
+    let mut kinds = [0u16; 16];
+    let mut shared: u32 = 0;
+    let mut fields1: u64 = 0;
+    let mut fields2: u64 = 0;
+    let mut b: usize = 0;
+    while b < n {
+        let r0 = roles[b];
+        let r1 = roles[b + 1];
+        let r2 = roles[b + 2];
+        let r3 = roles[b + 3];
+        fields1 += r0 + r2;
+        fields2 += r1 + r3;
+        let x = roles::settle(r0, r1, r2, r3);
+        enter_kinds(&mut kinds, b, x.kinds);
+        shared += x.marks << b;
+        b += 4;
+    }
+    Plan {
+        outcome: Outcome::Pass,
+        kinds,
+        shared,
+        fields1: (fields1 % 256) as usize,
+        fields2: (fields2 % 256) as usize,
+    }
+}
+
+// The plan of a row: what the roles of its values tell or, where they do not, what is found by the search.
+pub fn plan_of(row: &[u16]) -> Plan
+    requires { ⌜ length (now row) ≤ 16 ⌝ }
+    ensures { λ r. ⌜ r ≡ planOf (now (row .entry)) ⌝ }
+    ensures { λ r. ⌜ Laid (now (row .entry)) (r .outcome) ⌝ }
+{
+    let mut roles = [roles::no_role(); 16];
+    enter_roles(&mut roles, row);
+    let plan = glance(row.len(), &roles);
+    if plan.shared < 65536 {
+        return plan;
+    }
+    sought_plan(row)
 }

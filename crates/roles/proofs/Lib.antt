@@ -1,0 +1,4 @@
+pub mod Table
+pub mod Steps
+pub mod Bits
+pub mod Told

@@ -1,0 +1,93 @@
+-- The steps of the engine, as the code takes them.
+use mathlib.Core.Path.{_≡_, refl, sym, _∙_}
+use mathlib.Core.Bool.{Bool, true, false, cond, _||_}
+use Prim.Native.Nat.{ℕ, _+_, _*_, _/_, _%_, _^_, _≤_, _<_}
+use native.Mathlib.Omega.{arith}
+use lib.Bits.{bitOr}
+use lib.Dec.{leb, leb→le, ltb, eqb}
+use borrow.Author.Tests.{eq-eqb, ne-eqb}
+use Rattle.resource.proofs.Test.{every-below}
+use Rattle.roles.specs.declared.Settled.{Settled}
+use Rattle.roles.specs.Engine.{ownBits, pairKinds, oneKinds, unsettled, byPairs, named, byOne, lowerPair, upperPair, allFour, settleOf}
+
+pub most : (t m : ℕ) → cond (leb 2 t) m 0 ≤ m
+most t m = go (leb 2 t)
+  where
+    go : (b : Bool) → cond b m 0 ≤ m
+    go true = omega arith
+    go false = omega arith
+
+-- ---- one resource
+module _ (all names own t e : ℕ) (is : e ≡ oneKinds (all / 4 % 32)) where
+  pub one-not : (x : Settled) → x ≡ unsettled → (eqb e 0 || ltb 8 t) ≡ true → x ≡ byOne all names own t
+  unfolding byOne
+  one-not x y f = rw (← is, f) y
+
+  pub one-unnamed : (x : Settled) → x ≡ unsettled → (eqb e 0 || ltb 8 t) ≡ false → named all names ≡ false → x ≡ byOne all names own t
+  unfolding byOne
+  one-unnamed x y f g = rw (← is, f, g) y
+
+  pub one-told : (b : ℕ) → b ≡ cond (leb 2 t) (e / 65536) 0 → (eqb e 0 || ltb 8 t) ≡ false → named all names ≡ true
+      → _≡_ {A = Settled} (record { kinds = e % 65536; marks = own + b }) (byOne all names own t)
+  unfolding byOne
+  one-told b d f g = rw (← is, f, g, d)
+
+-- ---- four places
+module _ (r0 r1 r2 r3 own : ℕ) (is : own ≡ ownBits r0 r1 r2 r3) where
+  pub settle-alone : allFour r0 r1 r2 r3 % 2 ≡ 1 → _≡_ {A = Settled} (record { kinds = 0; marks = own }) (settleOf r0 r1 r2 r3)
+  unfolding settleOf
+  settle-alone e = rw (eq-eqb _ 1 e, is)
+
+  module _ (no : allFour r0 r1 r2 r3 % 2 ≡ 1 → ⊥) (p : ℕ) (ip : p ≡ pairKinds (lowerPair r0 r1 % 4 + 4 * (upperPair r2 r3 % 4))) (x : Settled) where
+    pub settle-pairs : (p ≡ 0 → ⊥) → x ≡ byPairs p own ((r0 + r1) / 2 ^ 56) ((r2 + r3) / 2 ^ 56) → x ≡ settleOf r0 r1 r2 r3
+    unfolding settleOf
+    settle-pairs z e = rw (ne-eqb _ 1 no, ← ip, ne-eqb p 0 z, ← is) e
+
+    pub settle-one : p ≡ 0 → x ≡ byOne (allFour r0 r1 r2 r3) (bitOr (bitOr (bitOr r0 r1) r2) r3) own ((r0 + r1) / 2 ^ 56 + (r2 + r3) / 2 ^ 56)
+        → x ≡ settleOf r0 r1 r2 r3
+    unfolding settleOf
+    settle-one z e = rw (ne-eqb _ 1 no, ← ip, eq-eqb p 0 z, ← is) e
+
+-- ---- the marks are few
+own-most : (r0 r1 r2 r3 : ℕ) → ownBits r0 r1 r2 r3 ≤ 15
+unfolding ownBits
+own-most r0 r1 r2 r3 = omega arith
+
+one-test : ℕ → Bool
+one-test i = leb (oneKinds i / 65536) 15
+
+one-most : (i : ℕ) → i < 32 → oneKinds i / 65536 ≤ 15
+unfolding one-test oneKinds
+one-most i l = leb→le _ 15 (every-below one-test 32 tt i l)
+
+pub settle-most : (r0 r1 r2 r3 : ℕ) → settleOf r0 r1 r2 r3 .marks ≤ 65536
+unfolding settleOf byPairs byOne
+settle-most r0 r1 r2 r3 =
+    go (eqb (allFour r0 r1 r2 r3 % 2) 1) (eqb p 0) (ltb 8 t || ltb 8 u) (eqb (oneKinds i) 0 || ltb 8 (t + u)) (named (allFour r0 r1 r2 r3) names)
+  where
+    p : ℕ
+    p = pairKinds (lowerPair r0 r1 % 4 + 4 * (upperPair r2 r3 % 4))
+
+    t : ℕ
+    t = (r0 + r1) / 2 ^ 56
+
+    u : ℕ
+    u = (r2 + r3) / 2 ^ 56
+
+    i : ℕ
+    i = allFour r0 r1 r2 r3 / 4 % 32
+
+    names : ℕ
+    names = bitOr (bitOr (bitOr r0 r1) r2) r3
+
+    go : (a b c d e : Bool)
+        → cond a (record { kinds = 0; marks = ownBits r0 r1 r2 r3 })
+        (cond b (cond d unsettled (cond e (record { kinds = oneKinds i % 65536; marks = ownBits r0 r1 r2 r3 + cond (leb 2 (t + u)) (oneKinds i / 65536) 0 })
+        unsettled)) (cond c unsettled (record { kinds = p; marks = ownBits r0 r1 r2 r3 + cond (leb 2 t) 3 0 + cond (leb 2 u) 12 0 }))) .marks ≤ 65536
+    go true b c d e = let l = own-most r0 r1 r2 r3 in omega arith
+    go false true c true e = omega arith
+    go false true c false true =
+        let l = own-most r0 r1 r2 r3 in let m = most (t + u) (oneKinds i / 65536) in let n = one-most i (omega arith) in omega arith
+    go false true c false false = omega arith
+    go false false true d e = omega arith
+    go false false false d e = let l = own-most r0 r1 r2 r3 in let m = most t 3 in let n = most u 12 in omega arith
