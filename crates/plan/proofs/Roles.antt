@@ -13,7 +13,7 @@ use lib.ListN.{length, getD, set, length-set, replicate, length-replicate, getD-
 use lib.Seq.{getD-set-same, getD-set-other}
 use borrow.Author.Tests.{lt-ltb, le-ltb}
 use Rattle.answer.specs.Lists.{at, filled}
-use Rattle.answer.proofs.Lists.{getD-kept}
+use Rattle.answer.proofs.Lists.{getD-kept, filled-is}
 use Rattle.resource.specs.Values.{fieldsOf}
 use Rattle.resource.proofs.Test.{below-or}
 use Rattle.kinds.proofs.Tests.{equal-or}
@@ -22,8 +22,8 @@ use Rattle.segments.proofs.Entries.{entered-none, entered-next, entered-filled}
 use Rattle.roles.specs.declared.Settled.{Settled}
 use Rattle.roles.specs.Engine.{Role, noRole, settleOf, kindIn}
 use Rattle.roles.proofs.Table.{absent}
-use Rattle.roles.proofs.Steps.{settle-most}
-use Rattle.plan.specs.Engine.{Cast, Low, segmentOf, glanceKind, glanceMarks, roleSum, glanceOf}
+use Rattle.roles.proofs.Steps.{settle-most, lone-settled}
+use Rattle.plan.specs.Engine.{Cast, Low, segmentOf, glanceKind, glanceMarks, roleSum, glanceOf, loneOf}
 use Rattle.plan.proofs.Told.{fieldsAt}
 
 -- ---- the roles
@@ -42,6 +42,9 @@ cast-next row w v m x l h c = record {
 }
 
 module _ (row roles : List ℕ) (short : length row ≤ 16) (x : ℕ) (none : x ≡ noRole) (c : Cast row (length row) (replicate 16 x) roles) where
+  pub cast-past : (p : ℕ) → length row ≤ p → p < 16 → at roles p ≡ noRole
+  cast-past p k l = c .stands p k ∙ getD-replicate {A = ℕ} 16 p x 0 l ∙ none
+
   pub cast-all : (p : ℕ) → p < 16 → Role (at row p) (fieldsAt row p) (at roles p)
   cast-all p l = ⊎-elim inside past (below-or p (length row))
     where
@@ -51,8 +54,7 @@ module _ (row roles : List ℕ) (short : length row ≤ 16) (x : ℕ) (none : x 
       past : length row ≤ p → Role (at row p) (fieldsAt row p) (at roles p)
       past k =
           let z : at row p ≡ 0 = List·getD-eq-default row 0 k in
-          let e : at roles p ≡ noRole = c .stands p k ∙ getD-replicate {A = ℕ} 16 p x 0 l ∙ none in
-          rw (le-ltb p (length row) k, z, e) absent
+          rw (le-ltb p (length row) k, z, cast-past p k l) absent
 
   pub cast-low : Low roles
   cast-low = record { low = λ p. ⊎-elim (λ (k : p < 16). cast-all p k .most) (past p) (below-or p 16) }
@@ -163,3 +165,36 @@ module _ (roles : List ℕ) (b : ℕ) (whole : b % 4 ≡ 0) where
 -- past what is entered the kinds are 0
 pub kinds-past : (f : ℕ → ℕ) (b : ℕ) (w : List ℕ) → w ≡ filled f b (replicate 16 0) → (p : ℕ) → b ≤ p → at w p ≡ 0
 kinds-past f b w e p l = ap (λ (v : List ℕ). at v p) e ∙ getD-kept f b (replicate 16 0) p 0 l ∙ zeros 16 p
+
+-- ---- a row of one value that may stand alone
+module _ (roles : List ℕ) (none : (p : ℕ) → 1 ≤ p → p < 16 → at roles p ≡ noRole) (e : at roles 0 / 65536 % 2 ≡ 1) where
+  abbrev lone : Settled
+  lone = record { kinds = 0; marks = at roles 0 / 256 % 2 }
+
+  lone-segment : segmentOf (at roles) 0 ≡ lone
+  unfolding segmentOf
+  lone-segment = rw (none 1 (omega arith) (omega arith), none 2 (omega arith) (omega arith), none 3 (omega arith) (omega arith)) (lone-settled (at roles 0) e)
+
+  lone-kind : (p : ℕ) → p < 4 → 0 ≡ glanceKind (at roles) p
+  unfolding glanceKind
+  lone-kind p l = let d : p / 4 ≡ 0 = omega arith in rw (d, lone-segment) (sym (ap (λ (x : ℕ). x % 16) (zero-div (16 ^ (p % 4)))))
+
+  lone-kinds : replicate 16 0 ≡ filled (glanceKind (at roles)) 4 (replicate 16 0)
+  lone-kinds = filled-is (glanceKind (at roles)) 0 4 (replicate 16 0) (replicate 16 0) refl (omega (arith, length-replicate {A = ℕ} 16 0))
+      (λ i l. zeros 16 i ∙ lone-kind i l) (λ i l. refl)
+
+  lone-marks : at roles 0 / 256 % 2 ≡ glanceMarks (at roles) 1
+  unfolding glanceMarks
+  lone-marks = rw lone-segment (omega arith)
+
+  lone-first : at roles 0 % 256 ≡ roleSum 0 (at roles) 1 % 256
+  unfolding roleSum
+  lone-first = let z = none 2 (omega arith) (omega arith) in omega arith
+
+  lone-second : 0 ≡ roleSum 1 (at roles) 1 % 256
+  unfolding roleSum
+  lone-second = let z = none 1 (omega arith) (omega arith) in let y = none 3 (omega arith) (omega arith) in omega arith
+
+  pub lone-glance : (n : ℕ) → n ≡ 1 → loneOf (at roles 0) ≡ glanceOf n roles
+  unfolding loneOf glanceOf
+  lone-glance n d = rw (d, ← lone-kinds, ← lone-marks, ← lone-first, ← lone-second)

@@ -143,3 +143,7 @@ glanceOf n roles = record {
   fields1 = roleSum 0 (at roles) ((n + 3) / 4) % 256;
   fields2 = roleSum 1 (at roles) ((n + 3) / 4) % 256;
 }
+
+-- the same, of a row of one value that may stand alone
+unfoldable pub loneOf : ℕ → Plan
+loneOf r = record { outcome = Pass; kinds = replicate 16 0; shared = r / 256 % 2; fields1 = r % 256; fields2 = 0 }

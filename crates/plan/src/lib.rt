@@ -12,11 +12,11 @@ ghost use Rattle.answer.specs.Lists.{at};
 ghost use Rattle.resource.specs.Values.{fieldsOf};
 ghost use Rattle.kinds.specs.Fields.{together, fieldsTo};
 ghost use Rattle.segments.specs.Engine.{segmentKinds, Entered};
-ghost use Rattle.roles.specs.Engine.{kindIn};
+ghost use Rattle.roles.specs.Engine.{noRole, kindIn};
 ghost use Rattle.plan.specs.Answers.{Size, Laid};
 ghost use Rattle.plan.specs.Engine.{wider, anyWider, onlyPlan, given, placeGiven, entirely, isRight, Before};
 ghost use Rattle.plan.specs.Engine.{GivenTo, partRight, heldBy, firstUnheld};
-ghost use Rattle.plan.specs.Engine.{firstOver, sharedTo, kindsOf, planOf, Cast, Low, glanceOf};
+ghost use Rattle.plan.specs.Engine.{firstOver, sharedTo, kindsOf, planOf, Cast, Low, glanceOf, loneOf};
 
 // The plan of a row.
 pub struct Plan {
@@ -414,6 +414,32 @@ fn glance(n: usize, roles: &[u64; 16]) -> Plan
     }
 }
 
+// What the role of a row's only value tells, where it may stand alone.
+fn lone(r: u64) -> Plan
+    ensures { λ p. ⌜ p ≡ loneOf r ⌝ }
+{
+    Plan {
+        outcome: Outcome::Pass,
+        kinds: [0u16; 16],
+        shared: (r / 256 % 2) as u32,
+        fields1: (r % 256) as usize,
+        fields2: 0,
+    }
+}
+
+// The same as `glance`, of roles that are none past the row: the smallest row takes a shorter way.
+fn tell(n: usize, roles: &[u64; 16]) -> Plan
+    requires { ⌜ (n ≤ 16) × Low (now roles) × ((p : ℕ) → n ≤ p → p < 16 → at (now roles) p ≡ noRole) ⌝ }
+    ensures { λ r. ⌜ r ≡ glanceOf n (now (roles .entry)) ⌝ }
+{
+    if n == 1 {
+        if roles[0] / 65536 % 2 == 1 {
+            return lone(roles[0]);
+        }
+    }
+    glance(n, roles)
+}
+
 // The plan of a row: what the roles of its values tell or, where they do not, what is found by the search.
 pub fn plan_of(row: &[u16]) -> Plan
     requires { ⌜ length (now row) ≤ 16 ⌝ }
@@ -422,7 +448,7 @@ pub fn plan_of(row: &[u16]) -> Plan
 {
     let mut roles = [roles::no_role(); 16];
     enter_roles(&mut roles, row);
-    let plan = glance(row.len(), &roles);
+    let plan = tell(row.len(), &roles);
     if plan.shared < 65536 {
         return plan;
     }

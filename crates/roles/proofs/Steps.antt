@@ -3,12 +3,12 @@ use mathlib.Core.Path.{_≡_, refl, sym, _∙_}
 use mathlib.Core.Bool.{Bool, true, false, cond, _||_}
 use Prim.Native.Nat.{ℕ, _+_, _*_, _/_, _%_, _^_, _≤_, _<_}
 use native.Mathlib.Omega.{arith}
-use lib.Bits.{bitOr}
+use lib.Bits.{bitOr, and-step}
 use lib.Dec.{leb, leb→le, ltb, eqb}
 use borrow.Author.Tests.{eq-eqb, ne-eqb}
 use Rattle.resource.proofs.Test.{every-below}
 use Rattle.roles.specs.declared.Settled.{Settled}
-use Rattle.roles.specs.Engine.{ownBits, pairKinds, oneKinds, unsettled, byPairs, named, byOne, lowerPair, upperPair, allFour, settleOf}
+use Rattle.roles.specs.Engine.{noRole, ownBits, pairKinds, oneKinds, unsettled, byPairs, named, byOne, lowerPair, upperPair, allFour, settleOf}
 
 pub most : (t m : ℕ) → cond (leb 2 t) m 0 ≤ m
 most t m = go (leb 2 t)
@@ -91,3 +91,13 @@ settle-most r0 r1 r2 r3 =
     go false true c false false = omega arith
     go false false true d e = omega arith
     go false false false d e = let l = own-most r0 r1 r2 r3 in let m = most t 3 in let n = most u 12 in omega arith
+
+-- ---- one value alone
+lone-agrees : (r : ℕ) → r / 65536 % 2 ≡ 1 → allFour r noRole noRole noRole % 2 ≡ 1
+lone-agrees r e =
+    let f = and-step (lowerPair r noRole) (upperPair noRole noRole) in
+    let g = and-step (r / 65536) (noRole / 2 ^ 24) in
+    omega arith
+
+pub lone-settled : (r : ℕ) → r / 65536 % 2 ≡ 1 → settleOf r noRole noRole noRole ≡ record { kinds = 0; marks = r / 256 % 2 }
+lone-settled r e = sym (settle-alone r noRole noRole noRole (r / 256 % 2) (unfold ownBits in omega arith) (lone-agrees r e))

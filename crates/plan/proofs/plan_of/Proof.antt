@@ -1,7 +1,7 @@
 -- `plan::plan_of` meets its contract.
 use native.Mathlib.Omega.{arith}
 use Rattle.plan.proofs.Value.{plan-laid}
-use Rattle.plan.proofs.Roles.{cast-all, cast-low}
+use Rattle.plan.proofs.Roles.{cast-all, cast-low, cast-past}
 use Rattle.plan.proofs.Told.{told-plan}
 use borrow.Author.Needs.{needs}
 use Rattle.plan.proofs.plan_of.Statement.{statement}
@@ -13,17 +13,19 @@ no-role-requires c κs = search needs
 enter-roles-requires : tie.Need-enter-roles-requires
 enter-roles-requires c κs = search needs
 
-glance-requires : tie.Need-glance-requires
-glance-requires c κs =
-    (omega arith, cast-low _ _ (omega arith) _ (c .before .before .before .no-role .ensures) (c .before .enter-roles .ensures))
+tell-requires : tie.Need-tell-requires
+tell-requires c κs =
+    let n = c .before .before .before .no-role .ensures in
+    let w = c .before .enter-roles .ensures in
+    (omega arith, cast-low _ _ (omega arith) _ n w, cast-past _ _ (omega arith) _ n w)
 
 returns : tie.Need-returns
 returns c =
-    let s = c .before .before .before .before .before .before .before .before in
+    let row = c .before .before .before .before .before .before .before .before .args .row .now in
     let w = c .before .before .before .before .enter-roles in
-    let g = told-plan (s .args .row .now) _ (omega arith)
-    (cast-all (s .args .row .now) _ (omega arith) _ (c .before .before .before .before .before .before .no-role .ensures) (w .ensures)) _
-    (c .before .before .glance .ensures) (omega arith) in
+    let g = told-plan row _ (omega arith)
+    (cast-all row _ (omega arith) _ (c .before .before .before .before .before .before .no-role .ensures) (w .ensures)) _
+    (c .before .before .tell .ensures) (omega arith) in
     (g, plan-laid _ _ g)
 
 sought-plan-requires : tie.Need-sought-plan-requires
@@ -38,7 +40,7 @@ plan-of-spec =
     (tie.spec
     no-role-requires
     enter-roles-requires
-    glance-requires
+    tell-requires
     returns
     sought-plan-requires
     returns-2)
