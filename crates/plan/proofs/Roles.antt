@@ -82,8 +82,10 @@ four-entered k b w l m =
     let l3 = length-set w2 (b + 2) (k / 256 % 16) in
     let s1 = entered-next f b b (k % 16) w w (omega arith) (omega arith) (rw e0 (omega arith)) (entered-none f b w) in
     let s2 = entered-next f b (b + 1) (k / 16 % 16) w w1 (omega arith) (omega arith) (rw e1 (omega arith)) s1 in
-    let s3 = entered-next f b (b + 2) (k / 256 % 16) w w2 (omega arith) (omega arith) (rw e2 (omega arith)) (subst (λ (e : ℕ). Entered f b e w w2) (omega arith) s2) in
-    let s4 = entered-next f b (b + 3) (k / 4096) w w3 (omega arith) (omega arith) (rw e3 (omega arith)) (subst (λ (e : ℕ). Entered f b e w w3) (omega arith) s3) in
+    let s3 = entered-next f b (b + 2) (k / 256 % 16) w w2 (omega arith) (omega arith) (rw e2 (omega arith))
+    (subst (λ (e : ℕ). Entered f b e w w2) (omega arith) s2) in
+    let s4 = entered-next f b (b + 3) (k / 4096) w w3 (omega arith) (omega arith) (rw e3 (omega arith))
+    (subst (λ (e : ℕ). Entered f b e w w3) (omega arith) s3) in
     subst (λ (e : ℕ). Entered f b e w (set w3 (b + 3) (k / 4096))) (omega arith) s4
 
 pub none-entered : (k b : ℕ) (w : List ℕ) → k ≡ 0 → ((p : ℕ) → b ≤ p → at w p ≡ 0) → Entered (λ p. kindIn k (p - b)) b (b + 4) w w

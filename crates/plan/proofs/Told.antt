@@ -87,7 +87,9 @@ module _ (c : ℕ) (h : c < 7) where
 
   together-down : (row : ℕ → ℕ) (p : ℕ) → together c row p ≡ together c (λ i. row (4 * (p / 4) + i)) (p % 4)
   unfolding fieldsIn
-  together-down row p = rw (begins, shares-down row (p / 4) 1 (span c * (p % 4 / span c)) (span c), shares-down row (p / 4) 2 (span c * (p % 4 / span c)) (span c))
+  together-down row p =
+      let a = span c * (p % 4 / span c) in
+      rw (begins, shares-down row (p / 4) 1 a (span c), shares-down row (p / 4) 2 a (span c))
     where
       begins : span c * (p / span c) ≡ 4 * (p / 4) + span c * (p % 4 / span c)
       begins = go (span c) (spans c h)
@@ -373,7 +375,8 @@ module _ (row roles : List ℕ) (short : length row ≤ 16) (cast : (p : ℕ) �
   kinds-are : filled o (4 * ((n + 3) / 4)) (replicate 16 0) ≡ kindsOf row
   unfolding kindsOf
   kinds-are =
-      filled-is (onlyPlan (at row)) 0 n (filled o m w) w (filled-length o m w (omega (arith, length-replicate {A = ℕ} 16 0))) (omega (arith, length-replicate {A = ℕ} 16 0))
+      filled-is (onlyPlan (at row)) 0 n (filled o m w) w (filled-length o m w (omega (arith, length-replicate {A = ℕ} 16 0)))
+      (omega (arith, length-replicate {A = ℕ} 16 0))
       (λ i l. getD-filled o m w i 0 (omega arith) ∙ only i l)
       (λ i l.
       ⊎-elim (λ (k : i < m). getD-filled o m w i 0 k ∙ absent i l (omega arith) ∙ sym (zeros 16 i)) (λ (k : m ≤ i). getD-kept o m w i 0 k) (below-or i m))
@@ -434,7 +437,9 @@ module _ (row roles : List ℕ) (short : length row ≤ 16) (cast : (p : ℕ) �
       let g = channel-four i (fieldsAt row) s h in
       let m = channel-most (i + 1) (fieldsAt row) few (4 * s) in
       let f : 4 * suc s ≡ 4 * s + 4 = omega arith in
-      rw (f, g) (added (roleSum i (at roles) s) (at roles (4 * s + i)) (at roles (4 * s + (i + 2))) _ _ _ e a b (omega (arith, few (4 * s + i), few (4 * s + (i + 2)))))
+      let k : channelTo (i + 1) (fieldsAt row) (4 * s) + fieldsAt row (4 * s + i) + fieldsAt row (4 * s + (i + 2)) < 256 =
+      omega (arith, few (4 * s + i), few (4 * s + (i + 2))) in
+      rw (f, g) (added (roleSum i (at roles) s) (at roles (4 * s + i)) (at roles (4 * s + (i + 2))) _ _ _ e a b k)
     where
       added : (x y z a b c : ℕ) → x % 256 ≡ a → y % 256 ≡ b → z % 256 ≡ c → a + b + c < 256 → (x + (y + z)) % 256 ≡ a + b + c
       added x y z a b c e f g l = omega arith

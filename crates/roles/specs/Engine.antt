@@ -1,4 +1,4 @@
--- Engine: what the roles of a segment's four values tell. The contracts of the code cite it; nobody has to believe it: `proofs/Settled.antt`
+-- Engine: what the roles of a segment's four values tell. The contracts of the code cite it; nobody has to believe it: `proofs/Told.antt`
 -- shows that what they tell is a plan of the segment, and how many fields its resources have.
 use mathlib.Core.Path.{_≡_}
 use mathlib.Core.Bool.{Bool, true, cond, not, _||_, _&&_}

@@ -42,7 +42,8 @@ loop-less c = search needs
 loop-again : tie.Need-loop-again Inv-loop μ-loop
 loop-again c =
     let l = c .before .before .before .loop in
-    (omega arith, length-set (l .roles) (l .p) (c .role-of .result) ∙ l .inv .1, cast-next _ _ _ (l .p) _ (omega (arith, l .inv .1)) (c .role-of .ensures) (l .inv .2))
+    let n = length-set (l .roles) (l .p) (c .role-of .result) ∙ l .inv .1 in
+    (omega arith, n, cast-next _ _ _ (l .p) _ (omega (arith, l .inv .1)) (c .role-of .ensures) (l .inv .2))
 
 returns : tie.Need-returns Inv-loop μ-loop
 returns c =

@@ -91,7 +91,8 @@ settle-requires c κs =
 enter-kinds-requires : tie.Need-enter-kinds-requires Inv-loop μ-loop
 enter-kinds-requires c κs =
     let l = c .before .before .before .before .before .before .before .loop in
-    let n = filled-length (glanceKind (at (c .before .before .before .before .before .before .before .before .args .roles .now))) (l .b) (replicate 16 0) (omega (arith, length-replicate {A = ℕ} 16 0)) in
+    let roles = c .before .before .before .before .before .before .before .before .args .roles .now in
+    let n = filled-length (glanceKind (at roles)) (l .b) (replicate 16 0) (omega (arith, length-replicate {A = ℕ} 16 0)) in
     (ap length (l .inv .2) ∙ n ∙ length-replicate {A = ℕ} 16 0, omega arith, kinds-past _ _ _ (l .inv .2))
 
 cast-shared : tie.Need-cast-shared Inv-loop μ-loop
