@@ -1,13 +1,10 @@
 -- The roles of a row and the kinds that they tell, entered in lists, and the sums of roles, as the code takes them.
 use mathlib.Core.Path.{_≡_, refl, sym, _∙_, ap, subst}
-use mathlib.Core.Logic.{_≢_, _⊎_, inl, inr, ⊎-elim}
-use mathlib.Core.Bool.{Bool, true, false, cond}
+use mathlib.Core.Logic.{_≢_, _⊎_, ⊎-elim}
 use mathlib.Core.List.{List}
 use Prim.Native.Nat.{ℕ, zero, suc, _+_, _-_, _*_, _/_, _%_, _^_, _≤_, _<_}
 use native.Mathlib.Omega.{arith}
-use native.Mathlib.Nat.{zero-div, mod-eq-of-lt, mul-le-mul-right}
-use native.Mathlib.Numerals.{add-one}
-use lib.Dec.{ltb}
+use native.Mathlib.Nat.{zero-div, mul-le-mul-right}
 use lib.Pow.{pow-mono}
 use lib.ListN.{length, getD, set, length-set, replicate, length-replicate, getD-replicate, List·getD-eq-default}
 use lib.Seq.{getD-set-same, getD-set-other}

@@ -1,13 +1,13 @@
 -- What the roles of a row's values tell, where every segment's do, is the row's plan: `told-plan`.
-use mathlib.Core.Path.{_≡_, refl, sym, _∙_, ap, subst}
+use mathlib.Core.Path.{_≡_, refl, sym, _∙_, ap}
 use mathlib.Core.Logic.{_⊎_, inl, inr, ⊎-elim}
-use mathlib.Core.Bool.{Bool, true, false, cond, not, _&&_}
+use mathlib.Core.Bool.{Bool, true, false, cond}
 use mathlib.Core.List.{List}
 use Prim.Native.Nat.{ℕ, zero, suc, _+_, _-_, _*_, _/_, _%_, _^_, _≤_, _<_}
 use native.Mathlib.Omega.{arith}
 use native.Mathlib.Nat.{add-assoc, add-mul, mul-comm, mul-assoc, mul-le-mul-left, mul-one}
 use lib.Pow.{pow-pos, pow-add}
-use lib.Dec.{T, ltb, leb, eqb, eqb→eq}
+use lib.Dec.{ltb, leb, eqb, eqb→eq}
 use lib.ListN.{length, getD, replicate, length-replicate, List·getD-eq-default}
 use borrow.Author.Tests.{lt-ltb, le-ltb, eq-eqb, ne-eqb}
 use Rattle.answer.specs.Lists.{at, filled}
@@ -25,11 +25,10 @@ use Rattle.kinds.proofs.Places.{place-segment}
 use Rattle.kinds.proofs.Steps.{total-alone, share-alone}
 use Rattle.segments.specs.Engine.{fitting}
 use Rattle.segments.proofs.Found.{fitting-fits}
-use Rattle.roles.specs.declared.Settled.{Settled}
-use Rattle.roles.specs.Engine.{Role, settleOf, kindIn, mark, Segment}
+use Rattle.roles.specs.Engine.{Role, kindIn, mark, Segment}
 use Rattle.roles.proofs.Told.{settled}
 use Rattle.plan.specs.declared.Plan.{Plan}
-use Rattle.plan.specs.Answers.{Laid, accepted}
+use Rattle.plan.specs.Answers.{accepted}
 use Rattle.plan.specs.Engine.{onlyPlan, firstOver, planOutcome, sharedTo, kindsOf, planOf, segmentOf, glanceKind, glanceMarks, roleSum, glanceOf}
 use Rattle.plan.proofs.Only.{whole-only}
 use Rattle.plan.proofs.Laid.{laid-is, none-over}

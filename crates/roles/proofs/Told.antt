@@ -4,9 +4,9 @@ use mathlib.Core.Logic.{_⊎_, inl, inr, ⊎-elim}
 use mathlib.Core.Bool.{Bool, true, false, cond, not, _||_, _&&_}
 use Prim.Native.Nat.{ℕ, zero, suc, _+_, _*_, _/_, _%_, _^_, _≤_, _<_}
 use native.Mathlib.Omega.{arith}
-use lib.Bits.{bitAnd, bitOr}
+use lib.Bits.{bitOr}
 use lib.Dec.{T, ltb, leb, eqb, eqb→eq}
-use borrow.Author.Tests.{ltb-true, ltb-false, lt-ltb, leb-true, eqb-true, eqb-false, eq-eqb, ne-eqb, not-true}
+use borrow.Author.Tests.{ltb-true, ltb-false, eqb-true, eqb-false, eq-eqb, ne-eqb, not-true}
 use Rattle.resource.specs.Values.{fieldsOf}
 use Rattle.resource.proofs.Fields.{fields-family}
 use Rattle.resource.proofs.Test.{below, every-below, wherever, met, both-left, both-right}
@@ -17,7 +17,7 @@ use Rattle.kinds.proofs.Tests.{holds, is-true, both, either, not-both, by-test,
 use Rattle.kinds.proofs.Table.{span-1, span-four}
 use Rattle.kinds.proofs.Steps.{both-channels, total-alone, share-alone}
 use Rattle.roles.specs.declared.Settled.{Settled}
-use Rattle.roles.specs.Engine.{bit, placeOf, Tells, Role, ownBits, pairTable, pairKinds, oneTable, oneKinds, unsettled, byPairs, named, byOne}
+use Rattle.roles.specs.Engine.{bit, placeOf, Tells, Role, ownBits, pairKinds, oneKinds, unsettled, byPairs, named, byOne}
 use Rattle.roles.specs.Engine.{lowerPair, upperPair, allFour, settleOf, kindIn, totalIn, mark, Segment}
 use Rattle.roles.proofs.Bits.{and-bit, or-bit, shifted-bit}
 

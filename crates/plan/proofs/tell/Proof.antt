@@ -1,6 +1,5 @@
 -- `plan::tell` meets its contract.
-use mathlib.Core.Path.{_≡_, _∙_}
-use Prim.Native.Nat.{ℕ, _≤_, _<_}
+use mathlib.Core.Path.{_∙_}
 use native.Mathlib.Omega.{arith}
 use Rattle.plan.proofs.Roles.{lone-glance}
 use borrow.Author.Needs.{needs}

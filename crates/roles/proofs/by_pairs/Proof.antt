@@ -1,8 +1,5 @@
 -- `roles::by_pairs` meets its contract.
 use native.Mathlib.Omega.{arith}
-use Prim.Native.Nat.{ℕ, _+_, _≤_}
-use mathlib.Core.Bool.{Bool, true, false, cond}
-use lib.Dec.{leb}
 use Rattle.roles.specs.Engine.{byPairs}
 use Rattle.roles.proofs.Steps.{most}
 use borrow.Author.Needs.{needs}

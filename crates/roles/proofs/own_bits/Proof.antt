@@ -1,8 +1,6 @@
 -- `roles::own_bits` meets its contract.
-use mathlib.Core.Path.{_≡_}
-use Prim.Native.Nat.{_+_, _*_, _/_, _%_, _^_, _<_}
 use native.Mathlib.Omega.{arith}
-use lib.Bits.{bitAnd, and-high}
+use lib.Bits.{and-high}
 use Rattle.roles.specs.Engine.{ownBits}
 use Rattle.roles.proofs.own_bits.Statement.{statement}
 use Rattle.roles.proofs.own_bits.Tie as tie
