@@ -37,6 +37,17 @@ field-two s i a b e f =
     ap₂ (λ (x y : ℕ). x + y * 4294967296) e (f ∙ ap (λ (k : ℕ). field s k 32) g)
     ∙ sym (field-split s (8 * i) 32 32)
 
+-- the first n bytes, of which the last four are a word
+pub field-front : (s : List ℕ) (n a b : ℕ) → 4 ≤ n → n ≤ 8 → a ≡ field s (8 * 0) 32 → b ≡ field s (8 * (n - 4)) 32
+    → a + b / 2 ^ (8 * (8 - n)) * 4294967296 ≡ field s 0 (8 * n)
+field-front s n a b l m e f =
+    let g : b / 2 ^ (8 * (8 - n)) ≡ field s 32 (8 * n - 32) =
+    ap (λ (x : ℕ). x / 2 ^ (8 * (8 - n))) f
+    ∙ field-rest s (8 * (n - 4)) 32 (8 * (8 - n)) (omega arith)
+    ∙ ap₂ (field s) (omega arith) (omega arith) in
+    let h : 8 * n ≡ 32 + (8 * n - 32) = omega arith in
+    ap₂ (λ (x y : ℕ). x + y * 4294967296) e g ∙ sym (field-split s 0 32 (8 * n - 32)) ∙ ap (field s 0) (sym h)
+
 -- past the end a field is 0
 pub field-past : (s : List ℕ) (at n : ℕ) → 8 * length s ≤ at → field s at n ≡ 0
 unfolding field

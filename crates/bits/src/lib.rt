@@ -27,7 +27,7 @@ fn join4(a: u8, b: u8, c: u8, d: u8) -> u32
 }
 
 // The 32 bits from the start of byte i, which are there: one load.
-fn four(s: &[u8], i: usize) -> u32
+pub fn four(s: &[u8], i: usize) -> u32
     requires { ⌜ i + 3 < length (now s) ⌝ }
     ensures { λ r. ⌜ r ≡ field (now (s .entry)) (8 * i) 32 ⌝ }
 {
@@ -72,14 +72,22 @@ fn wide(x: u8) -> u64
 }
 
 // The 64 bits from the start of byte i, which are there: one load.
-fn eight(s: &[u8], i: usize) -> u64
+pub fn eight(s: &[u8], i: usize) -> u64
     requires { ⌜ i + 7 < length (now s) ⌝ }
     ensures { λ r. ⌜ r ≡ field (now (s .entry)) (8 * i) 64 ⌝ }
 {
     join2(four(s, i), four(s, i + 4))
 }
 
-// The same where some of them lie past the end: the last eight bytes, moved down, have zeros in their place. Fewer than
+// The first n bytes, which are there: two loads, the second of which ends with them.
+pub fn front(s: &[u8], n: usize) -> u64
+    requires { ⌜ (5 ≤ n) × (n ≤ 8) × (n ≤ length (now s)) ⌝ }
+    ensures { λ r. ⌜ r ≡ field (now (s .entry)) 0 (8 * n) ⌝ }
+{
+    join2(four(s, 0), four(s, n - 4) >> (8 * (8 - n)))
+}
+
+// The 64 bits from the start of byte i where some of them lie past the end: the last eight bytes, moved down, have zeros in their place. Fewer than
 // eight are taken one by one.
 fn eight_past(s: &[u8], i: usize) -> u64
     requires { ⌜ length (now s) ≤ i + 7 ⌝ }

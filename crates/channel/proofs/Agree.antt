@@ -1,5 +1,6 @@
 -- Any two results that a public function's contract allows for one input agree: each contract is an equation.
-use mathlib.Core.Path.{sym, _∙_}
+use mathlib.Core.Path.{_≡_, sym, _∙_}
+use denote.Ref.{now}
 use Rattle.answer.proofs.Agree.{Agrees}
 use Rattle.channel.proofs.is_present.Reads as is-present
 use Rattle.channel.proofs.positions_of.Reads as positions-of
@@ -14,7 +15,8 @@ use Rattle.channel.proofs.common_bits.Reads as common-bits
 use Rattle.channel.proofs.subfields_of.Reads as subfields-of
 use Rattle.channel.proofs.value_bit.Reads as value-bit
 use Rattle.channel.proofs.value_of.Reads as value-of
-use Rattle.channel.proofs.fill_row.Reads as fill-row
+use Rattle.channel.proofs.parts_of.Reads as parts-of
+use Rattle.channel.proofs.put_row.Reads as put-row
 use Rattle.channel.proofs.user_bit.Reads as user-bit
 use Rattle.channel.proofs.block_bit.Reads as block-bit
 use Rattle.channel.proofs.covered_bits.Reads as covered-bits
@@ -59,8 +61,12 @@ value-bit-agrees κs a r r' s s' p q = p ∙ sym q
 pub value-of-agrees : Agrees value-of.Post
 value-of-agrees κs a r r' s s' p q = p ∙ sym q
 
-pub fill-row-agrees : Agrees fill-row.Post
-fill-row-agrees κs a r r' s s' p q = p ∙ sym q
+pub parts-of-agrees : Agrees parts-of.Post
+parts-of-agrees κs a r r' s s' p q = p ∙ sym q
+
+-- and any two states of the row lent
+pub put-row-agrees : (κs : _) (a : _) (r r' : _) (s s' : _) → put-row.Post κs a r s → put-row.Post κs a r' s' → now (s .0) ≡ now (s' .0)
+put-row-agrees κs a r r' s s' p q = p ∙ sym q
 
 pub user-bit-agrees : Agrees user-bit.Post
 user-bit-agrees κs a r r' s s' p q = p ∙ sym q

@@ -1,4 +1,4 @@
-pub mod Windows
+pub mod Held
 pub mod Agree
 pub mod Laws
 pub mod Counts

@@ -1,10 +1,21 @@
 // Where everything lies in a channel, by bandwidth code: its fields, its row of values, its User fields and blocks.
 ghost use mathlib.Core.Path.{_≡_};
+ghost use mathlib.Core.Bool.{true};
 ghost use Prim.Native.Nat.{_+_, _*_, _≤_};
 ghost use lib.ListN.{length};
-ghost use Rattle.channel.specs.Engine.{firstWindow, Turns};
+ghost use Rattle.answer.specs.Lists.{filled};
+ghost use Rattle.bits.specs.Bits.{field};
+ghost use Rattle.channel.specs.Engine.{firstPart, secondPart, partsOf, partAt, Turns};
 ghost use Rattle.channel.specs.Layout.{positions, present, firsts, seconds, firstBits, secondAt, secondBits, hasSecond, common};
-ghost use Rattle.channel.specs.Layout.{subfieldsIn, valueAt, value, rowIn16, userAt, blockAt, covered, endOf};
+ghost use Rattle.channel.specs.Layout.{subfieldsIn, valueAt, value, userAt, blockAt, covered, endOf};
+
+// The common fields of a frame: each part of each channel, with its check and tail, in the lowest bits of a number.
+pub struct Parts {
+    pub first1: u64,
+    pub first2: u64,
+    pub second1: u64,
+    pub second2: u64,
+}
 
 // Whether the bandwidth has the channel.
 pub fn is_present(bw: u32, channel: u32) -> bool
@@ -119,21 +130,65 @@ pub fn value_of(bw: u32, s: &[u8], k: usize) -> u16
     bits::field_at(s, value_bit(bw, k), 9) as u16
 }
 
-// The window at bit 0 from its first value on: a channel's values of the first part, the lowest first. 0 where the
-// bandwidth lacks the channel.
-fn first_window(bw: u32, channel: u32, s: &[u8]) -> u64
-    ensures { λ r. ⌜ r ≡ firstWindow bw channel (now (s .entry)) ⌝ }
+// The first part of the common field, which is there, with its check and tail.
+fn first_part(bw: u32, s: &[u8]) -> u64
+    requires { ⌜ (bw ≤ 4) × (common bw ≤ 8 * length (now s)) ⌝ }
+    ensures { λ r. ⌜ r ≡ firstPart bw (now (s .entry)) ⌝ }
 {
-    if is_present(bw, channel) {
-        bits::wide_from(s, 0) >> 17
+    if bw < 2 {
+        bits::front(s, 5)
     } else {
-        0
+        bits::front(s, 6)
+    }
+}
+
+// The 64 bits from bit 45, which are there.
+fn from_45(s: &[u8]) -> u64
+    requires { ⌜ 14 ≤ length (now s) ⌝ }
+    ensures { λ r. ⌜ r ≡ field (now (s .entry)) 45 64 ⌝ }
+{
+    (bits::four(s, 2) >> 29) as u64 + (bits::eight(s, 6) << 3)
+}
+
+// The second part, 0 where there is none.
+fn second_part(bw: u32, s: &[u8]) -> u64
+    requires { ⌜ (bw ≤ 4) × (common bw ≤ 8 * length (now s)) ⌝ }
+    ensures { λ r. ⌜ r ≡ secondPart bw (now (s .entry)) ⌝ }
+{
+    if bw == 3 {
+        return bits::eight(s, 2) >> 29;
+    }
+    if bw == 4 { from_45(s) } else { 0 }
+}
+
+// The common fields of a frame, which are there: each part is read once. At 20 MHz nothing is worked out for channel 2.
+pub fn parts_of(bw: u32, a: &[u8], b: &[u8]) -> Parts
+    requires { ⌜ (bw ≤ 4) × (common bw ≤ 8 * length (now a)) × (present bw 2 ≡ true → common bw ≤ 8 * length (now b)) ⌝ }
+    ensures { λ r. ⌜ r ≡ partsOf bw (now (a .entry)) (now (b .entry)) ⌝ }
+{
+    let first1 = first_part(bw, a);
+    if bw == 0 {
+        return Parts {
+            first1,
+            first2: 0,
+            second1: 0,
+            second2: 0,
+        };
+    }
+    let first2 = first_part(bw, b);
+    let second1 = second_part(bw, a);
+    let second2 = second_part(bw, b);
+    Parts {
+        first1,
+        first2,
+        second1,
+        second2,
     }
 }
 
 // The n lowest values of x and those of y, taking turns from position p on.
-fn put_turns(row: &mut [u16], p: usize, n: usize, x: u64, y: u64)
-    requires { ⌜ (n ≤ 6) × (p ≤ 4) × (p + 2 * n ≤ length (now row)) ⌝ }
+fn put_turns(row: &mut [u16; 16], p: usize, n: usize, x: u64, y: u64)
+    requires { ⌜ (n ≤ 6) × (p ≤ 4) × (length (now row) ≡ 16) ⌝ }
     ensures { λ _. ⌜ Turns (now (row .entry)) p n x y (now (row .exit)) ⌝ }
 {
     let mut k: usize = 0;
@@ -144,24 +199,19 @@ fn put_turns(row: &mut [u16], p: usize, n: usize, x: u64, y: u64)
     }
 }
 
-// The row by rising position, and 0 past it: each part of each channel through one window.
-pub fn fill_row(bw: u32, a: &[u8], b: &[u8]) -> [u16; 16]
-    requires { ⌜ bw ≤ 4 ⌝ }
-    ensures { λ r. ⌜ r ≡ rowIn16 bw (now (a .entry)) (now (b .entry)) ⌝ }
+// The row by rising position, at the front of sixteen.
+pub fn put_row(row: &mut [u16; 16], bw: u32, parts: Parts)
+    requires { ⌜ (length (now row) ≡ 16) × (bw ≤ 4) ⌝ }
+    ensures { λ _. ⌜ now (row .exit) ≡ filled (partAt bw parts) (positions bw) (now (row .entry)) ⌝ }
 {
-    let n = firsts_of(bw);
-    let x = first_window(bw, 1, a);
-    let y = first_window(bw, 2, b);
-    let mut row = [0u16; 16];
-    put_turns(&mut row, 0, n, x, y);
-    if !has_second(bw) {
-        return row;
+    if bw == 0 {
+        row[0] = ((parts.first1 >> 17) % 512) as u16;
+        return;
     }
+    let n = firsts_of(bw);
     let m = seconds_of(bw);
-    let z = bits::wide_from(a, second_at(bw));
-    let w = bits::wide_from(b, second_at(bw));
-    put_turns(&mut row, 2 * n, m, z, w);
-    row
+    put_turns(row, 0, n, parts.first1 >> 17, parts.first2 >> 17);
+    put_turns(row, 2 * n, m, parts.second1, parts.second2);
 }
 
 // The first bit of User field i.

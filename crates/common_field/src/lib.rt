@@ -1,10 +1,23 @@
 // The answers 5 and 6: an overflow that may not be or that the channels do not share, and a value of one channel that is not carried.
 use answer::Outcome;
+use channel::Parts;
 ghost use mathlib.Core.Path.{_≡_};
 ghost use Prim.Native.Nat.{_+_, _^_, _≤_, _<_};
 ghost use Rattle.answer.specs.Least.{least};
 ghost use Rattle.bits.specs.Bits.{differs};
 ghost use Rattle.faults.specs.Checks.{overflowDiffers, uncarried, firstUncarried, notCarried};
+ghost use Rattle.common_field.specs.Engine.{sharedIn};
+
+// Whether channel 1 has LTF symbols that may be and the channels share their overflow, of a frame whose common fields are these.
+pub fn is_shared(bw: u32, parts: Parts) -> bool
+    ensures { λ r. ⌜ r ≡ sharedIn bw parts ⌝ }
+{
+    let few = (parts.first1 >> 6) % 8 <= 4;
+    if bw == 0 {
+        return few;
+    }
+    few & (parts.first1 % 131072 == parts.first2 % 131072)
+}
 
 // The lowest k below n for which s and t differ in bit at + k; n where there is none.
 pub fn first_diff(s: &[u8], t: &[u8], at: usize, n: usize) -> usize
@@ -21,16 +34,6 @@ pub fn first_diff(s: &[u8], t: &[u8], at: usize, n: usize) -> usize
     k
 }
 
-// The lowest overflow bit in which the channels differ, 17 for none. Equal ones, the usual case, in one look.
-fn overflow_diff(a: &[u8], b: &[u8]) -> usize
-    ensures { λ r. ⌜ r ≡ least (differs (now (a .entry)) (now (b .entry))) 17 ⌝ }
-{
-    if bits::field_at(a, 0, 17) == bits::field_at(b, 0, 17) {
-        return 17;
-    }
-    first_diff(a, b, 0, 17)
-}
-
 // Answer 5.
 pub fn overflow_differs(bw: u32, a: &[u8], b: &[u8]) -> Outcome
     ensures { λ r. ⌜ r ≡ overflowDiffers bw (now (a .entry)) (now (b .entry)) ⌝ }
@@ -39,7 +42,7 @@ pub fn overflow_differs(bw: u32, a: &[u8], b: &[u8]) -> Outcome
     if !channel::is_present(bw, 2) {
         return first;
     }
-    let k = overflow_diff(a, b);
+    let k = first_diff(a, b, 0, 17);
     answer::or_else(first, answer::refuse_if(k < 17, 5, 2, k))
 }
 

@@ -47,7 +47,7 @@ neither false u e = (refl, e)
 both : (t u : Bool) → t ≡ true → u ≡ true → t && u ≡ true
 both t u p q = rw (p, q)
 
-of-both : (t u : Bool) → t && u ≡ true → (t ≡ true) × (u ≡ true)
+pub of-both : (t u : Bool) → t && u ≡ true → (t ≡ true) × (u ≡ true)
 of-both true u e = (refl, e)
 of-both false u e = absurd (let z : _≡_ {A = ℕ} 0 1 = cc in omega arith)
 

@@ -1,22 +1,23 @@
 -- All values of a frame's row are carried exactly where both channels pass 6.
-use mathlib.Core.Path.{_≡_, refl, sym, _∙_, ap}
-use mathlib.Core.Bool.{Bool, true, false, _&&_}
+use mathlib.Core.Path.{_≡_, sym, _∙_, ap}
+use mathlib.Core.Bool.{true}
 use mathlib.Core.List.{List}
-use Prim.Native.Nat.{ℕ, zero, suc, _+_, _*_, _/_, _%_, _≤_, _<_}
-use native.Mathlib.Decide.{decLt, ℕ-discrete}
-use native.Mathlib.Numerals.{add-one}
+use Prim.Native.Nat.{ℕ, _+_, _*_, _/_, _%_, _≤_, _<_}
+use native.Mathlib.Decide.{ℕ-discrete}
 use native.Mathlib.Omega.{arith}
-use lib.ListN.{length}
+use lib.ListN.{length, replicate}
 use Rattle.answer.proofs.Every.{every-at, all-every}
 use Rattle.answer.proofs.Order.{pass-left, pass-right, or-pass}
 use Rattle.answer.specs.declared.Outcome.the-variants.{Pass}
 use Rattle.resource.specs.Values.{carried}
 use Rattle.answer.specs.Lists.{at}
-use Rattle.channel.specs.Layout.{positions, subfieldsIn, row}
-use Rattle.channel.proofs.Laws.{place-1, place-2, row-length, row-even, row-odd, position-subfield}
+use Rattle.answer.proofs.Lists.{getD-filled}
+use Rattle.channel.specs.Layout.{positions, subfieldsIn, rowAt, row, rowIn16}
+use Rattle.channel.proofs.Laws.{place-1, place-2, positions-le, row-length, row-at, row-even, row-odd, position-subfield}
 use Rattle.faults.proofs.Passing.{notCarried-pass, pass-notCarried}
 use Rattle.halves.specs.Table.{check6}
 use Rattle.halves.specs.Engine.{allCarried}
+use Rattle.halves.proofs.Rows.{sixteen}
 
 module _ (bw : ℕ) (a b : List ℕ) (l : bw ≤ 4) where
   -- each channel's values are the row's
@@ -28,6 +29,19 @@ module _ (bw : ℕ) (a b : List ℕ) (l : bw ≤ 4) where
       or-pass _ _
       (pass-notCarried bw 1 a (λ k m. ap carried (sym (row-even bw a b k (place-1 bw k l m))) ∙ h (2 * k) (place-1 bw k l m)))
       (pass-notCarried bw 2 b (λ k m. ap carried (sym (row-odd bw a b k (place-2 bw k l m))) ∙ h (2 * k + 1) (place-2 bw k l m)))
+
+  -- what stands past the row does not matter
+  pub sixteen-passes : allCarried (rowIn16 bw a b) ≡ true → check6 bw a b ≡ Pass
+  unfolding allCarried
+  sixteen-passes e =
+      carried-passes
+      (all-every (λ p. carried (at (row bw a b) p)) (length (row bw a b))
+      (λ p m.
+      let n : p < positions bw = omega (arith, row-length bw a b) in
+      let f : at (row bw a b) p ≡ at (rowIn16 bw a b) p =
+      row-at bw a b p n ∙ sym (unfold rowIn16 in getD-filled (rowAt bw a b) (positions bw) (replicate 16 0) p 0 n) in
+      ap carried f
+      ∙ every-at (λ p. carried (at (rowIn16 bw a b) p)) (length (rowIn16 bw a b)) e p (omega (arith, positions-le bw l, sixteen bw a b l))))
 
   -- and the row's values are the channels'
   pub passes-carried : check6 bw a b ≡ Pass → allCarried (row bw a b) ≡ true

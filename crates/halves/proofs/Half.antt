@@ -5,7 +5,7 @@ use Prim.Native.Nat.{ℕ, _/_, _%_, _^_, _≤_, _<_}
 use lib.Dec.{eqb}
 use lib.ListN.{length}
 use Rattle.answer.specs.Answer.{_or_}
-use Rattle.answer.proofs.Order.{pass-left, pass-right, or-refuse, or-next, or-pass}
+use Rattle.answer.proofs.Order.{pass-left, pass-right, or-refuse, or-next}
 use Rattle.answer.specs.declared.Answer.{Answer}
 use Rattle.answer.specs.declared.Outcome.{Outcome}
 use Rattle.answer.specs.declared.Outcome.the-variants.{Pass, Refuse}
@@ -18,9 +18,9 @@ use Rattle.plan.proofs.Value.{shared-bit}
 use Rattle.channel.specs.Layout.{positions, row, rowIn16, count}
 use Rattle.channel.proofs.Laws.{row-length, count-le}
 use Rattle.halves.specs.declared.Planned.{Planned}
-use Rattle.halves.specs.Engine.{outcome5, outcome9to11, noPlan, withPlan, plannedAt, plannedOf}
-use Rattle.halves.proofs.Stages.{common-five, common-pass, outcome11-stages}
-use Rattle.halves.specs.Table.{outcome6, check6, outcome11}
+use Rattle.halves.specs.Engine.{outcome9to11, noPlan, withPlan, plannedAt, plannedOf}
+use Rattle.halves.proofs.Stages.{common-pass, outcome11-stages}
+use Rattle.halves.specs.Table.{outcome6, outcome11}
 use Rattle.halves.proofs.Counts.{count-1, count-2}
 
 -- of a frame that the first half passes
@@ -40,25 +40,14 @@ pub outcome-made : {p q : Planned} {o : Outcome} → p ≡ q → p .outcome ≡ 
 outcome-made e f = sym (ap (λ (p : Planned). p .outcome) e) ∙ f
 
 module _ (bw : ℕ) (a b : List ℕ) where
-  -- the three ways through it: stopped by 1 to 5, stopped by 6, planned
-  pub stopped-five : (o : Outcome) (x : Answer) → o ≡ outcome5 bw a b → o ≡ Refuse x → noPlan o ≡ plannedOf bw a b
+  -- the two ways through it: stopped by 1 to 6, planned
+  pub stopped : (o : Outcome) (x : Answer) → o ≡ outcome6 bw a b → o ≡ Refuse x → noPlan o ≡ plannedOf bw a b
   unfolding plannedOf
-  stopped-five o x e f =
-      let c : outcome6 bw a b ≡ Refuse x = common-five bw a b ∙ or-refuse _ (check6 bw a b) x (sym e ∙ f) in
-      rw (c, f)
+  stopped o x e f = rw (sym e ∙ f, f)
 
-  pub stopped-six : (o : Outcome) (x : Answer) → outcome5 bw a b ≡ Pass → o ≡ check6 bw a b → o ≡ Refuse x → noPlan o ≡ plannedOf bw a b
+  pub planned : (r : List ℕ) (p : Plan) → outcome6 bw a b ≡ Pass → r ≡ rowIn16 bw a b → p ≡ planOf (row bw a b) → withPlan r p ≡ plannedOf bw a b
   unfolding plannedOf
-  stopped-six o x p e f =
-      let c : outcome6 bw a b ≡ Refuse x = common-five bw a b ∙ or-next _ (check6 bw a b) p ∙ sym e ∙ f in
-      rw (c, f)
-
-  pub planned-six : (r : List ℕ) (p : Plan) → outcome5 bw a b ≡ Pass → check6 bw a b ≡ Pass → r ≡ rowIn16 bw a b → p ≡ planOf (row bw a b)
-      → withPlan r p ≡ plannedOf bw a b
-  unfolding plannedOf
-  planned-six r p e f er ep =
-      let c : outcome6 bw a b ≡ Pass = common-five bw a b ∙ or-pass _ _ e f in
-      rw (c, er, ep)
+  planned r p e er ep = rw (e, er, ep)
 
   -- the first refusal of 1 to 8
   pub planned-out : plannedOf bw a b .outcome ≡ outcome6 bw a b or planOutcome (row bw a b)

@@ -15,10 +15,11 @@ use Rattle.plan.specs.Engine.{planOutcome}
 use Rattle.plan.specs.Worked.{outcome7, outcome8}
 use Rattle.plan.proofs.Worked.{outcome-is}
 use Rattle.channel.specs.Layout.{row, count}
-use Rattle.faults.specs.Checks.{tooLong, shortCommon, shortUsers}
-use Rattle.faults.proofs.Passing.{neither, cutCommon-tested, cutUsers-tested}
+use Rattle.channel.proofs.Laws.{present-1}
+use Rattle.faults.specs.Checks.{tooLong, cutCommon, shortUsers}
+use Rattle.faults.proofs.Passing.{neither, cutCommon-pass, cutUsers-tested}
 use Rattle.halves.specs.Table.{checks11, check1, check2, check3, check4, check5, check6, check7, check8, check9, outcome11, outcome6}
-use Rattle.halves.specs.Engine.{outcome5, outcome9to11, AtMost512}
+use Rattle.halves.specs.Engine.{outcome3, outcome4to6, outcome9to11, AtMost512, Whole}
 
 pub outcome11-stages : (bw : ℕ) (a b : List ℕ) → outcome11 bw a b ≡ outcome6 bw a b or planOutcome (row bw a b) or outcome9to11 bw a b
 unfolding outcome11 outcome6 outcome9to11 check7 check8
@@ -41,13 +42,7 @@ at-most-512 bw a b e =
       second = not-long bw 2 b (pass-right (tooLong bw 1 a) _ f);
     }
 
--- where neither channel is cut short, 3 passes, and 9
-pub none-short-3 : (bw : ℕ) (a b : List ℕ) → shortCommon bw 1 a || shortCommon bw 2 b ≡ false → check3 bw a b ≡ Pass
-unfolding check3
-none-short-3 bw a b e =
-    let n = neither (shortCommon bw 1 a) (shortCommon bw 2 b) e in
-    or-pass _ _ (cutCommon-tested bw 1 a false (n .0)) (cutCommon-tested bw 2 b false (n .1))
-
+-- where neither channel is cut short, 9 passes
 pub none-short-9 : (bw : ℕ) (a b : List ℕ) (n m : ℕ) → n ≡ count bw 1 a → m ≡ count bw 2 b → shortUsers bw n a || shortUsers bw m b ≡ false
     → check9 bw a b ≡ Pass
 unfolding check9
@@ -59,23 +54,32 @@ pub record Common (bw : ℕ) (a b : List ℕ) : Type 0 where
   pub known : bw ≤ 4
   pub short : AtMost512 a b
 
--- 1 to 6 are 1 to 5 and 6
-pub common-five : (bw : ℕ) (a b : List ℕ) → outcome6 bw a b ≡ outcome5 bw a b or check6 bw a b
-unfolding outcome6 outcome5
-common-five bw a b = refl
+-- 1 to 6 are 1 to 3 and 4 to 6
+pub common-three : (bw : ℕ) (a b : List ℕ) → outcome6 bw a b ≡ outcome3 bw a b or outcome4to6 bw a b
+unfolding outcome6 outcome3 outcome4to6
+common-three bw a b =
+    let o = outcome3 bw a b in
+    or-assoc (o or check4 bw a b) (check5 bw a b) (check6 bw a b)
+    ∙ or-assoc o (check4 bw a b) (check5 bw a b or check6 bw a b)
+    ∙ ap (λ (p : Outcome). o or p) (sym (or-assoc (check4 bw a b) (check5 bw a b) (check6 bw a b)))
 
--- so much is known where 1 to 5 pass
-pub five-pass : (bw : ℕ) (a b : List ℕ) → outcome5 bw a b ≡ Pass → Common bw a b
-unfolding outcome5
-five-pass bw a b e =
-    let f = pass-left _ (check3 bw a b) (pass-left _ (check4 bw a b) (pass-left _ (check5 bw a b) e)) in
+-- so much is known where 1 to 3 pass
+pub three-pass : (bw : ℕ) (a b : List ℕ) → outcome3 bw a b ≡ Pass → Whole bw a b
+unfolding outcome3 check3
+three-pass bw a b e =
+    let f = pass-left _ (check3 bw a b) e in
+    let g = pass-right (check1 bw or check2 bw a b) _ e in
     record {
       known = unfold check1 in ltb-false 4 bw (pass-if _ _ (pass-left _ (check2 bw a b) f));
       short = at-most-512 bw a b f;
+      reach1 = cutCommon-pass bw 1 a (pass-left _ (cutCommon bw 2 b) g) (present-1 bw);
+      reach2 = cutCommon-pass bw 2 b (pass-right (cutCommon bw 1 a) _ g);
     }
 
 pub common-pass : (bw : ℕ) (a b : List ℕ) → outcome6 bw a b ≡ Pass → Common bw a b
-common-pass bw a b e = five-pass bw a b (pass-left _ (check6 bw a b) (sym (common-five bw a b) ∙ e))
+common-pass bw a b e =
+    let w = three-pass bw a b (pass-left _ (outcome4to6 bw a b) (sym (common-three bw a b) ∙ e)) in
+    record { known = w .known; short = w .short }
 
 -- a check that runs only where the earlier ones pass
 pub pass-next : {p q r : Outcome} → p ≡ Pass → r ≡ q → r ≡ (p or q)

@@ -1,9 +1,9 @@
 -- Engine: the groups in which the code runs the checks, what its halves ask of their callers, and what they hand on. The contracts of the code
 -- cite it; nobody has to believe it: `proofs/Stages.antt`, `proofs/Half.antt`.
 use mathlib.Core.Path.{_≡_}
-use mathlib.Core.Bool.{Bool}
+use mathlib.Core.Bool.{Bool, true}
 use mathlib.Core.List.{List}
-use Prim.Native.Nat.{ℕ, _≤_}
+use Prim.Native.Nat.{ℕ, _*_, _≤_}
 use lib.ListN.{length, replicate}
 use Rattle.answer.specs.Answer.{_or_}
 use Rattle.answer.specs.Every.{every}
@@ -13,13 +13,17 @@ use Rattle.resource.specs.Values.{carried}
 use Rattle.plan.specs.declared.Plan.{Plan}
 use Rattle.answer.specs.Lists.{at}
 use Rattle.plan.specs.Engine.{planOf}
-use Rattle.channel.specs.Layout.{row, rowIn16}
-use Rattle.halves.specs.Table.{check1, check2, check3, check4, check5, check9, check10, check11, outcome6}
+use Rattle.channel.specs.Layout.{present, common, row, rowIn16}
+use Rattle.halves.specs.Table.{check1, check2, check3, check4, check5, check6, check9, check10, check11, outcome6}
 use Rattle.halves.specs.declared.Planned.{Planned}
 
--- 1 to 5
-unfoldable pub outcome5 : ℕ → List ℕ → List ℕ → Outcome
-outcome5 bw a b = check1 bw or check2 bw a b or check3 bw a b or check4 bw a b or check5 bw a b
+-- 1 to 3
+unfoldable pub outcome3 : ℕ → List ℕ → List ℕ → Outcome
+outcome3 bw a b = check1 bw or check2 bw a b or check3 bw a b
+
+-- 4 to 6
+unfoldable pub outcome4to6 : ℕ → List ℕ → List ℕ → Outcome
+outcome4to6 bw a b = check4 bw a b or check5 bw a b or check6 bw a b
 
 -- 9 to 11
 unfoldable pub outcome9to11 : ℕ → List ℕ → List ℕ → Outcome
@@ -31,6 +35,13 @@ outcome9to11 bw a b = check9 bw a b or check10 bw a b or check11 bw a b
 pub record AtMost512 (a b : List ℕ) : Type 0 where
   pub first : length a ≤ 512
   pub second : length b ≤ 512
+
+-- channels of a bandwidth that there is, none over 512 bytes and each with its common field: what 1 to 3 ask
+pub record Whole (bw : ℕ) (a b : List ℕ) : Type 0 where
+  pub known : bw ≤ 4
+  pub short : AtMost512 a b
+  pub reach1 : common bw ≤ 8 * length a
+  pub reach2 : present bw 2 ≡ true → common bw ≤ 8 * length b
 
 -- channels whose every check and tail is right: all that 4 and 10 ask
 pub record Sealed (bw : ℕ) (a b : List ℕ) : Type 0 where

@@ -1,12 +1,16 @@
 -- Any two results that a public function's contract allows for one input agree: each contract is an equation.
 use mathlib.Core.Path.{sym, _∙_}
 use Rattle.answer.proofs.Agree.{Agrees}
+use Rattle.lengths.proofs.is_lent.Reads as is-lent
 use Rattle.lengths.proofs.too_long.Reads as too-long
 use Rattle.lengths.proofs.is_short_common.Reads as is-short-common
 use Rattle.lengths.proofs.cut_common.Reads as cut-common
 use Rattle.lengths.proofs.is_short_users.Reads as is-short-users
 use Rattle.lengths.proofs.cut_users.Reads as cut-users
 use Rattle.lengths.proofs.lacks_at.Reads as lacks-at
+
+pub is-lent-agrees : Agrees is-lent.Post
+is-lent-agrees κs a r r' s s' p q = p ∙ sym q
 
 pub too-long-agrees : Agrees too-long.Post
 too-long-agrees κs a r r' s s' p q = p ∙ sym q

@@ -1,2 +1,3 @@
 pub mod Agree
 pub mod RanOut
+pub mod Lent

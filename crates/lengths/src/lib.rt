@@ -9,6 +9,27 @@ ghost use Rattle.channel.specs.Layout.{common, count, endOf};
 ghost use Rattle.channel.specs.Fields.{namedFields};
 ghost use Rattle.faults.specs.RanOut.{ranOutAt};
 ghost use Rattle.faults.specs.Checks.{tooLong, shortCommon, cutCommon, shortUsers, cutUsers};
+ghost use Rattle.lengths.specs.Engine.{fitsIn, lent};
+
+fn fits(s: &[u8], n: usize) -> bool
+    ensures { λ r. ⌜ r ≡ fitsIn (now (s .entry)) n ⌝ }
+{
+    (n <= s.len()) & (s.len() <= 512)
+}
+
+// Whether both channels are lent as they may be: no frame that is pays for more of 1 to 3. By code, so that each comparison is with a constant.
+pub fn is_lent(bw: u32, a: &[u8], b: &[u8]) -> bool
+    ensures { λ r. ⌜ r ≡ lent bw (now (a .entry)) (now (b .entry)) ⌝ }
+{
+    match bw {
+        0 => fits(a, 5) & (b.len() == 0),
+        1 => fits(a, 5) & fits(b, 5),
+        2 => fits(a, 6) & fits(b, 6),
+        3 => fits(a, 10) & fits(b, 10),
+        4 => fits(a, 14) & fits(b, 14),
+        _ => false,
+    }
+}
 
 // Answer 2 for one channel.
 pub fn too_long(bw: u32, channel: u32, s: &[u8]) -> Outcome

@@ -1,9 +1,50 @@
 // The answers 4 and 10, each of one channel: a block whose check or tail is wrong.
 use answer::Outcome;
+use channel::Parts;
 ghost use mathlib.Core.Path.{_≡_};
 ghost use Prim.Native.Nat.{_≤_};
-ghost use Rattle.channel.specs.Layout.{count};
+ghost use Rattle.register.specs.Engine.{rightOf};
+ghost use Rattle.channel.specs.Layout.{firstBits, secondBits, count};
 ghost use Rattle.faults.specs.Checks.{wrongFirst, wrongSecond, wrongCommon, wrongBlock, firstWrong, wrongUsers};
+ghost use Rattle.wrong_blocks.specs.Engine.{partsRight};
+
+// The two widths stand as constants, so that no more of the quotient is worked out than reaches the check.
+fn is_first_right(bw: u32, x: u64) -> bool
+    ensures { λ r. ⌜ r ≡ rightOf x (firstBits bw) ⌝ }
+{
+    if bw < 2 {
+        register::right_of(x, 26)
+    } else {
+        register::right_of(x, 35)
+    }
+}
+
+fn is_second_right(bw: u32, x: u64) -> bool
+    requires { ⌜ (3 ≤ bw) × (bw ≤ 4) ⌝ }
+    ensures { λ r. ⌜ r ≡ rightOf x (secondBits bw) ⌝ }
+{
+    if bw == 3 {
+        register::right_of(x, 18)
+    } else {
+        register::right_of(x, 54)
+    }
+}
+
+// Whether every common check and tail is right, of a frame whose common fields are these: no place is looked for.
+pub fn parts_right(bw: u32, parts: Parts) -> bool
+    requires { ⌜ bw ≤ 4 ⌝ }
+    ensures { λ r. ⌜ r ≡ partsRight bw parts ⌝ }
+{
+    let one = is_first_right(bw, parts.first1);
+    if bw == 0 {
+        return one;
+    }
+    let first = one & is_first_right(bw, parts.first2);
+    if bw < 3 {
+        return first;
+    }
+    first & is_second_right(bw, parts.second1) & is_second_right(bw, parts.second2)
+}
 
 fn is_wrong_first(bw: u32, channel: u32, s: &[u8]) -> bool
     ensures { λ r. ⌜ r ≡ wrongFirst bw channel (now (s .entry)) ⌝ }

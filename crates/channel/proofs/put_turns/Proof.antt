@@ -4,7 +4,7 @@ use mathlib.Core.Path.{_≡_, refl}
 use native.Mathlib.Omega.{arith}
 use lib.ListN.{length-set}
 use Rattle.channel.specs.Engine.{Turns}
-use Rattle.channel.proofs.Windows.{turns-none, turns-next}
+use Rattle.channel.proofs.Held.{turns-none, turns-next}
 use borrow.Author.Needs.{needs}
 use Rattle.channel.proofs.put_turns.Statement.{statement}
 use Rattle.channel.proofs.put_turns.Tie as tie
@@ -36,8 +36,8 @@ add-row c = search needs
 mul-row-3 : tie.Need-mul-row-3 Inv-loop μ-loop
 mul-row-3 c = search needs
 
-slice-write-row : tie.Need-slice-write-row Inv-loop μ-loop
-slice-write-row c = omega (arith, c .before .loop .inv .1 .same-size)
+element-write-row : tie.Need-element-write-row Inv-loop μ-loop
+element-write-row c = omega (arith, c .before .loop .inv .1 .same-size)
 
 mul-row-4 : tie.Need-mul-row-4 Inv-loop μ-loop
 mul-row-4 c = search needs
@@ -60,8 +60,8 @@ add-row-3 c = search needs
 mul-row-6 : tie.Need-mul-row-6 Inv-loop μ-loop
 mul-row-6 c = search needs
 
-slice-write-row-2 : tie.Need-slice-write-row-2 Inv-loop μ-loop
-slice-write-row-2 c =
+element-write-row-2 : tie.Need-element-write-row-2 Inv-loop μ-loop
+element-write-row-2 c =
     let l = c .before .loop in
     let a = c .before .before .args in
     omega (arith, l .inv .1 .same-size, length-set (l .row) (a .p + 2 * l .k) (a .x / 2 ^ (9 * l .k) % 512))
@@ -77,9 +77,6 @@ loop-again c =
     let a = c .before .before .args in
     let l = c .before .loop in
     (omega arith, turns-next (a .row .now) (a .p) (a .x) (a .y) (l .k) _ _ (l .row) (omega arith) refl refl (l .inv .1))
-
-same-length : tie.Need-same-length Inv-loop μ-loop
-same-length c = c .before .loop .inv .1 .same-size
 
 returns : tie.Need-returns Inv-loop μ-loop
 returns c =
@@ -99,7 +96,7 @@ put-turns-spec =
     mul-row-2
     add-row
     mul-row-3
-    slice-write-row
+    element-write-row
     mul-row-4
     shr-row-2
     cast-row-2
@@ -107,9 +104,8 @@ put-turns-spec =
     add-row-2
     add-row-3
     mul-row-6
-    slice-write-row-2
+    element-write-row-2
     add-k
     loop-less
     loop-again
-    same-length
     returns)

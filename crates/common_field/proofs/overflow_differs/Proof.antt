@@ -1,10 +1,14 @@
 -- `common_field::overflow_differs` meets its contract.
 use Rattle.faults.specs.Checks.{overflowDiffers}
+use Rattle.answer.specs.Answer.{_or_}
+use Rattle.answer.specs.Least.{least}
+use Rattle.bits.specs.Bits.{differs}
+use Rattle.bits.proofs.Differs.{differs-from-0}
 use Rattle.channel.specs.Layout.{present}
 use Rattle.answer.proofs.Order.{or-end}
 use borrow.Author.Tests.{not-true, not-false}
 use mathlib.Core.Bool.{true, false}
-use mathlib.Core.Path.{_≡_, sym, _∙_}
+use mathlib.Core.Path.{_≡_, sym, _∙_, ap₂}
 use borrow.Author.Needs.{needs}
 use Rattle.common_field.proofs.overflow_differs.Statement.{statement}
 use Rattle.common_field.proofs.overflow_differs.Tie as tie
@@ -25,8 +29,8 @@ returns c =
     let e : present (a .bw) 2 ≡ false = sym (c .before .is-present .ensures) ∙ not-true _ (c .if1 .taken) in
     c .before .before .refuse-if .ensures ∙ rw (e, ← c .before .before .before .field-at .ensures) (sym (or-end _))
 
-overflow-diff-requires : tie.Need-overflow-diff-requires
-overflow-diff-requires c κs = search needs
+first-diff-requires : tie.Need-first-diff-requires
+first-diff-requires c κs = search needs
 
 refuse-if-requires-2 : tie.Need-refuse-if-requires-2
 refuse-if-requires-2 c κs = search needs
@@ -39,7 +43,10 @@ unfolding overflowDiffers
 returns-2 c =
     let a = c .before .before .before .before .before .before .before .before .before .args in
     let e : present (a .bw) 2 ≡ true = sym (c .before .before .before .before .is-present .ensures) ∙ not-false _ (c .before .before .before .if1 .left) in
-    rw e cc
+    let k : c .before .before .first-diff .result ≡ least (differs (a .a .now) (a .b .now)) 17 =
+    c .before .before .first-diff .ensures ∙ differs-from-0 (a .a .now) (a .b .now) 17 in
+    rw (e, ← k, ← c .before .before .before .before .before .before .field-at .ensures)
+    (c .or-else .ensures ∙ ap₂ _or_ (c .before .before .before .before .before .refuse-if .ensures) (c .before .refuse-if2 .ensures))
 
 pub overflow-differs-spec : {M : Type 1} → statement M
 overflow-differs-spec =
@@ -49,7 +56,7 @@ overflow-differs-spec =
     refuse-if-requires
     is-present-requires
     returns
-    overflow-diff-requires
+    first-diff-requires
     refuse-if-requires-2
     or-else-requires
     returns-2)

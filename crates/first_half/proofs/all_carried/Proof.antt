@@ -13,22 +13,22 @@ use Rattle.first_half.proofs.all_carried.Statement.{statement}
 use Rattle.first_half.proofs.all_carried.Tie as tie
 
 abbrev Inv-loop : tie.InvT-loop
-Inv-loop row all₀ p₀ all p = (p ≤ length row) × (all ≡ every (λ q. carried (at row q)) p)
+Inv-loop row all₀ p₀ all p = (p ≤ 16) × (all ≡ every (λ q. carried (at row q)) p)
 
 abbrev μ-loop : tie.MeasureT-loop
-μ-loop row all₀ p₀ all p = length row - p
+μ-loop row all₀ p₀ all p = 16 - p
 
 loop-holds : tie.Need-loop-holds Inv-loop μ-loop
 loop-holds c = (omega arith, refl)
 
-mul-is-carried : tie.Need-mul-is-carried Inv-loop μ-loop
-mul-is-carried c = search needs
+mul-is-listed : tie.Need-mul-is-listed Inv-loop μ-loop
+mul-is-listed c = search needs
 
-shared-slice-read-is-carried : tie.Need-shared-slice-read-is-carried Inv-loop μ-loop
-shared-slice-read-is-carried c = search needs
+element-copy-out-is-listed : tie.Need-element-copy-out-is-listed Inv-loop μ-loop
+element-copy-out-is-listed c = search needs
 
-is-carried-requires : tie.Need-is-carried-requires Inv-loop μ-loop
-is-carried-requires c κs = search needs
+is-listed-requires : tie.Need-is-listed-requires Inv-loop μ-loop
+is-listed-requires c κs = search needs
 
 add-p : tie.Need-add-p Inv-loop μ-loop
 add-p c = search needs
@@ -38,15 +38,15 @@ loop-less c = search needs
 
 loop-again : tie.Need-loop-again Inv-loop μ-loop
 loop-again c =
-    let row = c .before .before .before .before .before .args .row .now in
+    let row = c .before .before .before .before .args .row .now in
     let l = c .before .before .before .loop in
-    (omega arith, rw (l .inv .1, c .is-carried .ensures) (every-next (λ q. carried (at row q)) (l .p)))
+    (omega arith, rw (l .inv .1, c .is-listed .ensures) (every-next (λ q. carried (at row q)) (l .p)))
 
 returns : tie.Need-returns Inv-loop μ-loop
 unfolding allCarried
 returns c =
-    let row = c .before .before .before .args .row .now in
-    let e : c .before .loop .p ≡ length row = omega arith in
+    let row = c .before .before .args .row .now in
+    let e : c .before .loop .p ≡ length row = omega (arith, c .before .before .pre) in
     c .before .loop .inv .1 ∙ ap (every (λ q. carried (at row q))) e
 
 pub all-carried-spec : {M : Type 1} → statement M
@@ -56,9 +56,9 @@ all-carried-spec =
     Inv-loop
     μ-loop
     loop-holds
-    mul-is-carried
-    shared-slice-read-is-carried
-    is-carried-requires
+    mul-is-listed
+    element-copy-out-is-listed
+    is-listed-requires
     add-p
     loop-less
     loop-again
