@@ -18,20 +18,18 @@ use Rattle.reader.proofs.Stages.{readOutcome-pass}
 use Rattle.frame_words.proofs.Determine.{words-length}
 use Rattle.reader.proofs.Exactly.{accepted-exactly}
 use Rattle.word_bytes.specs.Bytes.{byteAt}
-use Rattle.brachymel.specs.Engine.{Suffices}
 use Rattle.brachymel.specs.Bytes.{bytesReadAnswer, readBytes}
 use Rattle.brachymel.proofs.Rooms.{reading-room}
 
--- `read` has read into p, of as many words as the lent bytes w have room for, as far as n, which suffice: its answer x, and p′ that it left there
-pub record HasRead (bw : ℕ) (a b w p p′ : List ℕ) (x : Answer) (n : ℕ) : Type 0 where
-  pub room : length p ≡ min (length w / 4) n
-  pub suffice : Suffices bw a b n
+-- `read` has read into p, of as many words as the lent bytes w have room for: its answer x, and p′ that it left there
+pub record HasRead (bw : ℕ) (a b w p p′ : List ℕ) (x : Answer) : Type 0 where
+  pub room : length p ≡ min (length w / 4) 154
   pub answers : x ≡ readAnswer bw a b (length p)
   pub leaves : p′ ≡ wordsAfter bw a b p
 
-module _ {bw : ℕ} {a b w p p′ : List ℕ} {x : Answer} {n : ℕ} (h : HasRead bw a b w p p′ x n) where
+module _ {bw : ℕ} {a b w p p′ : List ℕ} {x : Answer} (h : HasRead bw a b w p p′ x) where
   same-reading : readOutcome bw a b (length p) ≡ readOutcome bw a b (length w / 4)
-  same-reading = ap (readOutcome bw a b) (h .room) ∙ reading-room bw a b (length w / 4) n (h .suffice)
+  same-reading = ap (readOutcome bw a b) (h .room) ∙ reading-room bw a b (length w / 4)
 
   pub answer-is : x ≡ bytesReadAnswer bw a b w
   unfolding readAnswer
@@ -39,8 +37,8 @@ module _ {bw : ℕ} {a b w p p′ : List ℕ} {x : Answer} {n : ℕ} (h : HasRea
 
   pub kept-bytes : (x .number ≡ 0 → ⊥) → w ≡ readBytes bw a b w
   unfolding readBytes readAnswer
-  kept-bytes f =
-      sym (after-answered (readOutcome bw a b (length w / 4)) (wordCount bw a b) x (filled (byteAt (wordsOf bw a b)) (4 * wordCount bw a b) w) w answer-is f)
+  kept-bytes n =
+      sym (after-answered (readOutcome bw a b (length w / 4)) (wordCount bw a b) x (filled (byteAt (wordsOf bw a b)) (4 * wordCount bw a b) w) w answer-is n)
 
   module _ (z : x .number ≡ 0) where
     passed : readOutcome bw a b (length p) ≡ Pass
@@ -74,6 +72,6 @@ module _ {bw : ℕ} {a b w p p′ : List ℕ} {x : Answer} {n : ℕ} (h : HasRea
     pub bytes-are : (rest out : List ℕ) → out ≡ filled (byteAt (p′ ++ rest)) (4 * x .place) w → out ≡ readBytes bw a b w
     unfolding readBytes
     bytes-are rest out e =
-        e ∙ ap (λ (m : ℕ). filled (byteAt (p′ ++ rest)) (4 * m) w) place-is
+        e ∙ ap (λ (n : ℕ). filled (byteAt (p′ ++ rest)) (4 * n) w) place-is
         ∙ filled-cong (byteAt (p′ ++ rest)) (byteAt (wordsOf bw a b)) (4 * wordCount bw a b) w (same-byte rest)
         ∙ sym (after-passed (readOutcome bw a b (length w / 4)) _ _ (sym same-reading ∙ passed))

@@ -5,7 +5,6 @@ ghost use mathlib.Core.Path.{_≡_};
 ghost use Prim.Native.Nat.{_/_, _≤_};
 ghost use lib.ListN.{length};
 ghost use Rattle.word_bytes.specs.Bytes.{wordsIn};
-ghost use Rattle.brachymel.specs.Engine.{Suffices};
 ghost use Rattle.brachymel.specs.Bytes.{bytesReadAnswer, readBytes, bytesWriteAnswer, writeChannel};
 ghost use Rattle.writer.specs.Result.{writeAnswer, channelAfter};
 ghost use Rattle.listed.specs.Listing.{listAnswer, listAfter};
@@ -14,7 +13,7 @@ ghost use Rattle.trigger.specs.Reading.{entryAnswer, recordRead};
 ghost use Rattle.trigger.specs.Writing.{recordAnswer, entryWritten};
 ghost use Rattle.overlaps.specs.Result.{overlapsAnswer, pairsAfter};
 
-// The reading, through words of its own, which are enough for the frame.
+// The reading, through words of its own.
 fn read_through(
     bandwidth: u32,
     cc1: &[u8],
@@ -22,11 +21,11 @@ fn read_through(
     words: &mut [u8],
     local: &mut [u32],
 ) -> Answer
-    requires { ⌜ (length (now local) ≤ 154) × Suffices bandwidth (now cc1) (now cc2) (length (now local)) ⌝ }
+    requires { ⌜ length (now local) ≡ 154 ⌝ }
     ensures { λ r. ⌜ r ≡ bytesReadAnswer bandwidth (now (cc1 .entry)) (now (cc2 .entry)) (now (words .entry)) ⌝ }
     ensures { λ _. ⌜ now (words .exit) ≡ readBytes bandwidth (now (cc1 .entry)) (now (cc2 .entry)) (now (words .entry)) ⌝ }
 {
-    let room = word_bytes::room_of(words.len(), local.len());
+    let room = word_bytes::room_of(words.len());
     let x = reader::read(bandwidth, cc1, cc2, &mut local[..room]);
     if x.number != 0 {
         return x;
@@ -40,10 +39,6 @@ pub extern "C" fn brachymel_read(bandwidth: u32, cc1: &[u8], cc2: &[u8], words: 
     ensures { λ r. ⌜ r ≡ bytesReadAnswer bandwidth (now (cc1 .entry)) (now (cc2 .entry)) (now (words .entry)) ⌝ }
     ensures { λ _. ⌜ now (words .exit) ≡ readBytes bandwidth (now (cc1 .entry)) (now (cc2 .entry)) (now (words .entry)) ⌝ }
 {
-    if (cc1.len() <= 32) & (cc2.len() <= 32) {
-        let mut local = [0u32; 26]; // two such channels have at most 16 User fields
-        return read_through(bandwidth, cc1, cc2, words, &mut local);
-    }
     let mut local = [0u32; 154];
     read_through(bandwidth, cc1, cc2, words, &mut local)
 }

@@ -48,7 +48,7 @@ fn read_users(
     }
 }
 
-// The same with room for the fields, so that a small frame does not clear what a large one needs.
+// The same with room for the fields.
 fn read_planned(
     bw: u32,
     a: &[u8],
@@ -63,10 +63,6 @@ fn read_planned(
     ensures { λ r. ⌜ r ≡ usersAnswer bw (now (a .entry)) (now (b .entry)) (length (now (words .entry))) ⌝ }
     ensures { λ _. ⌜ now (words .exit) ≡ usersAfter bw (now (a .entry)) (now (b .entry)) (now (words .entry)) ⌝ }
 {
-    if n + m <= 16 {
-        let mut few = [0u32; 16];
-        return read_users(bw, a, b, row, shared, n, m, &mut few, words);
-    }
     let mut fields = [0u32; 144];
     read_users(bw, a, b, row, shared, n, m, &mut fields, words)
 }

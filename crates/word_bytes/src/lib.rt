@@ -21,12 +21,12 @@ pub fn put_bytes(out: &mut [u8], words: &[u32], n: usize)
     }
 }
 
-// How many whole words the bytes have room for, as far as `most`.
-pub fn room_of(bytes: usize, most: usize) -> usize
-    ensures { λ r. ⌜ (r ≤ most) × (r ≡ min (bytes / 4) most) ⌝ }
+// How many whole words the bytes have room for; 154 is as good as more.
+pub fn room_of(bytes: usize) -> usize
+    ensures { λ r. ⌜ (r ≤ 154) × (r ≡ min (bytes / 4) 154) ⌝ }
 {
     let n = bytes / 4;
-    if n < most { n } else { most }
+    if n < 154 { n } else { 154 }
 }
 
 fn wide(x: u8) -> u32

@@ -1,7 +1,7 @@
 -- `brachymel::read_through` meets its contract.
 use Rattle.brachymel.proofs.Through.{HasRead, answer-is, kept-bytes, place-is, room-for, holds-words, bytes-are}
 use lib.Seq.{length-take-le}
-use lib.ListN.{length, take, drop}
+use lib.ListN.{take, drop}
 use native.Mathlib.Omega.{arith}
 use mathlib.Core.Path.{sym, _∙_}
 use borrow.Author.Needs.{needs}
@@ -24,10 +24,9 @@ read-requires c κs = search needs
 has-read : (c : tie.After-read)
     → let s = c .before .before .before .before .before .before .before .args in
     HasRead (s .bandwidth) (s .cc1 .now) (s .cc2 .now) (s .words .now) (take (c .before .before .room-of .result) (s .local .now)) (c .read .last .1 .1 .1 .0)
-    (c .read .result) (length (s .local .now))
+    (c .read .result)
 has-read c = record {
   room = length-take-le _ _ (omega arith) ∙ c .before .before .room-of .ensures .1;
-  suffice = c .before .before .before .before .before .before .before .pre .1;
   answers = c .read .ensures .0;
   leaves = c .read .ensures .1;
 }
