@@ -35,7 +35,7 @@ second : Channel 2
 second = (omega arith, omega arith)
 
 -- a field that is owned is one of its channel's, and that is one of the two
-owned-below : (o row : ℕ → ℕ) (n i c j : ℕ) → Owns o row n i c j → j < fieldsBefore c row n
+pub owned-below : (o row : ℕ → ℕ) (n i c j : ℕ) → Owns o row n i c j → j < fieldsBefore c row n
 owned-below o row n i c j (of-piece p k w e l f) = comes-below row n c j p k w
 owned-below o row n i c j (of-place p k q w e h g f) = comes-below row n c j p k w
 

@@ -1,0 +1,3 @@
+pub mod Meeting
+pub mod Owned
+pub mod Order
