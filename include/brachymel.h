@@ -1,6 +1,6 @@
 /* brachymel.h: the EHT-SIG field of a downlink OFDMA EHT MU PPDU (Wi-Fi 7, IEEE 802.11be), read into the
- * radiotap EHT words, written from them, listed as text, and compared with another; and the EHT variant User Info of
- * Trigger frames, read, written, and searched for overlaps.
+ * radiotap EHT words, written from them, listed as text, and compared with another; the spatial streams of its User
+ * fields; and the EHT variant User Info of Trigger frames, read, written, and searched for overlaps.
  *
  * Link with libbrachymel.a, which is built for x86-64 Linux. C99; usable from C++.
  *
@@ -42,7 +42,7 @@ typedef struct {
 } brachymel_answer;
 
 enum {
-    BRACHYMEL_ACCEPTED = 0,          /* 0, what was written: words (read), bytes per channel (write), pairs (trigger_overlaps), else bytes */
+    BRACHYMEL_ACCEPTED = 0,          /* 0, what was written: words (read), bytes per channel (write), pairs (trigger_overlaps), else bytes; or streams_number's */
     BRACHYMEL_BANDWIDTH = 1,         /* bandwidth code above 4, or of a Trigger's entries above 2: 0, 0 */
     BRACHYMEL_CHANNEL_LENGTH = 2,    /* a channel over 512 bytes, or channel 2 not empty at 20 MHz: that channel, 0 */
     BRACHYMEL_COMMON_SHORT = 3,      /* common field cut short: channel, first bit of the field that did not fit */
@@ -60,8 +60,9 @@ enum {
     BRACHYMEL_ENTRY_LENGTH = 15,     /* trigger_read: not five bytes; trigger_overlaps: not whole entries: 0, 0 */
     BRACHYMEL_ENTRY_BITS = 16,       /* PS160 or B0 of the RU Allocation is set: 0, 0 (of a list 0, the entry from 1) */
     BRACHYMEL_ENTRY_VALUE = 17,      /* value not named or too wide: 0, 0 (of a list 0, the entry); trigger_write: no five bytes read to this record: 0, 0 */
+    BRACHYMEL_NO_ROW = 21,           /* streams_row: users not 2 to 8; streams_row, streams: a number past the last row; streams_number: a row not listed: 0, 0 */
     BRACHYMEL_TEXT = 22,             /* a program's input text is not its lines: 0, first wrong line (0: too long); no call here gives it */
-    BRACHYMEL_LISTING_ROOM = 23,     /* list, compare, trigger_read, trigger_write: the buffer is too short: 0, bytes needed */
+    BRACHYMEL_LISTING_ROOM = 23,     /* list, compare, trigger_read, trigger_write, streams_row, streams: the buffer is too short: 0, bytes needed */
     BRACHYMEL_SPECIAL = 24,          /* AID12 is 2007, which has a layout of its own: 0, 0 (of a list 0, the entry from 1) */
     BRACHYMEL_TOO_MANY_ENTRIES = 25, /* trigger_overlaps: over 32 entries: 0, 0 */
     BRACHYMEL_PAIRS_ROOM = 26        /* trigger_overlaps: room for fewer pairs than there are: 0, 0 */
@@ -159,6 +160,31 @@ brachymel_answer brachymel_trigger_write(uint32_t bandwidth, const uint8_t *reco
  * refused one are not looked at. No entries are accepted, with no pairs. */
 brachymel_answer brachymel_trigger_overlaps(uint32_t bandwidth, const uint8_t *entries, size_t entries_len,
                                             uint8_t *pairs, size_t pairs_len);
+
+/* Spatial streams. Two to eight stations that share a resource have a row: for each, in the order of their User fields
+ * (channel 1's, then channel 2's), how many streams are its own, 1 to 4. A row never rises and sums to at most 16. The rows of so
+ * many stations are counted from 0, ordered by the last entry first, then by the one before it, and so on: for 2 to 8 of them
+ * there are 10, 20, 35, 49, 54, 50 and 41. The spatial configuration of a User field (bits 24 to 29 of its word) is such a
+ * number. Entries are a byte each. */
+enum {
+    BRACHYMEL_ROW_SIZE = 8,          /* bytes of a row that always suffice */
+    BRACHYMEL_STREAMS_SIZE = 144     /* bytes of a frame's streams that always suffice: 144 User fields */
+};
+
+/* Gives the row of this number for so many users, a byte for each of them. Refusals 21, 23, in this order. */
+brachymel_answer brachymel_streams_row(uint32_t users, uint32_t number, uint8_t *row, size_t row_len);
+
+/* Gives, as place, the number of a row for as many users as it has bytes. Nothing is written. Refusal 21. */
+brachymel_answer brachymel_streams_number(const uint8_t *row, size_t row_len);
+
+/* Reads two channels and gives the streams of each User field, a byte each, in the order of the User words. On a shared
+ * resource: the entry of the row that the field's own spatial configuration names, for as many users as the resource has User
+ * fields over both channels, at the field's place among these, channel 1's first; that they all name the same row is not asked.
+ * Alone on its resource: NSS + 1, or 0, not known, for an NSS above 7. A field that is BRACHYMEL_UNASSIGNED has 0, whatever its
+ * other bits are, and is one of its resource's fields. Refusals 1 to 11; 21 where the configuration of a shared field that is not
+ * BRACHYMEL_UNASSIGNED is past the last row; 23; in this order. */
+brachymel_answer brachymel_streams(uint32_t bandwidth, const uint8_t *cc1, size_t cc1_len, const uint8_t *cc2, size_t cc2_len,
+                                   uint8_t *streams, size_t streams_len);
 
 #ifdef __cplusplus
 }
