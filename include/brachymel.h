@@ -42,7 +42,7 @@ typedef struct {
 } brachymel_answer;
 
 enum {
-    BRACHYMEL_ACCEPTED = 0,          /* 0, what was written: words (read), bytes per channel (write), pairs (trigger_overlaps), else bytes; or streams_number's */
+    BRACHYMEL_ACCEPTED = 0,          /* 0, what was given: words (read), bytes per channel (write), pairs (trigger_overlaps), a number (streams_number), else bytes */
     BRACHYMEL_BANDWIDTH = 1,         /* bandwidth code above 4, or of a Trigger's entries above 2: 0, 0 */
     BRACHYMEL_CHANNEL_LENGTH = 2,    /* a channel over 512 bytes, or channel 2 not empty at 20 MHz: that channel, 0 */
     BRACHYMEL_COMMON_SHORT = 3,      /* common field cut short: channel, first bit of the field that did not fit */

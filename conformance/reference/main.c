@@ -178,12 +178,17 @@ static uint8_t *room_for(size_t bytes)
     return room;
 }
 
+static uint32_t number_32(int i)
+{
+    uint64_t n = number(i);
+    if (n > 0xFFFFFFFF)
+        wrong_case(line_number, "a number of more than 32 bits");
+    return (uint32_t)n;
+}
+
 static uint32_t bandwidth(int i)
 {
-    uint64_t code = number(i);
-    if (code > 0xFFFFFFFF)
-        wrong_case(line_number, "a bandwidth code of more than 32 bits");
-    return (uint32_t)code;
+    return number_32(i);
 }
 
 static void print_answer(answer a)
@@ -332,6 +337,39 @@ static void case_trigger(answer call(uint32_t, const uint8_t *, size_t, uint8_t 
     free(s.bytes);
 }
 
+static void case_streams_row(void)
+{
+    want(4);
+    size_t room = (size_t)number(3);
+    uint8_t *row = room_for(room);
+    print_answer(reference_streams_row(number_32(1), number_32(2), row, room));
+    putchar(' ');
+    print_bytes(row, room);
+    free(row);
+}
+
+static void case_streams_number(void)
+{
+    want(2);
+    string row = string_of(1);
+    print_answer(reference_streams_number(row.bytes, row.length));
+    free(row.bytes);
+}
+
+static void case_streams(void)
+{
+    want(5);
+    string s = string_of(2), t = string_of(3);
+    size_t room = (size_t)number(4);
+    uint8_t *streams = room_for(room);
+    print_answer(reference_streams(bandwidth(1), s.bytes, s.length, t.bytes, t.length, streams, room));
+    putchar(' ');
+    print_bytes(streams, room);
+    free(streams);
+    free(s.bytes);
+    free(t.bytes);
+}
+
 static void run_case(char *line)
 {
     split(line);
@@ -356,6 +394,9 @@ static void run_case(char *line)
     case 't': case_trigger(reference_trigger_read); break;
     case 'u': case_trigger(reference_trigger_write); break;
     case 'o': case_trigger(reference_trigger_overlaps); break;
+    case 'n': case_streams_row(); break;
+    case 'i': case_streams_number(); break;
+    case 'N': case_streams(); break;
     default: wrong_case(line_number, "a letter that names no case");
     }
     putchar('\n');

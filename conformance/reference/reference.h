@@ -167,6 +167,31 @@ answer reference_trigger_write(uint32_t bandwidth, const uint8_t *bytes, size_t 
 answer reference_trigger_overlaps(uint32_t bandwidth, const uint8_t *entries, size_t length, uint8_t *pairs,
                                   size_t room);
 
+/* streams.c: spatial streams (02, T-11). */
+unsigned count_of_rows(unsigned users); /* 0 where the users are not 2 to 8 */
+answer reference_streams_row(uint32_t users, uint32_t number, uint8_t *row, size_t room);
+answer reference_streams_number(const uint8_t *row, size_t length);
+answer reference_streams(uint32_t bandwidth, const uint8_t *cc1, size_t cc1_length, const uint8_t *cc2, size_t cc2_length,
+                         uint8_t *streams, size_t room);
+
+/* table.c: 000's table of rows of streams, line by line, and row by row. */
+#define PRINTED_LINES 139
+#define PRINTED_ROWS 259
+
+typedef struct {
+    unsigned users;
+    const char *numbers, *streams, *total;
+} printed_line;
+
+typedef struct {
+    unsigned users, number;
+    uint8_t row[8];
+} printed_row;
+
+extern const printed_line printed_lines[PRINTED_LINES];
+unsigned printed_rows(printed_row rows[PRINTED_ROWS]); /* how many there are */
+void printed_total(const printed_line *line, unsigned *first, unsigned *last);
+
 /* selftest.c: prints a line for each check that fails, and `N passed, M failed`; the status is 0 if M is 0. */
 int self_test(void);
 

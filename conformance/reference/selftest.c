@@ -1543,6 +1543,145 @@ static void compared_texts(void)
            "16,385 bytes are too many");
 }
 
+/* 02, T-11: every row of 000's table, both ways, in just enough room and in too little; "Five users have 49 rows, six 54, seven
+ * 50". The numbers follow one another from 0, the totals are the rows' sums but for two slips of 000 at eight users. */
+static void streams_table(void)
+{
+    static const unsigned how_many[9] = {0, 0, 10, 20, 35, 49, 54, 50, 41};
+    static printed_row printed[PRINTED_ROWS];
+    unsigned count[9] = {0}, slips = 0, rows_so_far = 0;
+    expect(printed_rows(printed) == PRINTED_ROWS, "how many rows 000 prints");
+    for (unsigned k = 0; k < PRINTED_ROWS; k++) {
+        const printed_row *p = &printed[k];
+        uint8_t row[9];
+        char what[60];
+        sprintf(what, "000's row %u of %u users", p->number, p->users);
+        memset(row, 0xA5, sizeof row);
+        expect(p->number == count[p->users]++, what);
+        answer_is(reference_streams_row(p->users, p->number, row, p->users - 1), 23, 0, p->users, what);
+        expect(row[0] == 0xA5, what);
+        answer_is(reference_streams_row(p->users, p->number, row, 9), 0, 0, p->users, what);
+        expect(memcmp(row, p->row, p->users) == 0 && row[p->users] == 0xA5, what);
+        answer_is(reference_streams_number(p->row, p->users), 0, 0, p->number, what);
+    }
+    for (unsigned users = 2; users <= 8; users++) {
+        expect(count[users] == how_many[users] && count_of_rows(users) == how_many[users], "how many rows so many users have");
+        answer_is(reference_streams_row(users, how_many[users], NULL, 0), 21, 0, 0, "a number past the last row, before 23");
+    }
+    for (unsigned k = 0; k < PRINTED_LINES; k++) {
+        unsigned first, last, of_first = 0, of_last = 0, from = rows_so_far;
+        while (rows_so_far < PRINTED_ROWS && printed[rows_so_far].users == printed_lines[k].users
+               && (rows_so_far == from || memcmp(printed[rows_so_far].row + 1, printed[from].row + 1, 7) == 0))
+            rows_so_far++;
+        for (unsigned u = 0; u < printed_lines[k].users; u++) {
+            of_first += printed[from].row[u];
+            of_last += printed[rows_so_far - 1].row[u];
+        }
+        printed_total(&printed_lines[k], &first, &last);
+        slips += first != of_first || last != of_last;
+    }
+    expect(slips == 2 && rows_so_far == PRINTED_ROWS, "000's totals, of which two are slips");
+}
+
+/* "Refusals: 21, users not 2 to 8, a number past the last row, or a row not listed." */
+static void streams_refusals(void)
+{
+    static const uint32_t no_users[] = {0, 1, 9, 10, 0x102, 0x10002, 0x80000008, 0xFFFFFFFF};
+    static const struct {
+        size_t length;
+        uint8_t row[9];
+    } not_listed[] = {
+        {0, {0}}, {1, {1}}, {1, {4}}, {9, {1, 1, 1, 1, 1, 1, 1, 1, 1}}, {2, {1, 2}}, {2, {0, 0}}, {2, {1, 0}}, {2, {5, 1}}, {2, {5, 5}},
+        {2, {255, 1}}, {3, {2, 1, 2}}, {4, {4, 3, 4, 4}}, {5, {4, 4, 4, 4, 1}}, {5, {4, 4, 3, 3, 3}}, {6, {4, 4, 4, 2, 2, 1}},
+        {7, {4, 3, 3, 2, 2, 2, 1}}, {8, {3, 2, 2, 2, 2, 2, 2, 2}}, {8, {4, 4, 4, 4, 4, 4, 4, 4}}};
+    uint8_t row[8];
+    for (size_t k = 0; k < sizeof no_users / sizeof no_users[0]; k++)
+        answer_is(reference_streams_row(no_users[k], 0, row, 8), 21, 0, 0, "users not 2 to 8");
+    answer_is(reference_streams_row(2, 0xFFFFFFFF, row, 8), 21, 0, 0, "the largest number");
+    answer_is(reference_streams_row(8, 63, row, 8), 21, 0, 0, "the largest configuration, of eight users");
+    answer_is(reference_streams_row(8, 40, row, 7), 23, 0, 8, "eight users need eight bytes");
+    for (size_t k = 0; k < sizeof not_listed / sizeof not_listed[0]; k++)
+        answer_is(reference_streams_number(not_listed[k].row, not_listed[k].length), 21, 0, 0, "a row not listed");
+}
+
+/* A User field's number: its station, and from bit 16 on its NSS or its spatial configuration. */
+#define FIELD(station, from_16) ((station) | (uint32_t)(from_16) << 16)
+
+static void streams_are(unsigned bandwidth, const unsigned *row, const uint32_t *fields, const uint8_t *right, size_t count,
+                        const char *what)
+{
+    uint8_t cc[2][512], streams[MOST_FIELDS + 1];
+    size_t bytes = frame(bandwidth, row, fields, cc), second = bandwidth == 0 ? 0 : bytes;
+    memset(streams, 0xA5, sizeof streams);
+    if (count != 0)
+        answer_is(reference_streams(bandwidth, cc[0], bytes, cc[1], second, streams, count - 1), 23, 0, count, what);
+    expect(streams[0] == 0xA5, what);
+    answer_is(reference_streams(bandwidth, cc[0], bytes, cc[1], second, streams, count), 0, 0, count, what);
+    expect(memcmp(streams, right, count) == 0 && streams[count] == 0xA5, what);
+}
+
+static void streams_refused(unsigned bandwidth, const unsigned *row, const uint32_t *fields, size_t room, const char *what)
+{
+    uint8_t cc[2][512], streams[MOST_FIELDS];
+    size_t bytes = frame(bandwidth, row, fields, cc);
+    memset(streams, 0xA5, sizeof streams);
+    answer_is(reference_streams(bandwidth, cc[0], bytes, cc[1], bandwidth == 0 ? 0 : bytes, streams, room), 21, 0, 0, what);
+    expect(streams[0] == 0xA5, what);
+}
+
+/* Frames by hand. (73, 74) is a 484 of five users, two in channel 1: number 42 of five is 4 4 3 2 2. (65, 25) is a 242 of two users
+ * and 106 26 106. 80 MHz (26, 97, 96, 29): a 484+242 of three, one in channel 1; number 17 is 4 3 3. Two resources whose fields
+ * take turns in the channels: (73, 73, 72, 72), a lower 484 of four and an upper one of two. */
+static void streams_frames(void)
+{
+    static const unsigned five[2] = {73, 74}, mixed[2] = {65, 25}, joined[4] = {26, 97, 96, 29}, two[4] = {73, 73, 72, 72},
+        nobody[2] = {26, 27}, wide[8] = {88, 30, 30, 30, 30, 30, 30, 89}, one[1] = {71};
+    static const uint32_t
+        of_five[5] = {FIELD(1, 42), FIELD(2, 42), FIELD(3, 42), FIELD(4, 42), FIELD(5, 42)},
+        own[5] = {FIELD(1, 0), FIELD(2, 48), FIELD(3, 33), FIELD(4, 43), FIELD(5, 34)}, /* 1 .., 3 3 .., 4 4 4 .., .. 2 2, 2 .. */
+        unassigned_ones[5] = {FIELD(2046, 63), FIELD(2, 42), FIELD(2046, 49), FIELD(4, 42), FIELD(2046, 0)},
+        past[5] = {FIELD(1, 42), FIELD(2, 42), FIELD(3, 42), FIELD(4, 42), FIELD(5, 49)},
+        of_mixed[5] = {FIELD(1, 3), FIELD(2, 7), FIELD(3, 7), FIELD(4, 8), FIELD(2046, 3)},
+        all_nss[5] = {FIELD(1, 9), FIELD(2, 9), FIELD(3, 15), FIELD(4, 0), FIELD(5, 6)},
+        past_of_two[5] = {FIELD(1, 10), FIELD(2, 7), FIELD(3, 7), FIELD(4, 8), FIELD(5, 3)},
+        of_joined[3] = {FIELD(1, 17), FIELD(2, 17), FIELD(3, 17)},
+        of_two[6] = {FIELD(1, 28), FIELD(2, 28), FIELD(3, 2), FIELD(4, 28), FIELD(5, 28), FIELD(6, 2)},
+        of_wide[3] = {FIELD(11, 12), FIELD(12, 12), FIELD(13, 12)},
+        of_one[8] = {FIELD(1, 40), FIELD(2, 26), FIELD(3, 26), FIELD(4, 26), FIELD(5, 26), FIELD(6, 39), FIELD(7, 39), FIELD(8, 40)},
+        past_of_eight[8] = {FIELD(1, 40), FIELD(2, 40), FIELD(3, 40), FIELD(4, 41), FIELD(5, 40), FIELD(6, 40), FIELD(7, 40), FIELD(8, 40)};
+    uint8_t cc[2][512], streams[1];
+    streams_are(1, five, of_five, (const uint8_t[]){4, 4, 3, 2, 2}, 5, "five users of a 484, channel 1's first");
+    streams_are(1, five, own, (const uint8_t[]){1, 3, 4, 2, 2}, 5, "each field names its own row");
+    streams_are(1, five, unassigned_ones, (const uint8_t[]){0, 4, 0, 2, 0}, 5, "nobody's fields have their places");
+    streams_refused(1, five, past, 5, "a configuration past the last row");
+    streams_refused(1, five, past, 0, "a configuration past the last row, before 23");
+    streams_are(1, mixed, of_mixed, (const uint8_t[]){4, 3, 8, 0, 0}, 5, "fields alone with NSS 7 and 8, and nobody's");
+    streams_are(1, mixed, all_nss, (const uint8_t[]){4, 4, 0, 1, 7}, 5, "fields alone with NSS 15, 0 and 6");
+    streams_refused(1, mixed, past_of_two, 5, "two users have ten rows");
+    streams_are(2, joined, of_joined, (const uint8_t[]){4, 3, 3}, 3, "three users of a 484+242");
+    streams_are(2, two, of_two, (const uint8_t[]){4, 4, 3, 3, 2, 1}, 6, "two resources, each with fields in both channels");
+    streams_are(1, nobody, NULL, NULL, 0, "no User field, no byte");
+    streams_are(3, wide, of_wide, (const uint8_t[]){4, 2, 2}, 3, "three users of a 2x996");
+    streams_are(0, one, of_one, (const uint8_t[]){2, 3, 3, 2, 1, 2, 2, 2}, 8, "eight users of a 242");
+    streams_refused(0, one, past_of_eight, 8, "eight users have 41 rows");
+    frame(1, five, past, cc);
+    answer_is(reference_streams(5, cc[0], 12, cc[1], 16, streams, 0), 1, 0, 0, "the reader's 1");
+    answer_is(reference_streams(1, cc[0], 9, cc[1], 16, streams, 0), 9, 1, 58, "the reader's 9, before 21");
+    cc[0][10] ^= 1;
+    answer_is(reference_streams(1, cc[0], 12, cc[1], 16, streams, 0), 10, 1, 80, "the reader's 10, before 21");
+    answer_is(reference_streams(3, channel_1_mended, 23, channel_2, 23, streams, 0), 23, 0, 5, "004's example, no room");
+}
+
+/* 004's example: stations 1441 and 1442 share a 484+242 with configuration 4, 2 2; NSS 1, 0 and 0. */
+static void streams_example(void)
+{
+    uint8_t streams[6];
+    memset(streams, 0xA5, sizeof streams);
+    answer_is(reference_streams(3, channel_1_mended, 23, channel_2, 23, streams, 6), 0, 0, 5, "004's streams");
+    expect(memcmp(streams, (const uint8_t[]){2, 2, 2, 1, 1, 0xA5}, 6) == 0, "004's streams, one by one");
+    answer_is(reference_streams(3, channel_1_printed, 23, channel_2, 23, streams, 6), 10, 1, 95, "004 as printed has none");
+}
+
 int self_test(void)
 {
     bits_and_fields();
@@ -1577,6 +1716,10 @@ int self_test(void)
     compared_example();
     compared_wide();
     compared_texts();
+    streams_table();
+    streams_refusals();
+    streams_frames();
+    streams_example();
     printf("reference: held to the papers\n%d passed, %d failed\n", passed, failed);
     return failed != 0;
 }
