@@ -5,7 +5,8 @@
  * page that cannot be touched, before it or after it, or at an odd address between bytes that must stay as they
  * are; an empty one is NULL now and then. What the buffers held before is a pattern that changes from call to
  * call. Every answer number has to be met. The last line is 'N passed, M failed'. With --until-wrong it makes only the
- * calls of one part ("frames", "triggers" or "comparisons"; they are the same ones) and ends at the first that is wrong.
+ * calls of one part ("frames", "triggers", "comparisons", "rows" or "streams"; they are the same ones) and ends at the first that
+ * is wrong.
  */
 #define _DEFAULT_SOURCE
 #include "driver.h"
@@ -75,7 +76,8 @@ static int is_as_it_should_be(const arena *a)
 
 const char *const entry_name[ENTRIES] = {"brachymel_read", "brachymel_write", "brachymel_list",
                                          "brachymel_trigger_read", "brachymel_trigger_write",
-                                         "brachymel_trigger_overlaps", "brachymel_compare"};
+                                         "brachymel_trigger_overlaps", "brachymel_compare", "brachymel_streams_row",
+                                         "brachymel_streams_number", "brachymel_streams"};
 static unsigned long met[ENTRIES][32];
 
 static int sum_up(void)
@@ -382,11 +384,12 @@ static void hold_met(void)
 {
     static const struct {
         unsigned how_many;
-        uint8_t number[13];
+        uint8_t number[14];
     } of[ENTRIES] = {
         {13, {0, 1, 2, 3, 4, 5, 6, 7, 8, 9, 10, 11, 12}}, {4, {0, 1, 13, 14}},
         {13, {0, 1, 2, 3, 4, 5, 6, 7, 8, 9, 10, 11, 23}}, {7, {0, 1, 15, 24, 16, 17, 23}}, {5, {0, 1, 24, 17, 23}},
-        {8, {0, 1, 15, 25, 24, 16, 17, 26}}, {2, {0, 23}}};
+        {8, {0, 1, 15, 25, 24, 16, 17, 26}}, {2, {0, 23}}, {3, {0, 21, 23}}, {2, {0, 21}},
+        {14, {0, 1, 2, 3, 4, 5, 6, 7, 8, 9, 10, 11, 21, 23}}};
     unsigned missing = 0;
     for (unsigned e = 0; e < ENTRIES; e++) {
         printf("driver: %s:", entry_name[e]);
@@ -456,6 +459,12 @@ int main(int argc, char **argv)
     c = chance_from(seed, 'T');
     if (is_in("comparisons"))
         every_comparison(&c, count / 30);
+    c = chance_from(seed, 'Q');
+    if (is_in("rows"))
+        every_row_of_streams(&c);
+    c = chance_from(seed, 'S');
+    if (is_in("streams"))
+        every_stream(&c, count / 15);
     if (part == NULL)
         hold_met();
     return sum_up();

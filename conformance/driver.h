@@ -32,7 +32,7 @@ uint8_t *pointer(arena *a, chance *c);
 
 /* ---- a call */
 
-enum { READ, WRITE, LIST, TRIGGER_READ, TRIGGER_WRITE, TRIGGER_OVERLAPS, COMPARE, ENTRIES };
+enum { READ, WRITE, LIST, TRIGGER_READ, TRIGGER_WRITE, TRIGGER_OVERLAPS, COMPARE, STREAMS_ROW, STREAMS_NUMBER, STREAMS, ENTRIES };
 extern const char *const entry_name[ENTRIES];
 extern const char *in_call; /* for the report, should the call fall */
 
@@ -61,5 +61,9 @@ void every_trigger(chance *c, unsigned long drawn);
 
 /* compares.c: the calls of T-06, and then so many pairs that are drawn. */
 void every_comparison(chance *c, unsigned long drawn);
+
+/* streams.c: the calls of T-11 that know no frame; and those on frames, with so many more that are drawn. */
+void every_row_of_streams(chance *c);
+void every_stream(chance *c, unsigned long drawn);
 
 #endif

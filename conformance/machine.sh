@@ -46,5 +46,5 @@ for_x86_64() {
 
 flags='-std=c99 -Wall -Wextra -Werror -O2'
 reference_files=$(ls conformance/reference/*.c | grep -v -e /main.c -e /selftest.c)
-driver_files='conformance/driver.c conformance/wides.c conformance/triggers.c conformance/compares.c'
+driver_files='conformance/driver.c conformance/wides.c conformance/triggers.c conformance/compares.c conformance/streams.c'
 case_files=$(ls conformance/cases/*.c | grep -v -e /main.c -e /bits.c)

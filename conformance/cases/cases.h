@@ -107,6 +107,16 @@ void draw_padding(chance *c, frame *f);    /* its length and all bits past the l
 void draw_change(chance *c, const frame *x, frame *y); /* y is x, a good frame, with something changed */
 void draw_pair(chance *c, frame *x, frame *y);         /* of one bandwidth and good, mostly, and alike, mostly */
 
+/* streams.c: good frames whose shared User fields name rows of streams (02, T-11); each mends the checks. */
+#define ALL_FIELDS 8
+
+void put_rows_of_streams(chance *c, frame *f); /* in each shared field the number of a row that there is */
+/* In all fields of the resource that has these positions, or in only one of them, counted from 0. */
+void put_configuration(frame *f, unsigned places, unsigned only, uint32_t configuration);
+void put_past_the_last(chance *c, frame *f);   /* in a field, if it is a shared one, a number past the last row */
+void put_nobodys(chance *c, frame *f);         /* some fields are nobody's, mostly with such a number */
+void draw_streams_frame(chance *c, frame *f);  /* of these, mostly the first alone */
+
 /* texts.c: a text for the programs, of one capture or two, and a listing's room. */
 #define MOST_TEXT 20000
 
