@@ -619,3 +619,253 @@ brachymel_answer brachymel_compare(uint32_t bandwidth1, const uint8_t *cc1, size
         n++; /* reads past the end */
     return as_answer(answer_of(0, 0, n));
 }
+
+/* ---- rows of streams (02, T-11) */
+
+/* Whether a wrong list has this row. */
+static int is_listed_wrongly(const uint8_t *row, unsigned users)
+{
+    unsigned sum = 0;
+    int rises = 0;
+    for (unsigned u = 0; u < users; u++) {
+        sum += row[u];
+        rises |= u > 0 && row[u] > row[u - 1];
+    }
+    return sum <= (FAULT == 95 ? 17u : 16u) && (FAULT == 96 || !rises); /* a sum of 17; rows that rise */
+}
+
+/* The row of this number on a wrong list; whether there is one. */
+static int row_wrongly(unsigned users, uint32_t number, uint8_t *row)
+{
+    uint32_t values = FAULT == 98 ? 5 : 4, all = 1; /* five streams */
+    for (unsigned u = 0; u < users; u++)
+        all *= values;
+    for (uint32_t k = 0; k < all; k++) {
+        for (uint32_t u = 0, rest = k; u < users; u++, rest /= values)
+            row[FAULT == 97 ? users - 1 - u : u] = (uint8_t)(1 + rest % values); /* ordered by the first entry */
+        if (is_listed_wrongly(row, users) && number-- == 0)
+            return 1;
+    }
+    return 0;
+}
+
+brachymel_answer brachymel_streams_row(uint32_t users, uint32_t number, uint8_t *row, size_t row_len)
+{
+    answer a;
+    uint8_t own[8];
+    if (FAULT == 105)
+        number %= 64; /* the six bits of a configuration */
+    if (FAULT == 106)
+        users %= 256;
+    a = reference_streams_row(users, number, row, row_len);
+    if (FAULT >= 95 && FAULT <= 98 && users >= 2 && users <= 8 && number < 64) {
+        a = row_wrongly(users, number, own) ? answer_of(row_len < users ? 23 : 0, 0, users) : answer_of(21, 0, 0);
+        if (a.number == 0)
+            memcpy(row, own, users);
+    }
+    if (FAULT == 99 && users == 1 && number < 4 && row_len > 0) {
+        row[0] = (uint8_t)(number + 1); /* a row of one user */
+        a = answer_of(0, 0, 1);
+    }
+    if (FAULT == 100 && users == 9 && number == 0 && row_len >= 9) {
+        memset(row, 1, 9); /* a row of nine */
+        a = answer_of(0, 0, 9);
+    }
+    if (FAULT == 101 && a.number == 21 && users >= 2 && users <= 8 && row_len < users)
+        a = answer_of(23, 0, users); /* 21 after 23 */
+    if (FAULT == 102 && a.number == 21 && row_len > 0)
+        row[0] = 0; /* a refusal that writes */
+    if (FAULT == 103 && a.number == 23 && reference_streams_row(users, number, own, 8).number == 0 && row_len > 0)
+        memcpy(row, own, row_len); /* what fits */
+    if (FAULT == 104 && a.number == 0 && row_len > users)
+        row[users] = 0; /* an entry past the last user */
+    if (FAULT == 107 && a.number == 23)
+        a.place -= row_len; /* the bytes that lack */
+    if (FAULT == 108 && a.number == 0 && number + 1 == count_of_rows(users) && users == 8)
+        a = answer_of(21, 0, 0); /* the last row of eight, 2 2 2 2 2 2 2 2, is none */
+    if (FAULT == 109 && a.number == 0)
+        a.place = row_len; /* the room as place */
+    return as_answer(a);
+}
+
+brachymel_answer brachymel_streams_number(const uint8_t *row, size_t row_len)
+{
+    answer a = reference_streams_number(row, row_len);
+    uint8_t own[8] = {0};
+    if (a.number == 21 && row_len >= 2 && row_len <= 8)
+        memcpy(own, row, row_len);
+    for (size_t u = 0; FAULT == 110 && a.number == 21 && u < row_len && row_len <= 8 && own[u] > 0; u++) {
+        own[u]--; /* a sum of 17, counted as the row with a stream less */
+        a = reference_streams_number(own, row_len);
+        own[u]++;
+    }
+    for (size_t u = 1; FAULT == 111 && a.number == 21 && u < row_len && row_len <= 8; u++) {
+        uint8_t first = own[u - 1]; /* a row that rises once, taken the other way round */
+        own[u - 1] = own[u];
+        own[u] = first;
+        a = reference_streams_number(own, row_len);
+        own[u] = own[u - 1];
+        own[u - 1] = first;
+    }
+    if (FAULT == 112 && a.number == 21 && row_len >= 2 && row_len <= 8) {
+        for (size_t u = 0; u < row_len; u++)
+            own[u] = (uint8_t)((own[u] - 1) % 4 + 1); /* two bits of an entry */
+        a = reference_streams_number(own, row_len);
+    }
+    if (FAULT == 113 && row_len == 9)
+        a = reference_streams_number(row, 8); /* the first eight of nine */
+    if (FAULT == 114 && row_len == 1 && row[0] >= 1 && row[0] <= 4)
+        a = answer_of(0, 0, row[0] - 1u); /* one user */
+    if (FAULT == 115 && a.number == 0)
+        a.place++; /* counted from 1 */
+    if (FAULT == 116)
+        a.channel = *(const volatile uint8_t *)(row + row_len) == 7; /* reads past the end */
+    if (FAULT == 117 && row_len > 255)
+        a = reference_streams_number(row, row_len % 256); /* a length of a byte */
+    if (FAULT == 118 && a.number == 21 && row_len == 0)
+        a = answer_of(0, 0, 0); /* no user has one row */
+    if (FAULT == 119 && a.number == 21)
+        a.place = row_len; /* the users as place */
+    return as_answer(a);
+}
+
+/* ---- streams of a frame (02, T-11) */
+
+/* A User field: its channel, its position, its resource, its station and what stands from its bit 16 on. */
+typedef struct {
+    unsigned ch, position, owning;
+    uint32_t station, bits;
+} one_field;
+
+static unsigned fields_by_word(const one_frame *x, const reading *r, const unsigned *row, one_field field[MOST_FIELDS])
+{
+    unsigned n = 0;
+    for (unsigned ch = 0; ch < channels_of(x->bandwidth); ch++)
+        for (unsigned p = ch, j = 0; p < positions_of(x->bandwidth); p += 2)
+            for (unsigned k = 0; k < fields_of(row[p]); k++, j++) {
+                uint32_t bits = field_of(x->cc[ch], x->length[ch], user_field_at(x->bandwidth, j) + 16, 6);
+                field[n++] = (one_field){ch, p, r->layout.owner[ch][j], r->station[ch][j], bits};
+            }
+    return n;
+}
+
+/* How many users the resource of field k has, or is taken to have. */
+static unsigned users_of_field(const one_field *f, unsigned n, unsigned k)
+{
+    unsigned users = 0;
+    for (unsigned m = 0; m < n; m++) {
+        if (f[m].owning != f[k].owning || (FAULT == 120 && f[m].ch != f[k].ch)) /* the users of one channel */
+            continue;
+        if (FAULT == 121 && f[m].station == 2046 && m != k) /* nobody's is not a user */
+            continue;
+        if (FAULT == 122 && f[m].position / 4 != f[k].position / 4) /* the users of one segment */
+            continue;
+        users++;
+    }
+    return users;
+}
+
+/* How many of them stand before field k. */
+static unsigned place_of_field(const one_field *f, unsigned n, unsigned k)
+{
+    unsigned place = 0;
+    for (unsigned m = 0; m < n; m++) {
+        int before = m < k;
+        if (f[m].owning != f[k].owning)
+            continue;
+        if (FAULT == 123)
+            before = before && f[m].ch == f[k].ch; /* the place in its channel */
+        if (FAULT == 124 && f[m].ch != f[k].ch)
+            before = !before; /* channel 2's first */
+        if (FAULT == 125)
+            before = before && f[m].station != 2046; /* nobody's has no place */
+        if (FAULT == 126 && f[m].position != f[k].position)
+            before = f[m].position < f[k].position; /* by frequency */
+        place += (unsigned)before;
+    }
+    return place;
+}
+
+static uint8_t alone_wrongly(uint32_t bits)
+{
+    uint32_t nss = bits % 16;
+    if (FAULT == 127)
+        return (uint8_t)(nss + 1); /* 9 to 16 streams */
+    if (FAULT == 128)
+        return (uint8_t)nss; /* one less than there are */
+    if (FAULT == 129)
+        return (uint8_t)(nss % 8 + 1); /* an NSS of three bits */
+    if (FAULT == 130)
+        return nss > 7 ? 8 : (uint8_t)(nss + 1); /* 8 at most */
+    return nss > 7 ? 0 : (uint8_t)(nss + 1);
+}
+
+/* The streams of field k; whether it has any. */
+static int streams_of_field(const one_field *f, unsigned n, unsigned k, uint8_t *streams)
+{
+    unsigned users = users_of_field(f, n, k), place = place_of_field(f, n, k), first = 0;
+    uint32_t bits = f[k].bits, station = f[k].station;
+    uint8_t row[8] = {0};
+    while (f[first].owning != f[k].owning)
+        first++;
+    if (FAULT == 131)
+        bits = f[first].bits; /* the row that the resource's first field names */
+    *streams = 0;
+    if (station == 2046 && FAULT == 132)
+        return users < 2 || bits < count_of_rows(users); /* nobody's configuration is looked at */
+    if (FAULT == 133 ? station >= 2046 : FAULT == 134 ? station == 0 || station == 2046 : station == 2046 && FAULT != 135)
+        return 1; /* 2047, or 0, taken for nobody; nobody's streams given */
+    if (users < 2) {
+        *streams = alone_wrongly(bits);
+        return 1;
+    }
+    if (bits >= count_of_rows(users))
+        return (FAULT == 135 && station == 2046) || (FAULT == 136 && bits == count_of_rows(users)) /* one past the last */
+            || (FAULT == 137 && f[k].ch == 1) || (FAULT == 138 && k != first); /* of channel 1 alone, of a first field alone */
+    reference_streams_row(users, bits, row, 8);
+    *streams = place < 8 ? row[place] : 0;
+    return 1;
+}
+
+brachymel_answer brachymel_streams(uint32_t bandwidth, const uint8_t *cc1, size_t cc1_len, const uint8_t *cc2, size_t cc2_len,
+                                   uint8_t *streams, size_t streams_len)
+{
+    static reading r;
+    const one_frame x = {bandwidth, {cc1, cc2}, {cc1_len, cc2_len}};
+    one_field field[MOST_FIELDS];
+    uint8_t own[MOST_FIELDS];
+    unsigned row[16], n, past = 0;
+    answer a = read_frame(bandwidth, cc1, cc1_len, cc2, cc2_len, &r);
+    if (a.number != 0 && !(FAULT == 139 && a.number == 11)) /* 21 before 11 */
+        return as_answer(a);
+    row_in(bandwidth, cc1, cc1_len, cc2, cc2_len, row);
+    n = fields_by_word(&x, &r, row, field);
+    for (unsigned k = 0; k < n; k++)
+        if (!streams_of_field(field, n, k, &own[k]) && past == 0)
+            past = k + 1;
+    if (FAULT == 140 && past != 0 && streams_len < n)
+        past = 0; /* 21 after 23 */
+    if (past != 0) {
+        if (FAULT == 141 && past > 1 && streams_len >= past)
+            memcpy(streams, own, past - 1); /* what comes before it is written */
+        return as_answer(answer_of(21, FAULT == 142 ? field[past - 1].ch + 1 : 0, FAULT == 143 ? past : 0)); /* its channel; its place */
+    }
+    if (a.number != 0)
+        return as_answer(a);
+    if (FAULT == 144 && n == 0 && streams_len == 0)
+        return as_answer(answer_of(23, 0, 1)); /* no field needs room */
+    if (FAULT == 145 ? streams_len < 4 * n : streams_len < n) { /* four bytes each */
+        if (FAULT == 146 && streams_len > 0)
+            memcpy(streams, own, streams_len); /* what fits */
+        return as_answer(answer_of(23, 0, FAULT == 147 ? 10 + n : n)); /* the words needed */
+    }
+    if (n != 0)
+        memcpy(streams, own, n);
+    if (FAULT == 148 && streams_len > n)
+        streams[n] = 0; /* one byte too many */
+    if (FAULT == 149)
+        return as_answer(answer_of(0, 0, 10 + n)); /* words as place */
+    if (FAULT == 150 && cc2_len != 0 && *(const volatile uint8_t *)(cc2 + cc2_len) == 7)
+        n++; /* reads past the end */
+    return as_answer(answer_of(0, 0, n));
+}
