@@ -3,13 +3,15 @@
  * execute.
  * bench --trigger-calls KIND SIDE TIMES: the same of a Trigger's entries (triggers.c).
  * bench --compare-calls KIND SIDE TIMES: the same of two frames (compares.c).
+ * bench --streams-calls KIND SIDE TIMES: the same of spatial streams (streams.c).
  *
  * For each kind of frame the library and the baseline are timed in turn, round by round, in one process: nanoseconds per frame in
  * the best round of each, and the library's ratio to the baseline, the median over the rounds. Before that both are held to the
  * reference on every frame, and the baseline on drawn ones (drawn.c). One table has reading, writing and listing: frames of each
  * bandwidth with few User fields, drawn at random, and all 0, none of these with a resource wider than a segment; then of 160 and
  * 320 MHz with such resources; with the geometric mean of the ratios and the worst of them. Then each refusal, reading by the
- * number of fields, two frames compared (compares.c), a Trigger's entries (triggers.c), and the check alone (check.c).
+ * number of fields, two frames compared (compares.c), spatial streams (streams.c), a Trigger's entries (triggers.c), and the check
+ * alone (check.c).
  */
 #include "cases/cases.h"
 #include "check.h"
@@ -18,6 +20,7 @@
 #include "fast.h"
 #include "reference/reference.h"
 #include "rounds.h"
+#include "streams.h"
 #include "triggers.h"
 
 #include <stdio.h>
@@ -323,6 +326,10 @@ int main(int argc, char **argv)
         call_comparisons((unsigned)atoi(argv[2]), atoi(argv[3]), atoi(argv[4]));
         return 0;
     }
+    if (argc == 5 && strcmp(argv[1], "--streams-calls") == 0) {
+        call_streams((unsigned)atoi(argv[2]), atoi(argv[3]), atoi(argv[4]));
+        return 0;
+    }
     if (argc == 2)
         round_ns = 1e6 * atof(argv[1]);
     hold_drawn();
@@ -333,6 +340,7 @@ int main(int argc, char **argv)
     print_refusals(LIST, 23, 23);
     print_growth();
     print_comparisons();
+    print_streams();
     print_triggers();
     print_check_alone();
     return 0;

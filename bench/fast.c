@@ -1,4 +1,4 @@
-/* A fast reader, writer, lister and comparer in C, the baseline that the proved ones are timed against.
+/* A fast reader, writer, lister, comparer and teller of streams in C, the baseline that the proved ones are timed against.
  *
  * - Each bandwidth has its own copy of the reader and of the writer, in which every width, place and count of positions is known.
  * - A block is one window of 64 bits. Its check is looked up in slices of eleven bits, side by side: a User field is two of
@@ -11,6 +11,7 @@
  * - User words are made four at a time by vectors, also where the two formats are mixed.
  * - The writer judges the words as they stand, with no reading back, and stores blocks of 64 bits that overlap.
  * - The lister writes keys and numbers by whole stores, numbers from a table.
+ * - A row of streams is one word of eight bytes, looked up by its number; its number is looked up by bits of a product, and compared.
  * - Two frames' resources are compared position by position: a larger one by the owners, the others by sets of pieces. A
  *   Trigger's resource is looked up by its value, with the 26s that it covers as a mask: two that overlap share one.
  *
@@ -309,6 +310,51 @@ static void prepare_named(void)
     name(67, 996, 1, all);
 }
 
+/* ---- rows of streams (02, T-11) */
+
+#define MOST_USERS 8
+#define NUMBERS 64
+
+static uint64_t row_of[MOST_USERS + 1][NUMBERS]; /* by users and number: the entries, a byte each; 0 past the last row */
+
+/* A row's number by the highest bits of a product, which no two rows of so many users have alike. */
+static uint64_t factor_of[MOST_USERS + 1];
+static uint8_t number_by[MOST_USERS + 1][256];
+
+/* Entry u, counted down from the last, is at least the one after it and leaves a stream for each entry before it. */
+static unsigned add_rows(unsigned users, unsigned u, unsigned least, unsigned left, uint64_t row, unsigned n)
+{
+    if (u == 0) {
+        row_of[users][n] = row;
+        return n + 1;
+    }
+    for (unsigned entry = least; entry <= 4 && entry * u <= left; entry++)
+        n = add_rows(users, u - 1, entry, left - entry, row | (uint64_t)entry << 8 * (u - 1), n);
+    return n;
+}
+
+static int tells_apart(unsigned users, unsigned count, uint64_t factor)
+{
+    uint8_t taken[256] = {0};
+    for (unsigned n = 0; n < count; n++)
+        if (taken[row_of[users][n] * factor >> 56]++ != 0)
+            return 0;
+    return 1;
+}
+
+static void prepare_rows(void)
+{
+    uint64_t factor = UINT64_C(0x9E3779B97F4A7C15);
+    for (unsigned users = 2; users <= MOST_USERS; users++) {
+        unsigned count = add_rows(users, users, 1, 16, 0, 0);
+        while (!tells_apart(users, count, factor))
+            factor = factor * UINT64_C(6364136223846793005) + 2;
+        factor_of[users] = factor;
+        for (unsigned n = 0; n < count; n++)
+            number_by[users][row_of[users][n] * factor >> 56] = (uint8_t)n;
+    }
+}
+
 __attribute__((constructor)) static void prepare(void)
 {
     prepare_values();
@@ -316,6 +362,7 @@ __attribute__((constructor)) static void prepare(void)
     prepare_wide();
     prepare_check();
     prepare_named();
+    prepare_rows();
 }
 
 /* ---- windows */
@@ -1933,6 +1980,115 @@ brachymel_answer NAME(compare)(uint32_t bandwidth1, const uint8_t *cc1, size_t c
     if (length != 0)
         memcpy(text, own, length);
     return say(0, 0, length);
+}
+
+/* ---- spatial streams */
+
+brachymel_answer NAME(streams_row)(uint32_t users, uint32_t number, uint8_t *row, size_t row_len)
+{
+    if (users - 2 > MOST_USERS - 2 || number >= NUMBERS || row_of[users][number] == 0)
+        return say(21, 0, 0);
+    if (row_len < users)
+        return say(23, 0, users);
+    store_bytes(row, row_of[users][number], users);
+    return say(0, 0, users);
+}
+
+/* Two to eight bytes, by two loads that may overlap. */
+static inline uint64_t load_row(const uint8_t *s, size_t n)
+{
+    if (n >= 4)
+        return load_32(s) | (uint64_t)load_32(s + n - 4) << 8 * (n - 4);
+    return load_16(s) | (uint64_t)load_16(s + n - 2) << 8 * (n - 2);
+}
+
+brachymel_answer NAME(streams_number)(const uint8_t *row, size_t row_len)
+{
+    uint64_t w;
+    unsigned number;
+    if (row_len - 2 > MOST_USERS - 2)
+        return say(21, 0, 0);
+    w = load_row(row, row_len);
+    number = number_by[row_len][w * factor_of[row_len] >> 56];
+    return w == row_of[row_len][number] ? say(0, 0, number) : say(21, 0, 0);
+}
+
+/* Of each position the lowest place of its resource, by which that is known here; four to a segment, from its first on. */
+static void find_lowest(const plan *l, uint8_t of[16])
+{
+    static const uint32_t by_plan[ALL_PLANS] = {0x03020100, 0x03020000, 0x02020100, 0x02020000, 0, 0x01010100, 0x00000100,
+                                                0x00020000, 0x03000000, 0x03020100};
+    for (unsigned s = 0; 4 * s < l->positions; s++) {
+        uint32_t lowest_ones = by_plan[l->plan[s]] + 0x04040404 * s;
+        memcpy(of + 4 * s, &lowest_ones, 4);
+    }
+    for (unsigned k = 0; k < l->wides; k++)
+        for (unsigned set = wide[l->wide_one[k]].places; set != 0; set &= set - 1)
+            of[__builtin_ctz(set)] = wide[l->wide_one[k]].lowest;
+}
+
+/* All fields as ones that are alone on their resource. */
+static inline void streams_alone(const uint32_t *restrict field, unsigned n, uint8_t *restrict streams)
+{
+    for (unsigned k = 0; k < n; k++) {
+        uint32_t nss = field[k] >> 16 & 15;
+        streams[k] = (uint8_t)(nss > 7 || (field[k] & 0x7FF) == BRACHYMEL_UNASSIGNED ? 0 : nss + 1);
+    }
+}
+
+/* Those that share one, position by position in the order of the words; whether each has its row. */
+static int streams_shared(const parsed *f, uint8_t *restrict streams)
+{
+    const plan *l = &f->plan;
+    uint8_t of[16], at[16], users[16] = {0}, place[16] = {0};
+    unsigned past = 0, before[2] = {0, l->n[0]};
+    find_lowest(l, of);
+    for (unsigned p = 0; p < l->positions; p++) {
+        at[p] = (uint8_t)before[p % 2];
+        before[p % 2] += fields_of[l->v[p]];
+    }
+    for (unsigned set = l->shared; set != 0; set &= set - 1) {
+        unsigned p = (unsigned)__builtin_ctz(set);
+        users[of[p]] = (uint8_t)(users[of[p]] + fields_of[l->v[p]]);
+    }
+    for (unsigned c = 0; c < 2; c++)
+        for (unsigned set = l->shared & 0x5555u << c; set != 0; set &= set - 1) {
+            unsigned p = (unsigned)__builtin_ctz(set), n = fields_of[l->v[p]], first = 8u * place[of[p]];
+            const uint64_t *rows = row_of[users[of[p]]];
+            const uint32_t *field = f->field + at[p];
+            uint8_t *to = streams + at[p];
+            for (unsigned k = 0; k < n; k++) {
+                unsigned is_nobodys = (field[k] & 0x7FF) == BRACHYMEL_UNASSIGNED;
+                uint64_t row = rows[field[k] >> 16];
+                past |= (row == 0) & !is_nobodys;
+                to[k] = (uint8_t)(is_nobodys ? 0 : row >> (first + 8 * k));
+            }
+            place[of[p]] = (uint8_t)(place[of[p]] + n);
+        }
+    return past == 0;
+}
+
+brachymel_answer NAME(streams)(uint32_t bandwidth, const uint8_t *cc1, size_t cc1_len, const uint8_t *cc2, size_t cc2_len,
+                               uint8_t *streams, size_t streams_len)
+{
+    uint8_t own[MOST_FIELDS], *to;
+    parsed f;
+    brachymel_answer a = parse(bandwidth, cc1, cc1_len, cc2, cc2_len, &f);
+    if (RARELY(a.number))
+        return a;
+    if (f.plan.shared == 0 && RARELY(streams_len < f.total))
+        return say(23, 0, f.total);
+    to = f.plan.shared == 0 ? streams : own;
+    if (format_of(f.plan.shared, f.plan.positions) != ALL_SHARED)
+        streams_alone(f.field, f.total, to);
+    if (f.plan.shared == 0)
+        return say(0, 0, f.total);
+    if (RARELY(!streams_shared(&f, own)))
+        return say(21, 0, 0);
+    if (RARELY(streams_len < f.total))
+        return say(23, 0, f.total);
+    memcpy(streams, own, f.total);
+    return say(0, 0, f.total);
 }
 
 /* ---- Trigger frames: entries of five bytes */

@@ -22,6 +22,11 @@ brachymel_answer fast_trigger_write(uint32_t bandwidth, const uint8_t *record, s
 brachymel_answer fast_trigger_overlaps(uint32_t bandwidth, const uint8_t *entries, size_t entries_len, uint8_t *pairs,
                                        size_t pairs_len);
 
+brachymel_answer fast_streams_row(uint32_t users, uint32_t number, uint8_t *row, size_t row_len);
+brachymel_answer fast_streams_number(const uint8_t *row, size_t row_len);
+brachymel_answer fast_streams(uint32_t bandwidth, const uint8_t *cc1, size_t cc1_len, const uint8_t *cc2, size_t cc2_len,
+                              uint8_t *streams, size_t streams_len);
+
 /* As timed_checks and timed_blocks, of blocks of at most 64 bits. */
 uint64_t fast_checks(const uint8_t *s, size_t s_len, uint8_t n, uint32_t count);
 uint64_t fast_blocks(const uint8_t *s, size_t s_len, uint8_t n, uint32_t count);
