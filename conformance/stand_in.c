@@ -718,7 +718,7 @@ brachymel_answer brachymel_streams_number(const uint8_t *row, size_t row_len)
         a = answer_of(0, 0, row[0] - 1u); /* one user */
     if (FAULT == 115 && a.number == 0)
         a.place++; /* counted from 1 */
-    if (FAULT == 116)
+    if (FAULT == 116 && row_len != 0)
         a.channel = *(const volatile uint8_t *)(row + row_len) == 7; /* reads past the end */
     if (FAULT == 117 && row_len > 255)
         a = reference_streams_number(row, row_len % 256); /* a length of a byte */

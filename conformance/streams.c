@@ -242,7 +242,7 @@ static size_t by_others(const frame *f, uint8_t streams[BRACHYMEL_STREAMS_SIZE])
 static void whole(chance *c, const frame *f)
 {
     uint8_t streams[BRACHYMEL_STREAMS_SIZE];
-    brachymel_answer a = call(c, f, BRACHYMEL_STREAMS_SIZE - (size_t)below(c, 2) * (size_t)below(c, 8));
+    brachymel_answer a = call(c, f, BRACHYMEL_STREAMS_SIZE + (size_t)below(c, 3));
     size_t n;
     if (a.number != 0)
         return;
@@ -264,7 +264,7 @@ static void good_frame(chance *c, unsigned bandwidth, frame *f)
     put_rows_of_streams(c, f);
 }
 
-/* Resources that can be shared, a bandwidth that has each, and those wider than a segment after them. */
+/* Resources that can be shared, none wider than a segment, and a bandwidth that has each. */
 static const struct {
     unsigned bandwidth;
     wide_resource resource;

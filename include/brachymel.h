@@ -161,11 +161,10 @@ brachymel_answer brachymel_trigger_write(uint32_t bandwidth, const uint8_t *reco
 brachymel_answer brachymel_trigger_overlaps(uint32_t bandwidth, const uint8_t *entries, size_t entries_len,
                                             uint8_t *pairs, size_t pairs_len);
 
-/* Spatial streams. Two to eight stations that share a resource have a row: for each, in the order of their User fields
- * (channel 1's, then channel 2's), how many streams are its own, 1 to 4. A row never rises and sums to at most 16. The rows of so
- * many stations are counted from 0, ordered by the last entry first, then by the one before it, and so on: for 2 to 8 of them
- * there are 10, 20, 35, 49, 54, 50 and 41. The spatial configuration of a User field (bits 24 to 29 of its word) is such a
- * number. Entries are a byte each. */
+/* Spatial streams. Two to eight User fields that share a resource, its users, have a row: for each, in their order (channel 1's,
+ * then channel 2's), how many streams its station has, 1 to 4, a byte each. A row never rises and sums to at most 16. The rows of
+ * so many users are counted from 0, ordered by the last entry first, then by the one before it, and so on: of 2 to 8 users there
+ * are 10, 20, 35, 49, 54, 50 and 41. The spatial configuration of a User field (bits 24 to 29 of its word) is such a number. */
 enum {
     BRACHYMEL_ROW_SIZE = 8,          /* bytes of a row that always suffice */
     BRACHYMEL_STREAMS_SIZE = 144     /* bytes of a frame's streams that always suffice: 144 User fields */
