@@ -1,0 +1,4 @@
+pub mod Rows
+pub mod Engine
+pub mod Worked
+pub mod Result

@@ -1,0 +1,25 @@
+-- The rows for a number of users as a list, as a function. An engine works it out, and nobody has to believe it: beside it stands that it counts
+-- 02's rows (`Worked`), and `proofs/Worked.antt` shows it of every number of users (`worked`).
+use mathlib.Core.Path.{_≡_}
+use mathlib.Core.Bool.{Bool, _&&_}
+use mathlib.Core.List.{List}
+use Prim.Native.Nat.{ℕ}
+use lib.Dec.{leb, eqb}
+use lib.ListN.{length}
+use Rattle.answer.specs.Every.{every}
+use Rattle.answer.specs.Least.{least}
+use Rattle.answer.specs.Lists.{at}
+use Rattle.stream_rows.specs.Rows.{sum, rowIn, Counted}
+use Rattle.stream_rows.specs.Engine.{allRows, fits}
+
+abbrev pub theRows : ℕ → List (List ℕ)
+theRows users = allRows users
+
+-- it is a list of 02's rows, and the only one
+pub record Worked (users : ℕ) : Type 0 where
+  pub counted : Counted users (theRows users)
+  pub only : (rows : List (List ℕ)) → Counted users rows → rows ≡ theRows users
+
+-- whether a row is listed for as many users as it has entries
+unfoldable pub isListed : List ℕ → Bool
+isListed row = every (fits row) (length row) && leb (sum row) 16
