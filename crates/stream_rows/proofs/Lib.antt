@@ -1,0 +1,4 @@
+pub mod Gather
+pub mod Only
+pub mod Shapes
+pub mod Worked
