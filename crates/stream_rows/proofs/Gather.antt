@@ -25,6 +25,18 @@ module _ {A : Type 0} (f : ℕ → List A) where
   pub gather-within : (n i j : ℕ) → i < n → j < length (f i) → length (gather f i) + j < length (gather f n)
   gather-within n i j l m = omega (arith, gather-next i, gather-mono (suc i) n l)
 
+  -- a search that steps over whole lists, with as many left to go: past f i it comes to the next, and there is one
+  pub step-over : (n i left number : ℕ) → i < n → left + length (gather f i) ≡ number → number < length (gather f n) → length (f i) ≤ left
+      → (i + 1 < n) × (left - length (f i) + length (gather f (i + 1)) ≡ number)
+  step-over n i left number l e h m = rw (add-one i) (
+    go (decLt (suc i) n),
+    omega (arith, gather-next i),
+  )
+    where
+      go : Dec (suc i < n) → suc i < n
+      go (yes k) = k
+      go (no k) = let d : n ≡ suc i = omega arith in absurd (omega (arith, gather-next i, ap (λ (j : ℕ). length (gather f j)) d))
+
 -- an element of two lists, one after the other, is of the first or of the second
 append-at : {A : Type 0} (d : A) (xs ys : List A) (k : ℕ) → k < length (xs ++ ys)
     → ((k < length xs) × (getD (xs ++ ys) k d ≡ getD xs k d))

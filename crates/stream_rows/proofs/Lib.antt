@@ -2,3 +2,6 @@ pub mod Gather
 pub mod Only
 pub mod Shapes
 pub mod Worked
+pub mod Numbers
+pub mod Number
+pub mod Count

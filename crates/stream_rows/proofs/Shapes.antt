@@ -140,7 +140,7 @@ module _ (users : ℕ) where
 
 -- ---- a row that never rises is known by its counts
 -- how many of the first n entries are at least v
-pub atLeast : ℕ → (ℕ → ℕ) → ℕ → ℕ
+unfoldable pub atLeast : ℕ → (ℕ → ℕ) → ℕ → ℕ
 atLeast v row n = tally (λ i. leb v (row i)) n
 
 -- "streams 1 to 4 that never rise", whatever the sum

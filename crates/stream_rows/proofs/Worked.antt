@@ -2,8 +2,9 @@
 use mathlib.Core.Path.{_≡_, refl, sym, _∙_, ap}
 use mathlib.Core.Logic.{⊎-elim}
 use mathlib.Core.List.{List, []}
-use Prim.Native.Nat.{ℕ, suc, _+_, _≤_, _<_}
+use Prim.Native.Nat.{ℕ, _+_, _-_, _≤_, _<_}
 use native.Mathlib.Nat.{le-trans}
+use native.Mathlib.Numerals.{add-one}
 use native.Mathlib.Omega.{arith}
 use lib.ListN.{length, getD}
 use Rattle.answer.specs.Lists.{at, build}
@@ -11,7 +12,7 @@ use Rattle.answer.proofs.Lists.{length-build, getD-build}
 use Rattle.stream_rows.specs.Rows.{Listed, Before, rowIn, Counted}
 use Rattle.stream_rows.specs.Engine.{gather, rowOf, twos, threes, fours, withThree, withTwo, allRows, beforeTwo, beforeThree, Numbered}
 use Rattle.stream_rows.specs.Worked.{theRows, Worked}
-use Rattle.stream_rows.proofs.Gather.{gather-within, gather-at, gather-all, Rising, gather-rising}
+use Rattle.stream_rows.proofs.Gather.{gather-next, gather-within, step-over, gather-at, gather-all, Rising, gather-rising}
 use Rattle.stream_rows.proofs.Shapes.{row-listed, before-by-two, before-by-three, before-by-four, atLeast, Falls, falls-row, row-sums}
 use Rattle.stream_rows.proofs.Only.{only-one}
 
@@ -22,6 +23,12 @@ module _ (users : ℕ) where
 
   three-most : (a b : ℕ) → b < threes users a → b ≤ a
   three-most a b l = omega arith
+
+  three-sum : (a b : ℕ) → b < threes users a → users + a + b ≤ 16
+  three-sum a b l = omega arith
+
+  three-least : (a b : ℕ) → b ≤ a → users + a + b ≤ 16 → b < threes users a
+  three-least a b l m = omega arith
 
   four-most : (a b c : ℕ) → c < fours users a b → c ≤ b
   four-most a b c l = omega arith
@@ -81,28 +88,59 @@ module _ (users : ℕ) where
       j′ m′)
       j m)
 
-  -- ---- the number of a row by its a, b and c
-  three-within : (a b c : ℕ) → b < threes users a → c < fours users a b → beforeThree users a b + c < length (withTwo users a)
-  unfolding withTwo beforeThree
-  three-within a b c l m = gather-within (withThree users a) (threes users a) b c l (rw (three-length a b) m)
+  -- ---- stepping over all rows with an a, and over all with a b
+  pub two-next : (a : ℕ) → beforeTwo users (a + 1) ≡ beforeTwo users a + length (withTwo users a)
+  unfolding beforeTwo
+  two-next a = rw (add-one a) (gather-next (withTwo users) a)
 
+  pub three-next : (a b : ℕ) → beforeThree users a (b + 1) ≡ beforeThree users a b + fours users a b
+  unfolding beforeThree
+  three-next a b =
+      ap (beforeThree users a) (add-one b) ∙ gather-next (withThree users a) b ∙ ap (λ (n : ℕ). beforeThree users a b + n) (three-length a b)
+
+  pub two-over : (a n left number : ℕ) → users ≤ 8 → a ≤ users → n ≡ length (withTwo users a) → left + beforeTwo users a ≡ number
+      → number < length (theRows users) → n ≤ left → (a + 1 ≤ users) × (left - n + beforeTwo users (a + 1) ≡ number)
+  unfolding allRows beforeTwo
+  two-over a n left number k l q e h m =
+      let r = rw (← q) at (step-over (withTwo users) (twos users) a left number (omega arith) e h (rw (← q) m)) in
+      (two-most (a + 1) (r .0), r .1)
+
+  pub three-over : (a b n left number : ℕ) → b ≤ a → users + a + b ≤ 16 → n ≡ fours users a b → left + beforeThree users a b ≡ number
+      → number < length (withTwo users a) → n ≤ left
+      → (b + 1 ≤ a) × (users + a + (b + 1) ≤ 16) × (left - n + beforeThree users a (b + 1) ≡ number)
+  unfolding withTwo beforeThree
+  three-over a b n left number k l q e h m =
+      let p = three-length a b ∙ sym q in
+      let r = rw p at (step-over (withThree users a) (threes users a) b left number (three-least a b k l) e h (rw p m)) in
+      (three-most a (b + 1) (r .0), three-sum a (b + 1) (r .0), r .1)
+
+  -- ---- the number of a row by its a, b and c
   module _ {number a b c : ℕ} (n : Numbered users number a b c) where
+    two-there : a < twos users
+    two-there = omega (arith, n .two, n .at-most-16)
+
+    three-there : b < threes users a
+    three-there = three-least a b (n .three) (omega (arith, n .at-most-16))
+
+    four-there : c < fours users a b
+    four-there = omega (arith, n .four, n .at-most-16)
+
+    three-within : beforeThree users a b + c < length (withTwo users a)
+    unfolding withTwo beforeThree
+    three-within = gather-within (withThree users a) (threes users a) b c three-there (rw (three-length a b) four-there)
+
     pub number-within : number < length (theRows users)
     unfolding allRows beforeTwo
     number-within =
-        omega (
-          arith,
-          n .exactly,
-          gather-within (withTwo users) (twos users) a (beforeThree users a b + c) (n .two) (three-within a b c (n .three) (n .four)),
-        )
+        omega (arith, n .exactly, gather-within (withTwo users) (twos users) a (beforeThree users a b + c) two-there three-within)
 
     pub number-row : rowIn (theRows users) number ≡ rowOf users a b c
     unfolding allRows withTwo beforeTwo beforeThree
     number-row =
         ap (rowIn (theRows users)) (n .exactly)
-        ∙ gather-at [] (withTwo users) (twos users) a (beforeThree users a b + c) (n .two) (three-within a b c (n .three) (n .four))
-        ∙ gather-at [] (withThree users a) (threes users a) b c (n .three) (rw (three-length a b) (n .four))
-        ∙ three-at a b c (n .four)
+        ∙ gather-at [] (withTwo users) (twos users) a (beforeThree users a b + c) two-there three-within
+        ∙ gather-at [] (withThree users a) (threes users a) b c three-there (rw (three-length a b) four-there)
+        ∙ three-at a b c four-there
 
 -- a row of 02's has one
 pub row-numbered : (users : ℕ) (row : List ℕ) → Listed users row
@@ -113,7 +151,7 @@ row-numbered users row l =
     let r = falls-row users row (l .as-many) (record { from-1 = l .from-1; to-4 = l .to-4; never-rise = l .never-rise }) in
     let s = row-sums r in
     let m = l .at-most-16 in
-    (_, record { two = omega arith; three = omega arith; four = omega arith; exactly = refl }, r .is-row)
+    (_, record { two = r .two-most; three = r .three-most; four = r .four-most; at-most-16 = omega arith; exactly = refl }, r .is-row)
 
 pub counted : (users : ℕ) → Counted users (theRows users)
 counted users = record {

@@ -5,7 +5,7 @@
 use mathlib.Core.Path.{_≡_}
 use mathlib.Core.Bool.{Bool, cond, _&&_}
 use mathlib.Core.List.{List, [], _++_}
-use Prim.Native.Nat.{ℕ, zero, suc, _+_, _-_, _<_, min}
+use Prim.Native.Nat.{ℕ, zero, suc, _+_, _-_, _≤_, min}
 use lib.Dec.{ltb, leb}
 use lib.ListN.{length}
 use Rattle.answer.specs.Every.{every}
@@ -29,13 +29,13 @@ rowOf users a b c = build (entryOf a b c) users
 
 -- ---- how many a there are for the users, b for an a, c for a b: from 0 to what bounds them, and the sum at most 16
 abbrev pub twos : ℕ → ℕ
-twos users = min (suc users) (17 - users)
+twos users = min (users + 1) (17 - users)
 
 abbrev pub threes : ℕ → ℕ → ℕ
-threes users a = min (suc a) (17 - (users + a))
+threes users a = min (a + 1) (17 - (users + a))
 
 abbrev pub fours : ℕ → ℕ → ℕ → ℕ
-fours users a b = min (suc b) (17 - (users + a + b))
+fours users a b = min (b + 1) (17 - (users + a + b))
 
 -- the rows with this a and b, those with this a, and all
 unfoldable pub withThree : ℕ → ℕ → ℕ → List (List ℕ)
@@ -56,9 +56,10 @@ beforeThree users a b = length (gather (withThree users a) b)
 
 -- the number of a row by its a, b and c
 pub record Numbered (users number a b c : ℕ) : Type 0 where
-  pub two : a < twos users
-  pub three : b < threes users a
-  pub four : c < fours users a b
+  pub two : a ≤ users
+  pub three : b ≤ a
+  pub four : c ≤ b
+  pub at-most-16 : users + a + b + c ≤ 16
   pub exactly : number ≡ beforeTwo users a + (beforeThree users a b + c)
 
 -- ---- a row as it is lent

@@ -11,7 +11,7 @@ ghost use lib.Dec.{leb};
 ghost use lib.ListN.{length};
 ghost use Rattle.answer.specs.Lists.{at, filled};
 ghost use Rattle.stream_rows.specs.Rows.{rowIn};
-ghost use Rattle.stream_rows.specs.Engine.{entryOf, twos, threes, fours, withTwo, beforeTwo, beforeThree, Numbered, Counting};
+ghost use Rattle.stream_rows.specs.Engine.{entryOf, withTwo, beforeTwo, beforeThree, Numbered, Counting};
 ghost use Rattle.stream_rows.specs.Worked.{theRows};
 ghost use Rattle.stream_rows.specs.Result.{not2to8, rowAnswer, rowAfter, numberAnswer};
 
@@ -50,7 +50,7 @@ fn least_of(x: usize, y: usize) -> usize
 // both no more than s in all. Where s is 2 a or more, it bounds nothing. Without a's bound there are as many as the square of s + 2 has fours;
 // a takes those away whose b is above it, of which the one with b above it by j leaves e + 1 - j values to c.
 fn rows_with(users: usize, a: usize) -> usize
-    requires { ⌜ (users ≤ 8) × (a ≤ 8) × (a < twos users) ⌝ }
+    requires { ⌜ (users ≤ 8) × (a ≤ 8) ⌝ }
     ensures { λ r. ⌜ (r ≡ length (withTwo users a)) × (r ≤ 100) ⌝ }
 {
     let s = least_of(16 - users - a, 2 * a);
@@ -62,8 +62,8 @@ fn rows_with(users: usize, a: usize) -> usize
 
 // Of the rows with a entries of at least 2 the one with this number among them.
 fn decode_rest(users: usize, a: usize, number: usize) -> Shape
-    requires { ⌜ (users ≤ 8) × (a < twos users) × (number < length (withTwo users a)) ⌝ }
-    ensures { λ r. ⌜ (r .two ≡ a) × (r .three < threes users a) × (r .four < fours users a (r .three))
+    requires { ⌜ (users ≤ 8) × (a ≤ users) × (number < length (withTwo users a)) ⌝ }
+    ensures { λ r. ⌜ (r .two ≡ a) × (r .three ≤ a) × (r .four ≤ r .three) × (users + a + r .three + r .four ≤ 16)
         × (number ≡ beforeThree users a (r .three) + r .four) ⌝ }
 {
     let mut left = number;
@@ -193,7 +193,7 @@ fn count_row(row: &[u8]) -> Counts
 
 // How many rows come before the first with a entries of at least 2.
 fn before_two(users: usize, a: usize) -> usize
-    requires { ⌜ (users ≤ 8) × (a < twos users) ⌝ }
+    requires { ⌜ (users ≤ 8) × (a ≤ 8) ⌝ }
     ensures { λ r. ⌜ (r ≡ beforeTwo users a) × (r ≤ 100 * a) ⌝ }
 {
     let mut n = 0;
@@ -207,7 +207,7 @@ fn before_two(users: usize, a: usize) -> usize
 
 // And of those with a, before the first with b of at least 3.
 fn before_three(users: usize, a: usize, b: usize) -> usize
-    requires { ⌜ (users ≤ 8) × (a < twos users) × (b < threes users a) ⌝ }
+    requires { ⌜ users + a + b ≤ 16 ⌝ }
     ensures { λ r. ⌜ (r ≡ beforeThree users a b) × (r ≤ 17 * b) ⌝ }
 {
     let mut n = 0;

@@ -1,0 +1,32 @@
+-- `stream_rows::entry_at` meets its contract.
+use mathlib.Core.Path.{_≡_, sym, _∙_, ap}
+use mathlib.Core.List.{List}
+use Prim.Native.Nat.{ℕ}
+use Rattle.answer.specs.Lists.{at}
+use Rattle.stream_rows.proofs.Shapes.{row-at}
+use Rattle.stream_rows.proofs.Worked.{number-row}
+use borrow.Author.Needs.{needs}
+use Rattle.stream_rows.proofs.entry_at.Statement.{statement}
+use Rattle.stream_rows.proofs.entry_at.Tie as tie
+use Rattle.stream_rows.proofs.entry_at.Reads as reads
+use Rattle.stream_rows.proofs.entry_at.Lts as lts
+use Rattle.stream_rows.proofs.decode.Reads as decode-reads
+use Rattle.stream_rows.proofs.entry.Reads as entry-reads
+
+decode-requires : tie.Need-decode-requires
+decode-requires c κs = search needs
+
+entry-requires : tie.Need-entry-requires
+entry-requires c κs = search needs
+
+returns : tie.Need-returns
+returns c =
+    let s = c .before .before .args in
+    let n = c .before .decode .ensures in
+    let e = c .entry .ensures in (
+      e .0 ∙ sym (ap (λ (r : List ℕ). at r (s .place)) (number-row (s .users) n) ∙ row-at (s .users) _ _ _ (s .place) (c .before .before .pre .2)),
+      e .1,
+    )
+
+pub entry-at-spec : {M : Type 1} → statement M
+entry-at-spec = tie.close (tie.spec decode-requires entry-requires returns)
