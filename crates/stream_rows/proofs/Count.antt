@@ -124,8 +124,8 @@ module _ (row : List ℕ) {fit : Bool} {a b c : ℕ} (k : Counting row (length r
     fit-true : fit ≡ true
     fit-true = both-left fit _ (counts-listed ∙ e)
 
-    pub counts-numbered : Numbered (length row) (beforeTwo (length row) a + (beforeThree (length row) a b + c)) a b c
-    counts-numbered =
+    shape-numbered : Numbered (length row) (beforeTwo (length row) a + (beforeThree (length row) a b + c)) a b c
+    shape-numbered =
         let r = counts-row fit-true in
         record {
           two = r .two-most;
@@ -135,7 +135,8 @@ module _ (row : List ℕ) {fit : Bool} {a b c : ℕ} (k : Counting row (length r
           exactly = refl;
         }
 
-    pub counts-number : numberOf row ≡ beforeTwo (length row) a + (beforeThree (length row) a b + c)
-    counts-number =
-        number-is row _ (number-within (length row) counts-numbered)
-        (number-row (length row) counts-numbered ∙ sym (counts-row fit-true .is-row))
+    pub counts-numbered : Numbered (length row) (numberOf row) a b c
+    counts-numbered =
+        let n = shape-numbered in
+        let e = number-is row _ (number-within (length row) n) (number-row (length row) n ∙ sym (counts-row fit-true .is-row)) in
+        rw e n

@@ -5,3 +5,4 @@ pub mod Worked
 pub mod Numbers
 pub mod Number
 pub mod Count
+pub mod Judged

@@ -10,10 +10,10 @@ use lib.ListN.{length, getD}
 use Rattle.answer.specs.Lists.{at, build}
 use Rattle.answer.proofs.Lists.{length-build, getD-build}
 use Rattle.stream_rows.specs.Rows.{Listed, Before, rowIn, Counted}
-use Rattle.stream_rows.specs.Engine.{gather, rowOf, twos, threes, fours, withThree, withTwo, allRows, beforeTwo, beforeThree, Numbered}
+use Rattle.stream_rows.specs.Engine.{gather, entryOf, rowOf, twos, threes, fours, withThree, withTwo, allRows, beforeTwo, beforeThree, Numbered}
 use Rattle.stream_rows.specs.Worked.{theRows, Worked}
 use Rattle.stream_rows.proofs.Gather.{gather-next, gather-within, step-over, gather-at, gather-all, Rising, gather-rising}
-use Rattle.stream_rows.proofs.Shapes.{row-listed, before-by-two, before-by-three, before-by-four, atLeast, Falls, falls-row, row-sums}
+use Rattle.stream_rows.proofs.Shapes.{row-at, row-listed, before-by-two, before-by-three, before-by-four, atLeast, Falls, falls-row, row-sums}
 use Rattle.stream_rows.proofs.Only.{only-one}
 
 module _ (users : ℕ) where
@@ -141,6 +141,9 @@ module _ (users : ℕ) where
         ∙ gather-at [] (withTwo users) (twos users) a (beforeThree users a b + c) two-there three-within
         ∙ gather-at [] (withThree users a) (threes users a) b c three-there (rw (three-length a b) four-there)
         ∙ three-at a b c four-there
+
+    pub row-entries : (i : ℕ) → i < users → at (rowIn (theRows users) number) i ≡ entryOf a b c i
+    row-entries i l = ap (λ (r : List ℕ). at r i) number-row ∙ row-at users a b c i l
 
 -- a row of 02's has one
 pub row-numbered : (users : ℕ) (row : List ℕ) → Listed users row

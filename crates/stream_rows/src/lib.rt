@@ -5,15 +5,15 @@
 use answer::Answer;
 use answer::Outcome;
 ghost use mathlib.Core.Path.{_≡_};
-ghost use mathlib.Core.Bool.{_||_};
+ghost use mathlib.Core.Bool.{true, _||_};
 ghost use Prim.Native.Nat.{_+_, _*_, _≤_, _<_, min};
 ghost use lib.Dec.{leb};
 ghost use lib.ListN.{length};
 ghost use Rattle.answer.specs.Lists.{at, filled};
 ghost use Rattle.stream_rows.specs.Rows.{rowIn};
-ghost use Rattle.stream_rows.specs.Engine.{entryOf, withTwo, beforeTwo, beforeThree, Numbered, Counting};
-ghost use Rattle.stream_rows.specs.Worked.{theRows};
-ghost use Rattle.stream_rows.specs.Result.{not2to8, rowAnswer, rowAfter, numberAnswer};
+ghost use Rattle.stream_rows.specs.Engine.{entryOf, withTwo, beforeTwo, beforeThree, Numbered};
+ghost use Rattle.stream_rows.specs.Worked.{theRows, isListed};
+ghost use Rattle.stream_rows.specs.Result.{not2to8, rowOutcome, rowAnswer, rowAfter, numberOf, numberAnswer};
 
 // How many entries of a row are at least 2, 3 and 4.
 pub struct Shape {
@@ -120,6 +120,16 @@ fn is_past(users: u32, number: u32) -> bool
     rows_of(users as usize) <= number as usize
 }
 
+// All refusals of a number, in their order, for a row of room bytes.
+fn judge_row(users: u32, number: u32, room: usize) -> Outcome
+    ensures { λ r. ⌜ r ≡ rowOutcome users number room ⌝ }
+{
+    answer::or_else(
+        answer::refuse_if(is_past(users, number), 21, 0, 0),
+        answer::refuse_if(room < users as usize, 23, 0, users as usize),
+    )
+}
+
 // The first entries of the row with these many of at least 2, 3 and 4.
 fn fill_row(row: &mut [u8], users: usize, shape: Shape)
     requires { ⌜ users ≤ length (now row) ⌝ }
@@ -137,10 +147,7 @@ pub fn put_row(users: u32, number: u32, row: &mut [u8]) -> Answer
     ensures { λ r. ⌜ r ≡ rowAnswer users number (length (now (row .entry))) ⌝ }
     ensures { λ _. ⌜ now (row .exit) ≡ rowAfter users number (now (row .entry)) ⌝ }
 {
-    let judged = answer::or_else(
-        answer::refuse_if(is_past(users, number), 21, 0, 0),
-        answer::refuse_if(row.len() < users as usize, 23, 0, users as usize),
-    );
+    let judged = judge_row(users, number, row.len());
     if let Outcome::Refuse(refused) = judged {
         return refused;
     }
@@ -155,15 +162,16 @@ pub fn put_row(users: u32, number: u32, row: &mut [u8]) -> Answer
 
 // ---- from a row to its number
 
-// Whether a row's entries are streams that never rise, and how many of them are at least 2, 3 and 4.
+// Whether a row is listed, and how many of its entries are at least 2, 3 and 4.
 pub struct Counts {
-    pub fit: bool,
+    pub listed: bool,
     pub shape: Shape,
 }
 
 fn count_row(row: &[u8]) -> Counts
     requires { ⌜ length (now row) ≤ 8 ⌝ }
-    ensures { λ r. ⌜ Counting (now (row .entry)) (length (now (row .entry))) (r .fit) (r .shape .two) (r .shape .three) (r .shape .four) ⌝ }
+    ensures { λ r. ⌜ r .listed ≡ isListed (now (row .entry)) ⌝ }
+    ensures { λ r. ⌜ (r .listed ≡ true → Numbered (length (now (row .entry))) (numberOf (now (row .entry))) (r .shape .two) (r .shape .three) (r .shape .four)) ⌝ }
 {
     let mut fit = true;
     let mut last = 4;
@@ -186,7 +194,7 @@ fn count_row(row: &[u8]) -> Counts
         four: four,
     };
     Counts {
-        fit: fit,
+        listed: fit & (i + two + three + four <= 16),
         shape: shape,
     }
 }
@@ -219,7 +227,15 @@ fn before_three(users: usize, a: usize, b: usize) -> usize
     n
 }
 
-// The number of a row; its length is the number of users.
+// The number of the row with these many entries of at least 2, 3 and 4.
+fn number_with(users: usize, shape: Shape) -> usize
+    requires { ⌜ (users ≤ 8) × (shape .two ≤ users) × (users + shape .two + shape .three + shape .four ≤ 16) ⌝ }
+    ensures { λ r. ⌜ r ≡ beforeTwo users (shape .two) + (beforeThree users (shape .two) (shape .three) + shape .four) ⌝ }
+{
+    before_two(users, shape.two) + (before_three(users, shape.two, shape.three) + shape.four)
+}
+
+// The number of a row, whose length is the number of users.
 pub fn number_of(row: &[u8]) -> Answer
     ensures { λ r. ⌜ r ≡ numberAnswer (now (row .entry)) ⌝ }
 {
@@ -232,18 +248,17 @@ pub fn number_of(row: &[u8]) -> Answer
         };
     }
     let counts = count_row(row);
-    let shape = counts.shape;
-    if !(counts.fit & (users + shape.two + shape.three + shape.four <= 16)) {
+    if !counts.listed {
         return Answer {
             number: 21,
             channel: 0,
             place: 0,
         };
     }
+    let shape = counts.shape;
     Answer {
         number: 0,
         channel: 0,
-        place: before_two(users, shape.two)
-            + (before_three(users, shape.two, shape.three) + shape.four),
+        place: number_with(users, shape),
     }
 }

@@ -1,65 +1,70 @@
+-- `stream_rows::put_row` meets its contract.
+use mathlib.Core.Path.{_≡_, sym, _∙_}
+use mathlib.Core.List.{List}
+use Prim.Native.Nat.{ℕ}
+use lib.ListN.{length}
+use Rattle.answer.specs.Lists.{at, filled}
+use Rattle.answer.proofs.Lists.{filled-cong}
+use Rattle.stream_rows.specs.Result.{rowAnswer, rowAfter}
+use Rattle.stream_rows.proofs.Judged.{row-passed}
+use Rattle.stream_rows.proofs.Worked.{row-entries}
 use borrow.Author.Needs.{needs}
 use Rattle.stream_rows.proofs.put_row.Statement.{statement}
 use Rattle.stream_rows.proofs.put_row.Tie as tie
 use Rattle.stream_rows.proofs.put_row.Reads as reads
 use Rattle.stream_rows.proofs.put_row.Lts as lts
-use Rattle.answer.proofs.or_else.Reads as or-else-reads
-use Rattle.answer.proofs.refuse_if.Reads as refuse-if-reads
 use Rattle.stream_rows.proofs.decode.Reads as decode-reads
 use Rattle.stream_rows.proofs.fill_row.Reads as fill-row-reads
-use Rattle.stream_rows.proofs.is_past.Reads as is-past-reads
+use Rattle.stream_rows.proofs.judge_row.Reads as judge-row-reads
 
--- src/lib.rt:141:27
-is-past-requires : tie.Need-is-past-requires
-is-past-requires c κs = search needs
+judge-row-requires : tie.Need-judge-row-requires
+judge-row-requires c κs = search needs
 
--- src/lib.rt:141:9
-refuse-if-requires : tie.Need-refuse-if-requires
-refuse-if-requires c κs = search needs
-
--- src/lib.rt:142:9
-refuse-if-requires-2 : tie.Need-refuse-if-requires-2
-refuse-if-requires-2 c κs = search needs
-
--- src/lib.rt:140:9
-or-else-requires : tie.Need-or-else-requires
-or-else-requires c κs = search needs
-
--- src/lib.rt:144:28
 enum-known-judged : tie.Need-enum-known-judged
 enum-known-judged c = search needs
 
--- src/lib.rt:145:9
 returns : tie.Need-returns
-returns c = ?
+unfolding rowAnswer rowAfter
+returns c =
+    let f = sym (c .before .before .before .judge-row .ensures) ∙ c .before .judged .given .1 in
+    (rw f, rw f)
 
 enum-told : tie.Need-enum-told
 enum-told c = search needs
 
--- src/lib.rt:147:9
 decode-requires : tie.Need-decode-requires
-decode-requires c κs = ?
+decode-requires c κs =
+    let s = c .before .before .before .before .args in
+    let p = row-passed (s .users) (s .number) (length (s .row .now)) (sym (c .before .before .judge-row .ensures) ∙ c .enum-told .given .1) in
+    (p .to-8, p .numbered)
 
--- src/lib.rt:148:5
 fill-row-requires : tie.Need-fill-row-requires
-fill-row-requires c κs = ?
+fill-row-requires c κs =
+    let s = c .before .before .before .before .before .before .args in
+    row-passed (s .users) (s .number) (length (s .row .now)) (sym (c .before .before .before .before .judge-row .ensures) ∙ c .before .before .enum-told .given .1)
+    .room
 
--- src/lib.rt:136:1
 same-length : tie.Need-same-length
 same-length c = search needs
 
--- src/lib.rt:136:1
 returns-2 : tie.Need-returns-2
-returns-2 c = ?
+unfolding rowAnswer rowAfter
+returns-2 c =
+    let s = c .before .before .before .before .before .before .before .before .before .args in
+    let f =
+    sym (c .before .before .before .before .before .before .before .judge-row .ensures)
+    ∙ c .before .before .before .before .before .enum-told .given .1 in (
+      rw f,
+      rw f
+          (c .before .before .fill-row .ensures
+          ∙ sym (filled-cong _ _ (s .users) (s .row .now) (row-entries (s .users) (c .before .before .before .before .decode .ensures)))),
+    )
 
 pub put-row-spec : {M : Type 1} → statement M
 put-row-spec =
     tie.close
     (tie.spec
-    is-past-requires
-    refuse-if-requires
-    refuse-if-requires-2
-    or-else-requires
+    judge-row-requires
     enum-known-judged
     returns
     enum-told
