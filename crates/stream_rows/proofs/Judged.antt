@@ -1,5 +1,5 @@
 -- Answers are by 02's rows in their order (T-11), and a refusal writes nothing.
-use mathlib.Core.Path.{_≡_, refl}
+use mathlib.Core.Path.{_≡_, refl, _∙_, ap}
 use mathlib.Core.Bool.{Bool, true, false, not, _||_}
 use mathlib.Core.List.{List, [], _∷_}
 use Prim.Native.Nat.{ℕ, _≤_, _<_}
@@ -7,6 +7,8 @@ use native.Mathlib.Omega.{arith}
 use lib.Dec.{ltb, leb}
 use lib.ListN.{length}
 use borrow.Author.Tests.{ltb-false, leb-false}
+use denote.Ref.{now}
+use Rattle.answer.specs.declared.Answer.{Answer}
 use Rattle.answer.specs.declared.Outcome.the-variants.{Pass}
 use Rattle.answer.specs.Answer.{no}
 use Rattle.answer.specs.Lists.{at, filled}
@@ -18,12 +20,14 @@ use Rattle.stream_rows.specs.Rows.{rowIn}
 use Rattle.stream_rows.specs.Worked.{theRows, isListed}
 use Rattle.stream_rows.specs.Result.{not2to8, noRow, noRowRoom, rowOutcome, rowNumbers, rowChecks, rowAnswer, rowAfter}
 use Rattle.stream_rows.specs.Result.{notRow, numberNumbers, numberChecks, numberOf, numberAnswer}
+use Rattle.stream_rows.proofs.put_row.Reads as put-row
+use Rattle.stream_rows.proofs.number_of.Reads as number-of
 
-neither-left : (a b : Bool) → (a || b) ≡ false → a ≡ false
+pub neither-left : (a b : Bool) → (a || b) ≡ false → a ≡ false
 neither-left true b e = e
 neither-left false b e = refl
 
-neither-right : (a b : Bool) → (a || b) ≡ false → b ≡ false
+pub neither-right : (a b : Bool) → (a || b) ≡ false → b ≡ false
 neither-right true b e = absurd (let z : _≡_ {A = ℕ} 0 1 = cc in omega arith)
 neither-right false b e = e
 
@@ -84,3 +88,16 @@ number-gives row = more (only-if (not2to8 (length row) || not (isListed row)) 21
 pub number-judged : (row : List ℕ) → Judged numberNumbers (numberChecks row) (numberOf row) (numberAnswer row)
 unfolding numberAnswer
 number-judged row = rw (first-chain (notRow row) []) at (judged (number-gives row) number-distinct (numberOf row))
+
+-- ---- of what the entry points' contracts allow
+pub put-row-judged : (κs : _) (a : _) (r : _) (s : _) → put-row.Post κs a r s
+    → Judged rowNumbers (rowChecks (a .0) (a .1 .0) (length (now (a .1 .1 .0)))) (a .0) r
+put-row-judged κs a r s p = rw (p .0) (row-judged (a .0) (a .1 .0) (length (now (a .1 .1 .0))))
+
+pub put-row-keeps : (κs : _) (a : _) (r : _) (s : _) → put-row.Post κs a r s → (r .number ≡ 0 → ⊥) → now (s .1 .1 .0) ≡ now (a .1 .1 .0)
+put-row-keeps κs a r s p n =
+    p .1 ∙ row-kept (a .0) (a .1 .0) (now (a .1 .1 .0)) (λ e. n (ap (λ (z : Answer). z .number) (p .0) ∙ e))
+
+pub number-of-judged : (κs : _) (a : _) (r : _) (s : _) → number-of.Post κs a r s
+    → Judged numberNumbers (numberChecks (now (a .0))) (numberOf (now (a .0))) r
+number-of-judged κs a r s p = rw p (number-judged (now (a .0)))

@@ -6,3 +6,5 @@ pub mod Numbers
 pub mod Number
 pub mod Count
 pub mod Judged
+pub mod Inverse
+pub mod Agree
