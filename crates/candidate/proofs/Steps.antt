@@ -1,17 +1,15 @@
 -- What each turn of a loop that builds a channel adds, for the code.
 use mathlib.Core.Path.{_≡_, refl, sym}
-use mathlib.Core.Bool.{Bool, true, false, cond}
 use mathlib.Core.List.{List}
-use Prim.Native.Nat.{ℕ, _+_, _-_, _*_, _/_, _%_, _^_, _<_}
+use Prim.Native.Nat.{ℕ, _+_, _-_}
 use native.Mathlib.Numerals.{add-one}
 use native.Mathlib.Omega.{arith}
-use lib.Dec.{eqb}
 use lib.ListN.{length}
 use lib.Seq.{ext-getD}
 use Rattle.bits.specs.Bits.{put}
 use Rattle.channel.specs.Layout.{firstBits, subfieldsIn, valueAt, userAt, blockAt, blocks, covered}
 use Rattle.answer.specs.Lists.{at}
-use Rattle.words.specs.Engine.{overflowOf, valueOf, userField}
+use Rattle.words.specs.Engine.{overflowOf, userField}
 use Rattle.candidate.specs.Engine.{puts, seal, sealSecond, sealBlocks, payload, sealed, overflowIn, valueIn, countIn, firstIn, fieldIn, channelIn}
 use Rattle.candidate.proofs.Built.{sealed-length}
 
@@ -32,14 +30,6 @@ module _ (bw n : ℕ) (d : List ℕ) where
   pub blocks-next : (b : ℕ) → seal (blockAt bw b) (covered n b) (sealBlocks bw n b d) ≡ sealBlocks bw n (b + 1) d
   unfolding sealBlocks
   blocks-next b = rw add-one refl
-
-pub value-of-lt : (w : List ℕ) (p : ℕ) → valueOf w p < 512
-unfolding valueOf
-value-of-lt w p = go (eqb p 0)
-  where
-    go : (t : Bool) → cond t (at w 2 / 2 ^ 13 % 2 ^ 9) (at w (3 + (p - 1) / 3) / 2 ^ (10 * ((p - 1) % 3)) % 2 ^ 9) < 512
-    go true = native.Mathlib.Nat.mod-lt (at w 2 / 2 ^ 13) (omega arith)
-    go false = native.Mathlib.Nat.mod-lt (at w (3 + (p - 1) / 3) / 2 ^ (10 * ((p - 1) % 3))) (omega arith)
 
 -- the whole of a channel, step by step
 pub channel-steps : (bw : ℕ) (w : List ℕ) (c : ℕ) (d : List ℕ) (first n v b : ℕ) (d₁ d₂ d₃ d₄ d₅ d₆ : List ℕ)

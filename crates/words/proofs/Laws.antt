@@ -183,3 +183,12 @@ module _ (bw v t t₂ : ℕ) (row : ℕ → ℕ) (n : ℕ) (rest : List ℕ) whe
       let e = later-slot (suc p) (omega arith) l in
       let s = slot-known row n (suc p) in
       rw (ne-eqb (suc p) 0 (λ z. omega arith), ← s) (omega arith)
+
+-- it is nine bits
+pub value-of-lt : (w : List ℕ) (p : ℕ) → valueOf w p < 512
+unfolding valueOf
+value-of-lt w p = go (eqb p 0)
+  where
+    go : (t : Bool) → cond t (at w 2 / 2 ^ 13 % 2 ^ 9) (at w (3 + (p - 1) / 3) / 2 ^ (10 * ((p - 1) % 3)) % 2 ^ 9) < 512
+    go true = mod-lt (at w 2 / 2 ^ 13) (omega arith)
+    go false = mod-lt (at w (3 + (p - 1) / 3) / 2 ^ (10 * ((p - 1) % 3))) (omega arith)

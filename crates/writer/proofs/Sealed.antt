@@ -19,7 +19,7 @@ use Rattle.halves.specs.Engine.{Sealed}
 use Rattle.frame_words.specs.Words.{positionIn}
 use Rattle.candidate.specs.Engine.{valueIn, countIn, candidate}
 use Rattle.candidate.proofs.Held.{Holds, all-subfields, candidate-carries, holds-1, holds-2}
-use Rattle.candidate.proofs.Steps.{value-of-lt}
+use Rattle.words.proofs.Laws.{value-of-lt}
 
 module _ (bw : ℕ) (w : List ℕ) (c : ℕ) (h : present bw c ≡ true → Holds bw w c) where
   abbrev s : List ℕ

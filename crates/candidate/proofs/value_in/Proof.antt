@@ -1,5 +1,5 @@
 -- `candidate::value_in` meets its contract.
-use Rattle.candidate.proofs.Steps.{value-of-lt}
+use Rattle.words.proofs.Laws.{value-of-lt}
 use Rattle.candidate.specs.Engine.{valueIn}
 use Prim.Native.Nat.{_<_}
 use native.Mathlib.Omega.{arith}
