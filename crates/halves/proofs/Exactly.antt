@@ -6,7 +6,7 @@ use Prim.Native.Nat.{ℕ, _+_, _-_, _/_}
 use lib.Dec.{ltb}
 use lib.ListN.{length}
 use Rattle.answer.specs.Answer.{no}
-use Rattle.answer.proofs.Numbers.{Only, only-if, only-or, Gives, none, more}
+use Rattle.answer.proofs.Numbers.{Only, only-if, only-or, Gives, more}
 use Rattle.answer.proofs.Order.{refuse-if}
 use Rattle.answer.specs.declared.Answer.{Answer}
 use Rattle.answer.specs.declared.Outcome.{Outcome}
@@ -83,8 +83,8 @@ module _ (bw : ℕ) (a b : List ℕ) where
   unfolding check11
   only-11-here = only-11 bw a b (count bw 1 a) (count bw 2 b)
 
-  -- 1 to 11, and one more that gives another number: 12 of the reader, 23 of the listing
-  pub checks11-then : {n : ℕ} {o : Outcome} → Only n o → Gives (1 ∷ 2 ∷ 3 ∷ 4 ∷ 5 ∷ 6 ∷ 7 ∷ 8 ∷ 9 ∷ 10 ∷ 11 ∷ n ∷ []) (checks11 bw a b ++ (o ∷ []))
-  checks11-then last =
+  -- 1 to 11, and what comes after them: 12 of the reader, 23 of the listing, 21 and 23 of the streams
+  pub checks11-then : {ns : List ℕ} {os : List Outcome} → Gives ns os → Gives (1 ∷ 2 ∷ 3 ∷ 4 ∷ 5 ∷ 6 ∷ 7 ∷ 8 ∷ 9 ∷ 10 ∷ 11 ∷ ns) (checks11 bw a b ++ os)
+  checks11-then rest =
       more only-1 (more only-2 (more only-3 (more only-4 (more only-5 (more only-6 (more only-7 (more only-8
-      (more only-9 (more only-10 (more only-11-here (more last none)))))))))))
+      (more only-9 (more only-10 (more only-11-here rest))))))))))

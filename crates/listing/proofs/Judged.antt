@@ -11,7 +11,7 @@ use Rattle.answer.specs.Order.{firstOf, Judged}
 use Rattle.answer.specs.declared.Answer.{Answer}
 use Rattle.answer.specs.declared.Outcome.{Outcome}
 use Rattle.answer.specs.declared.Outcome.the-variants.{Pass}
-use Rattle.answer.proofs.Numbers.{Only, only-if, distinct, absent, zero-pass, judged}
+use Rattle.answer.proofs.Numbers.{Only, only-if, none, more, distinct, absent, zero-pass, judged}
 use Rattle.answer.proofs.First.{first-append}
 use Rattle.answer.proofs.Order.{or-end}
 use Rattle.halves.specs.Table.{checks11, outcome11}
@@ -37,13 +37,13 @@ listable-rows bw a b room =
 pub list-judged : (bw : ℕ) (a b : List ℕ) (room : ℕ) → Judged listNumbers (listChecks bw a b room) (length (listing bw a b)) (listAnswer bw a b room)
 unfolding listAnswer
 list-judged bw a b room =
-    rw (listable-rows bw a b room) at (judged (checks11-then bw a b (only-23 bw a b room)) numbers-distinct (length (listing bw a b)))
+    rw (listable-rows bw a b room) at (judged (checks11-then bw a b (more (only-23 bw a b room) none)) numbers-distinct (length (listing bw a b)))
 
 -- number 0 is given only where every row passes
 pub accepted-exactly : (bw : ℕ) (a b : List ℕ) (room : ℕ) → listAnswer bw a b room .number ≡ 0 → listOutcome bw a b room ≡ Pass
 unfolding listAnswer
 accepted-exactly bw a b room =
-    rw (listable-rows bw a b room) at (zero-pass (checks11-then bw a b (only-23 bw a b room)) numbers-distinct (length (listing bw a b)))
+    rw (listable-rows bw a b room) at (zero-pass (checks11-then bw a b (more (only-23 bw a b room) none)) numbers-distinct (length (listing bw a b)))
 
 -- "Every refusal writes nothing", of what `list` allows
 pub list-keeps : (κs : _) (a : _) (r : _) (s : _) → list.Post κs a r s → (r .number ≡ 0 → ⊥) → now (s .1 .1 .1 .0) ≡ now (a .1 .1 .1 .0)

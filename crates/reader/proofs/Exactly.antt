@@ -8,7 +8,7 @@ use lib.ListN.{getD}
 use Rattle.answer.specs.Order.{Applies, Judged}
 use Rattle.answer.specs.declared.Answer.{Answer}
 use Rattle.answer.specs.declared.Outcome.the-variants.{Pass}
-use Rattle.answer.proofs.Numbers.{Only, only-if, Gives, distinct, absent, zero-pass, number-applies, applies-number, judged}
+use Rattle.answer.proofs.Numbers.{Only, only-if, Gives, none, more, distinct, absent, zero-pass, number-applies, applies-number, judged}
 use Rattle.halves.proofs.Exactly.{checks11-then}
 use Rattle.frame_words.specs.Words.{wordCount}
 use Rattle.reader.specs.Table.{noRoom, check12, readChecks, readOutcome, readNumbers}
@@ -20,7 +20,7 @@ module _ (bw : ℕ) (a b : List ℕ) where
   only-12 room = only-if (ltb room (wordCount bw a b)) 12 0 (wordCount bw a b)
 
   pub table-gives : (room : ℕ) → Gives readNumbers (readChecks bw a b room)
-  table-gives room = checks11-then bw a b (only-12 room)
+  table-gives room = checks11-then bw a b (more (only-12 room) none)
 
   numbers-distinct : distinct (0 ∷ readNumbers) ≡ true
   unfolding distinct absent
