@@ -37,3 +37,7 @@ every-at t (suc n) e k l = go (every-at t n (both-left (every t n) (t n) e) k) (
 pub all-every : (t : ℕ → Bool) (n : ℕ) → ((k : ℕ) → k < n → t k ≡ true) → every t n ≡ true
 all-every t zero h = refl
 all-every t (suc n) h = both (every t n) (t n) (all-every t n (λ k l. h k (omega arith))) (h n (omega arith))
+
+pub every-cong : (t u : ℕ → Bool) (n : ℕ) → ((k : ℕ) → k < n → t k ≡ u k) → every t n ≡ every u n
+every-cong t u zero h = refl
+every-cong t u (suc n) h = rw (every-cong t u n (λ k l. h k (omega arith)), h n (omega arith))

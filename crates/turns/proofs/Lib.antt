@@ -1,3 +1,4 @@
 pub mod Meeting
 pub mod Owned
 pub mod Order
+pub mod Agree

@@ -1,6 +1,7 @@
 -- Counting the fields of one owner in the order of the words tells which of its resource's fields each is, and how many that has, in every plan
 -- that signals the row.
 use mathlib.Core.Path.{_≡_, refl, sym, _∙_, ap, subst}
+use mathlib.Core.Logic.{⊎-elim}
 use mathlib.Core.Bool.{Bool, true, false, cond, true≢false}
 use mathlib.Core.List.{List}
 use Prim.Native.Nat.{ℕ, zero, suc, _+_, _-_, _≤_, _<_}
@@ -11,8 +12,10 @@ use lib.Dec.{eqb, ltb}
 use lib.ListN.{length}
 use Rattle.answer.specs.Lists.{at}
 use Rattle.answer.specs.Tally.{tally}
-use Rattle.answer.proofs.Tally.{tally-cong, tally-split}
+use Rattle.answer.proofs.Tally.{tally-cong, tally-split, tally-mono}
+use Rattle.resource.proofs.Test.{below-or}
 use Rattle.kinds.specs.Signals.{Signals}
+use Rattle.kinds.specs.Fields.{Eight}
 use Rattle.records.specs.Records.{recordsOf}
 use Rattle.records.specs.Owns.{Owns, Counts, none, one-more, no-more}
 use Rattle.records.specs.Demand.{resourceIn}
@@ -21,7 +24,7 @@ use Rattle.records.specs.Worked.{theOwner}
 use Rattle.records.proofs.Worked.{worked}
 use Rattle.records.proofs.Counting.{counts-once}
 use Rattle.records.proofs.Demand.{shared}
-use Rattle.records.proofs.FieldsOf.{owned-below, turns}
+use Rattle.records.proofs.FieldsOf.{owned-below, at-most-eight, turns}
 use Rattle.turns.specs.Turns.{fieldsIn, ownerIn, ownedBy, usersOf, turnOf, TurnIs}
 
 -- a count by a test that decides it
@@ -108,3 +111,32 @@ module _ (o : ℕ → ℕ) (row : List ℕ) (s : Signals o (at row) 0 (length ro
         turn = rw e (subst (λ (t : ℕ). FieldOf o (at row) (length row) i t c j) (which i (v .0) c j (v .1)) (v .1));
         users = rw e (all-users i l);
       }
+
+  -- ---- of an x-th field
+  of-word : (x : ℕ) → x < fieldsIn 1 row + fieldsIn 2 row
+      → (c : ℕ) × (j : ℕ) × (j < fieldsIn c row) × (wordOf (at row) (length row) c j ≡ x)
+  of-word x h =
+      ⊎-elim
+      (λ (l : x < fieldsIn 1 row). (1, x, l, refl))
+      (λ (l : fieldsIn 1 row ≤ x). (2, x - fieldsIn 1 row, omega arith, omega arith))
+      (below-or x (fieldsIn 1 row))
+
+  -- "at most eight User fields on each resource"
+  pub users-most : Eight o (at row) 0 (length row) → (x : ℕ) → x < fieldsIn 1 row + fieldsIn 2 row → usersOf row x ≤ 8
+  users-most e x h =
+      let v = of-word x h in
+      let k = worked o row s (v .0) (v .1) (v .2) in
+      let w = shared o (at row) (length row) s in
+      let most =
+      at-most-eight o (at row) (length row) s .owned e _ (k .listed) _ _
+      (record { of-1 = w .shares _ 1 (k .listed) (omega arith, omega arith); of-2 = w .shares _ 2 (k .listed) (omega arith, omega arith) }) in
+      rw (← v .3, turn-is _ (v .0) (v .1) (k .owns) .users) most
+
+-- it is one of them
+pub turn-below : (row : List ℕ) (x : ℕ) → x < fieldsIn 1 row + fieldsIn 2 row → turnOf row x < usersOf row x
+unfolding turnOf usersOf
+turn-below row x h =
+    let own = eq-eqb (ownerIn row x) (ownerIn row x) refl in
+    let more = tally-mono (λ y. eqb (ownerIn row y) (ownerIn row x)) (suc x) (fieldsIn 1 row + fieldsIn 2 row) h in
+    let next : tally (λ y. eqb (ownerIn row y) (ownerIn row x)) x + 1 ≤ ownedBy row (ownerIn row x) (fieldsIn 1 row + fieldsIn 2 row) = rw own at more in
+    omega (arith, next)
