@@ -1,17 +1,14 @@
 -- 21 is given exactly where 02 says, and decoding and encoding undo each other, by their answers and the lent row.
 use mathlib.Core.Path.{_≡_, refl, sym, _∙_, ap}
-use mathlib.Core.Logic.{⊎-elim}
 use mathlib.Core.Bool.{Bool, true, false, not, _||_}
 use mathlib.Core.List.{List}
-use Prim.Native.Nat.{ℕ, _≤_, _<_}
-use native.Mathlib.Omega.{arith}
+use Prim.Native.Nat.{ℕ, _≤_}
 use lib.Dec.{ltb, leb}
 use lib.ListN.{length, take, drop}
 use borrow.Author.Tests.{le-ltb, lt-leb, not-false}
-use Rattle.answer.specs.Answer.{no, answerAt}
-use Rattle.answer.specs.declared.Answer.{Answer}
+use Rattle.answer.specs.Answer.{no}
 use Rattle.answer.specs.declared.Outcome.the-variants.{Pass}
-use Rattle.answer.specs.Lists.{at, build, filled}
+use Rattle.answer.specs.Lists.{at}
 use Rattle.answer.proofs.Lists.{build-is, take-filled, drop-filled}
 use Rattle.answer.proofs.Order.{pass-if, if-pass, or-pass}
 use Rattle.stream_rows.specs.Rows.{Listed, rowIn}

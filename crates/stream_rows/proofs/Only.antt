@@ -1,6 +1,5 @@
 -- 02's words determine the list of rows: a list that counts them has each once, and any two that do are one.
 use mathlib.Core.Path.{_≡_, sym, _∙_, ap}
-use mathlib.Core.Logic.{⊎-elim}
 use mathlib.Core.List.{List, []}
 use Prim.Native.Nat.{ℕ, zero, suc, _≤_, _<_}
 use native.Mathlib.Decide.{decLt}
@@ -8,7 +7,7 @@ use native.Mathlib.Omega.{arith}
 use lib.ListN.{length}
 use lib.Seq.{ext-getD}
 use Rattle.answer.specs.Lists.{at}
-use Rattle.stream_rows.specs.Rows.{Listed, Before, rowIn, Counted}
+use Rattle.stream_rows.specs.Rows.{Before, rowIn, Counted}
 
 -- of two rows that differ only one comes first
 pub before-once : {a b : List ℕ} → Before a b → Before b a → ⊥

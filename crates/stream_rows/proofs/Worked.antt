@@ -1,19 +1,18 @@
 -- The worked list counts 02's rows, for every number of users, and is the only list that does.
 use mathlib.Core.Path.{_≡_, refl, sym, _∙_, ap}
-use mathlib.Core.Logic.{⊎-elim}
 use mathlib.Core.List.{List, []}
 use Prim.Native.Nat.{ℕ, _+_, _-_, _≤_, _<_}
 use native.Mathlib.Nat.{le-trans}
 use native.Mathlib.Numerals.{add-one}
 use native.Mathlib.Omega.{arith}
-use lib.ListN.{length, getD}
-use Rattle.answer.specs.Lists.{at, build}
+use lib.ListN.{length}
+use Rattle.answer.specs.Lists.{at}
 use Rattle.answer.proofs.Lists.{length-build, getD-build}
 use Rattle.stream_rows.specs.Rows.{Listed, Before, rowIn, Counted}
-use Rattle.stream_rows.specs.Engine.{gather, entryOf, rowOf, twos, threes, fours, withThree, withTwo, allRows, beforeTwo, beforeThree, Numbered}
+use Rattle.stream_rows.specs.Engine.{entryOf, rowOf, twos, threes, fours, withThree, withTwo, allRows, beforeTwo, beforeThree, Numbered}
 use Rattle.stream_rows.specs.Worked.{theRows, Worked}
 use Rattle.stream_rows.proofs.Gather.{gather-next, gather-within, step-over, gather-at, gather-all, Rising, gather-rising}
-use Rattle.stream_rows.proofs.Shapes.{row-at, row-listed, before-by-two, before-by-three, before-by-four, atLeast, Falls, falls-row, row-sums}
+use Rattle.stream_rows.proofs.Shapes.{row-at, row-listed, before-by-two, before-by-three, before-by-four, atLeast, falls-row, row-sums}
 use Rattle.stream_rows.proofs.Only.{only-one}
 
 module _ (users : ℕ) where

@@ -4,12 +4,10 @@ use mathlib.Core.Path.{_≡_}
 use mathlib.Core.Bool.{Bool, _&&_}
 use mathlib.Core.List.{List}
 use Prim.Native.Nat.{ℕ}
-use lib.Dec.{leb, eqb}
+use lib.Dec.{leb}
 use lib.ListN.{length}
 use Rattle.answer.specs.Every.{every}
-use Rattle.answer.specs.Least.{least}
-use Rattle.answer.specs.Lists.{at}
-use Rattle.stream_rows.specs.Rows.{sum, rowIn, Counted}
+use Rattle.stream_rows.specs.Rows.{sum, Counted}
 use Rattle.stream_rows.specs.Engine.{allRows, fits}
 
 abbrev pub theRows : ℕ → List (List ℕ)

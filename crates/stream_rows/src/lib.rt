@@ -46,9 +46,9 @@ fn least_of(x: usize, y: usize) -> usize
     if x < y { x } else { y }
 }
 
-// How many rows have a entries of at least 2. Of the others they leave s: b at least 3 and c at least 4, c no more than b, b no more than a, and
-// both no more than s in all. Where s is 2 a or more, it bounds nothing. Without a's bound there are as many as the square of s + 2 has fours;
-// a takes those away whose b is above it, of which the one with b above it by j leaves e + 1 - j values to c.
+// How many rows have a entries of at least 2: as many as there are b and c, c no more than b and b no more than a, that come to no more than the s
+// that is left of the sum. With no a they are a quarter of the square of s + 2; those with a larger b are a triangle with side e, by which s is
+// above a. A larger s than 2 a leaves as much as 2 a.
 fn rows_with(users: usize, a: usize) -> usize
     requires { ⌜ (users ≤ 8) × (a ≤ 8) ⌝ }
     ensures { λ r. ⌜ (r ≡ length (withTwo users a)) × (r ≤ 100) ⌝ }
@@ -81,13 +81,16 @@ fn decode_rest(users: usize, a: usize, number: usize) -> Shape
     }
 }
 
+// The row with a number. The ten with fewer than 3 entries of at least 2 come first whatever the users are: a number past them need not step
+// over each.
 pub fn decode(users: usize, number: usize) -> Shape
     requires { ⌜ (users ≤ 8) × (number < length (theRows users)) ⌝ }
     ensures { λ r. ⌜ Numbered users number (r .two) (r .three) (r .four) ⌝ }
 {
-    let mut left = number;
-    let mut a = 0;
-    let mut n = 1;
+    let past = (10 <= number) as usize;
+    let mut left = number - 10 * past;
+    let mut a = 3 * past;
+    let mut n = rows_with(users, a);
     while n <= left {
         left -= n;
         a += 1;
@@ -239,8 +242,8 @@ fn number_with(users: usize, shape: Shape) -> usize
 pub fn number_of(row: &[u8]) -> Answer
     ensures { λ r. ⌜ r ≡ numberAnswer (now (row .entry)) ⌝ }
 {
-    let users = row.len();
-    if (users < 2) | (8 < users) {
+    let n = row.len();
+    if (n < 2) | (8 < n) {
         return Answer {
             number: 21,
             channel: 0,
@@ -259,6 +262,6 @@ pub fn number_of(row: &[u8]) -> Answer
     Answer {
         number: 0,
         channel: 0,
-        place: number_with(users, shape),
+        place: number_with(n, shape),
     }
 }

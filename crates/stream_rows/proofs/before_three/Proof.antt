@@ -7,9 +7,6 @@ use Rattle.stream_rows.specs.Engine.{gather, beforeThree}
 use Rattle.stream_rows.proofs.Worked.{three-next}
 use Rattle.stream_rows.proofs.before_three.Statement.{statement}
 use Rattle.stream_rows.proofs.before_three.Tie as tie
-use Rattle.stream_rows.proofs.before_three.Reads as reads
-use Rattle.stream_rows.proofs.before_three.Lts as lts
-use Rattle.stream_rows.proofs.least_of.Reads as least-of-reads
 
 abbrev Inv-loop : tie.InvT-loop
 Inv-loop users a b n₀ i₀ n i = (i ≤ b) × (n ≡ beforeThree users a i) × (n ≤ 17 * i)

@@ -7,9 +7,6 @@ use Rattle.stream_rows.specs.Engine.{gather, beforeTwo}
 use Rattle.stream_rows.proofs.Worked.{two-next}
 use Rattle.stream_rows.proofs.before_two.Statement.{statement}
 use Rattle.stream_rows.proofs.before_two.Tie as tie
-use Rattle.stream_rows.proofs.before_two.Reads as reads
-use Rattle.stream_rows.proofs.before_two.Lts as lts
-use Rattle.stream_rows.proofs.rows_with.Reads as rows-with-reads
 
 abbrev Inv-loop : tie.InvT-loop
 Inv-loop users a n₀ i₀ n i = (i ≤ a) × (n ≡ beforeTwo users i) × (n ≤ 100 * i)

@@ -1,6 +1,5 @@
 -- `stream_rows::count_row` meets its contract.
 use mathlib.Core.Path.{_≡_, refl, sym, _∙_}
-use mathlib.Core.Bool.{true}
 use Prim.Native.Nat.{_-_, _≤_}
 use native.Mathlib.Numerals.{add-one}
 use native.Mathlib.Omega.{arith}
@@ -12,8 +11,6 @@ use Rattle.stream_rows.specs.Engine.{previous, Counting}
 use Rattle.stream_rows.proofs.Count.{counting-start, counting-step, counts-le, byte-le, counts-listed, counts-numbered}
 use Rattle.stream_rows.proofs.count_row.Statement.{statement}
 use Rattle.stream_rows.proofs.count_row.Tie as tie
-use Rattle.stream_rows.proofs.count_row.Reads as reads
-use Rattle.stream_rows.proofs.count_row.Lts as lts
 
 abbrev Inv-loop : tie.InvT-loop
 Inv-loop row fit₀ last₀ two₀ three₀ four₀ i₀ fit last two three four i =

@@ -9,8 +9,6 @@ use mir.Val.{boolByte}
 use Rattle.stream_rows.specs.Engine.{over, entryOf}
 use Rattle.stream_rows.proofs.entry.Statement.{statement}
 use Rattle.stream_rows.proofs.entry.Tie as tie
-use Rattle.stream_rows.proofs.entry.Reads as reads
-use Rattle.stream_rows.proofs.entry.Lts as lts
 
 byte-le : (t : Bool) → boolByte t ≤ 1
 byte-le true = omega arith
@@ -20,35 +18,28 @@ as-cond : (t : Bool) → boolByte t ≡ cond t 1 0
 as-cond true = refl
 as-cond false = refl
 
--- src/lib.rt:102:9
 cast-result : tie.Need-cast-result
 cast-result c = search needs
 
--- src/lib.rt:102:5
 add-result : tie.Need-add-result
 add-result c = omega (arith, byte-le (ltb (c .before .args .place) (c .before .args .shape .two)))
 
--- src/lib.rt:102:37
 cast-result-2 : tie.Need-cast-result-2
 cast-result-2 c = search needs
 
--- src/lib.rt:102:5
 add-result-2 : tie.Need-add-result-2
 add-result-2 c =
     let a = c .before .before .args in
     omega (arith, byte-le (ltb (a .place) (a .shape .two)), byte-le (ltb (a .place) (a .shape .three)))
 
--- src/lib.rt:102:67
 cast-result-3 : tie.Need-cast-result-3
 cast-result-3 c = search needs
 
--- src/lib.rt:102:5
 add-result-3 : tie.Need-add-result-3
 add-result-3 c =
     let a = c .before .before .before .args in
     omega (arith, byte-le (ltb (a .place) (a .shape .two)), byte-le (ltb (a .place) (a .shape .three)), byte-le (ltb (a .place) (a .shape .four)))
 
--- src/lib.rt:99:1
 returns : tie.Need-returns
 unfolding over entryOf
 returns c =

@@ -4,10 +4,6 @@ use Rattle.stream_rows.proofs.Worked.{row-entries}
 use borrow.Author.Needs.{needs}
 use Rattle.stream_rows.proofs.entry_at.Statement.{statement}
 use Rattle.stream_rows.proofs.entry_at.Tie as tie
-use Rattle.stream_rows.proofs.entry_at.Reads as reads
-use Rattle.stream_rows.proofs.entry_at.Lts as lts
-use Rattle.stream_rows.proofs.decode.Reads as decode-reads
-use Rattle.stream_rows.proofs.entry.Reads as entry-reads
 
 decode-requires : tie.Need-decode-requires
 decode-requires c κs = search needs

@@ -9,9 +9,6 @@ use Rattle.answer.proofs.Lists.{filled-start, filled-step}
 use Rattle.stream_rows.specs.Engine.{entryOf}
 use Rattle.stream_rows.proofs.fill_row.Statement.{statement}
 use Rattle.stream_rows.proofs.fill_row.Tie as tie
-use Rattle.stream_rows.proofs.fill_row.Reads as reads
-use Rattle.stream_rows.proofs.fill_row.Lts as lts
-use Rattle.stream_rows.proofs.entry.Reads as entry-reads
 
 abbrev Inv-loop : tie.InvT-loop
 Inv-loop row₀ users shape i₀ row i =

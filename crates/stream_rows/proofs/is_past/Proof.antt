@@ -1,12 +1,7 @@
 -- `stream_rows::is_past` meets its contract.
-use mathlib.Core.Path.{_≡_}
-use native.Mathlib.Omega.{arith}
 use Rattle.stream_rows.proofs.Judged.{up-to-8}
 use Rattle.stream_rows.proofs.is_past.Statement.{statement}
 use Rattle.stream_rows.proofs.is_past.Tie as tie
-use Rattle.stream_rows.proofs.is_past.Reads as reads
-use Rattle.stream_rows.proofs.is_past.Lts as lts
-use Rattle.stream_rows.proofs.rows_of.Reads as rows-of-reads
 
 returns : tie.Need-returns
 returns c = rw (c .if1 .taken)

@@ -3,11 +3,6 @@ use Rattle.stream_rows.specs.Result.{noRow, noRowRoom, rowOutcome}
 use borrow.Author.Needs.{needs}
 use Rattle.stream_rows.proofs.judge_row.Statement.{statement}
 use Rattle.stream_rows.proofs.judge_row.Tie as tie
-use Rattle.stream_rows.proofs.judge_row.Reads as reads
-use Rattle.stream_rows.proofs.judge_row.Lts as lts
-use Rattle.answer.proofs.or_else.Reads as or-else-reads
-use Rattle.answer.proofs.refuse_if.Reads as refuse-if-reads
-use Rattle.stream_rows.proofs.is_past.Reads as is-past-reads
 
 is-past-requires : tie.Need-is-past-requires
 is-past-requires c κs = search needs

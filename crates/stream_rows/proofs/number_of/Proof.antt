@@ -1,7 +1,6 @@
 -- `stream_rows::number_of` meets its contract.
 use mathlib.Core.Path.{_≡_, sym, _∙_}
 use mathlib.Core.Bool.{true, false}
-use native.Mathlib.Omega.{arith}
 use borrow.Author.Tests.{not-true, not-false}
 use lib.ListN.{length}
 use Rattle.stream_rows.specs.Worked.{isListed}
@@ -9,10 +8,6 @@ use Rattle.stream_rows.specs.Result.{not2to8, notRow, numberAnswer}
 use Rattle.stream_rows.proofs.Judged.{up-to-8}
 use Rattle.stream_rows.proofs.number_of.Statement.{statement}
 use Rattle.stream_rows.proofs.number_of.Tie as tie
-use Rattle.stream_rows.proofs.number_of.Reads as reads
-use Rattle.stream_rows.proofs.number_of.Lts as lts
-use Rattle.stream_rows.proofs.count_row.Reads as count-row-reads
-use Rattle.stream_rows.proofs.number_with.Reads as number-with-reads
 
 returns : tie.Need-returns
 unfolding numberAnswer notRow

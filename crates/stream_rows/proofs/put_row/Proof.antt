@@ -1,9 +1,6 @@
 -- `stream_rows::put_row` meets its contract.
-use mathlib.Core.Path.{_≡_, sym, _∙_}
-use mathlib.Core.List.{List}
-use Prim.Native.Nat.{ℕ}
+use mathlib.Core.Path.{sym, _∙_}
 use lib.ListN.{length}
-use Rattle.answer.specs.Lists.{at, filled}
 use Rattle.answer.proofs.Lists.{filled-cong}
 use Rattle.stream_rows.specs.Result.{rowAnswer, rowAfter}
 use Rattle.stream_rows.proofs.Judged.{row-passed}
@@ -11,11 +8,6 @@ use Rattle.stream_rows.proofs.Worked.{row-entries}
 use borrow.Author.Needs.{needs}
 use Rattle.stream_rows.proofs.put_row.Statement.{statement}
 use Rattle.stream_rows.proofs.put_row.Tie as tie
-use Rattle.stream_rows.proofs.put_row.Reads as reads
-use Rattle.stream_rows.proofs.put_row.Lts as lts
-use Rattle.stream_rows.proofs.decode.Reads as decode-reads
-use Rattle.stream_rows.proofs.fill_row.Reads as fill-row-reads
-use Rattle.stream_rows.proofs.judge_row.Reads as judge-row-reads
 
 judge-row-requires : tie.Need-judge-row-requires
 judge-row-requires c κs = search needs

@@ -1,5 +1,4 @@
 -- `stream_rows::rows_with` meets its contract: the closed form is computed for all users and all a.
-use mathlib.Core.Path.{_≡_}
 use Prim.Native.Nat.{_-_}
 use native.Mathlib.Omega.{arith}
 use borrow.Author.Needs.{needs}
@@ -17,39 +16,30 @@ form c =
     closed (c .before .before .args .users) (c .before .before .args .a) (c .before .least-of .result) (c .least-of2 .result)
     (c .before .before .pre .0) (c .before .before .pre .1) (c .before .least-of .ensures) (c .least-of2 .ensures)
 
--- src/lib.rt:56:22
 sub-least-of : tie.Need-sub-least-of
 sub-least-of c = search needs
 
--- src/lib.rt:56:22
 sub-least-of-2 : tie.Need-sub-least-of-2
 sub-least-of-2 c = search needs
 
--- src/lib.rt:56:38
 mul-least-of : tie.Need-mul-least-of
 mul-least-of c = search needs
 
--- src/lib.rt:56:9
 least-of-requires : tie.Need-least-of-requires
 least-of-requires c κs = search needs
 
--- src/lib.rt:57:17
 least-of-requires-2 : tie.Need-least-of-requires-2
 least-of-requires-2 c κs = search needs
 
--- src/lib.rt:57:13
 sub-e : tie.Need-sub-e
 sub-e c = search needs
 
--- src/lib.rt:58:6
 add-result : tie.Need-add-result
 add-result c = search needs
 
--- src/lib.rt:58:16
 add-result-2 : tie.Need-add-result-2
 add-result-2 c = search needs
 
--- src/lib.rt:58:5
 mul-result : tie.Need-mul-result
 mul-result c = omega (arith, form c .square-small)
 
