@@ -16,7 +16,7 @@ use Rattle.answer.proofs.Every.{every-next, every-at, all-every}
 use Rattle.answer.proofs.Tally.{tally-step, tally-le}
 use Rattle.stream_rows.specs.Rows.{sum, Listed}
 use Rattle.stream_rows.specs.Engine.{previous, fits, beforeTwo, beforeThree, Numbered, Counting}
-use Rattle.stream_rows.specs.Worked.{isListed}
+use Rattle.stream_rows.specs.Worked.{isListed, WorkedTest}
 use Rattle.stream_rows.specs.Result.{numberOf}
 use Rattle.stream_rows.proofs.Shapes.{atLeast, Falls, IsRow, falls-row, row-sums}
 use Rattle.stream_rows.proofs.Worked.{number-within, number-row}
@@ -69,11 +69,14 @@ is-listed row = record {
       omega arith);
 }
 
+pub worked-test : (row : List ℕ) → WorkedTest row
+worked-test row = record { decides = is-listed row }
+
 -- ---- the counts: of none, and of one entry more
 pub counting-start : (row : List ℕ) → Counting row 0 true 0 0 0
 counting-start row = record { fit-is = refl; two-is = refl; three-is = refl; four-is = refl }
 
-byte-cond : (t : Bool) → boolByte t ≡ cond t 1 0
+pub byte-cond : (t : Bool) → boolByte t ≡ cond t 1 0
 byte-cond true = refl
 byte-cond false = refl
 

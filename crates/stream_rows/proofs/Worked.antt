@@ -71,7 +71,10 @@ module _ (users : ℕ) where
       gather-rising [] Before (withThree users a) (threes users a) (λ b. three-rising a b l)
       (λ b b′ j j′ h k m m′.
       three-all (λ r. Before r (rowIn (withThree users a b′) j′)) a b
-      (λ c q. three-all (λ r′. Before (rowOf users a b c) r′) a b′ (λ c′ q′. before-by-three users a b c b′ c′ h (le-trans (three-most a b′ k) (two-most a l)) (four-most a b c q) (four-most a b′ c′ q′)) j′ m′)
+      (λ c q.
+      three-all (λ r′. Before (rowOf users a b c) r′) a b′
+      (λ c′ q′. before-by-three users a b c b′ c′ h (le-trans (three-most a b′ k) (two-most a l)) (four-most a b c q) (four-most a b′ c′ q′))
+      j′ m′)
       j m)
 
   all-rising : Rising [] Before (theRows users)

@@ -39,3 +39,7 @@ pub record Counted (users : ℕ) (rows : List (List ℕ)) : Type 0 where
   pub listed : (k : ℕ) → k < length rows → Listed users (rowIn rows k)
   pub all : (row : List ℕ) → Listed users row → (k : ℕ) × (k < length rows) × (rowIn rows k ≡ row)
   pub ordered : (k k′ : ℕ) → k < k′ → k′ < length rows → Before (rowIn rows k) (rowIn rows k′)
+
+-- "the spatial configuration is a number": number k is that of the row, in every list that counts the rows
+pub record Configures (users k : ℕ) (row : List ℕ) : Type 0 where
+  pub counted-so : (rows : List (List ℕ)) → Counted users rows → (k < length rows) × (rowIn rows k ≡ row)

@@ -16,10 +16,10 @@ ghost use Rattle.stream_rows.specs.Worked.{theRows, isListed};
 ghost use Rattle.stream_rows.specs.Result.{not2to8, rowOutcome, rowAnswer, rowAfter, numberOf, numberAnswer};
 
 // How many entries of a row are at least 2, 3 and 4.
-pub struct Shape {
-    pub two: usize,
-    pub three: usize,
-    pub four: usize,
+struct Shape {
+    two: usize,
+    three: usize,
+    four: usize,
 }
 
 // How many rows there are.
@@ -46,9 +46,9 @@ fn least_of(x: usize, y: usize) -> usize
     if x < y { x } else { y }
 }
 
-// How many rows have a entries of at least 2: as many as there are b and c, c no more than b and b no more than a, that come to no more than the s
-// that is left of the sum. With no a they are a quarter of the square of s + 2; those with a larger b are a triangle with side e, by which s is
-// above a. A larger s than 2 a leaves as much as 2 a.
+// How many rows have a entries of at least 2: as many as there are b, no more than a, and c, no more than b, that add to at most s, which is
+// left of the sum. Were b not held to a, these would be the quarter of (s + 2)^2; e (e + 1) / 2 of them have b above a, where s is above a by e.
+// Past 2 a, s holds nothing back.
 fn rows_with(users: usize, a: usize) -> usize
     requires { ⌜ (users ≤ 8) × (a ≤ 8) ⌝ }
     ensures { λ r. ⌜ (r ≡ length (withTwo users a)) × (r ≤ 100) ⌝ }
@@ -83,7 +83,7 @@ fn decode_rest(users: usize, a: usize, number: usize) -> Shape
 
 // The row with a number. The ten with fewer than 3 entries of at least 2 come first whatever the users are: a number past them need not step
 // over each.
-pub fn decode(users: usize, number: usize) -> Shape
+fn decode(users: usize, number: usize) -> Shape
     requires { ⌜ (users ≤ 8) × (number < length (theRows users)) ⌝ }
     ensures { λ r. ⌜ Numbered users number (r .two) (r .three) (r .four) ⌝ }
 {
@@ -166,15 +166,16 @@ pub fn put_row(users: u32, number: u32, row: &mut [u8]) -> Answer
 // ---- from a row to its number
 
 // Whether a row is listed, and how many of its entries are at least 2, 3 and 4.
-pub struct Counts {
-    pub listed: bool,
-    pub shape: Shape,
+struct Counts {
+    listed: bool,
+    shape: Shape,
 }
 
 fn count_row(row: &[u8]) -> Counts
     requires { ⌜ length (now row) ≤ 8 ⌝ }
     ensures { λ r. ⌜ r .listed ≡ isListed (now (row .entry)) ⌝ }
-    ensures { λ r. ⌜ (r .listed ≡ true → Numbered (length (now (row .entry))) (numberOf (now (row .entry))) (r .shape .two) (r .shape .three) (r .shape .four)) ⌝ }
+    ensures { λ r. ⌜ (r .listed ≡ true
+        → Numbered (length (now (row .entry))) (numberOf (now (row .entry))) (r .shape .two) (r .shape .three) (r .shape .four)) ⌝ }
 {
     let mut fit = true;
     let mut last = 4;

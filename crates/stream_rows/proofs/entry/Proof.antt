@@ -1,22 +1,11 @@
 -- `stream_rows::entry` meets its contract.
-use mathlib.Core.Path.{_≡_, refl}
-use mathlib.Core.Bool.{Bool, true, false, cond}
-use Prim.Native.Nat.{_≤_}
 use native.Mathlib.Omega.{arith}
 use borrow.Author.Needs.{needs}
 use lib.Dec.{ltb}
-use mir.Val.{boolByte}
 use Rattle.stream_rows.specs.Engine.{over, entryOf}
+use Rattle.stream_rows.proofs.Count.{byte-cond, byte-le}
 use Rattle.stream_rows.proofs.entry.Statement.{statement}
 use Rattle.stream_rows.proofs.entry.Tie as tie
-
-byte-le : (t : Bool) → boolByte t ≤ 1
-byte-le true = omega arith
-byte-le false = omega arith
-
-as-cond : (t : Bool) → boolByte t ≡ cond t 1 0
-as-cond true = refl
-as-cond false = refl
 
 cast-result : tie.Need-cast-result
 cast-result c = search needs
@@ -47,7 +36,7 @@ returns c =
     let two = ltb (a .place) (a .shape .two) in
     let three = ltb (a .place) (a .shape .three) in
     let four = ltb (a .place) (a .shape .four) in
-    (rw (as-cond two, as-cond three, as-cond four), omega (arith, byte-le two, byte-le three, byte-le four))
+    (rw (byte-cond two, byte-cond three, byte-cond four), omega (arith, byte-le two, byte-le three, byte-le four))
 
 pub entry-spec : {M : Type 1} → statement M
 entry-spec =

@@ -33,8 +33,8 @@ decode-requires c κs =
 fill-row-requires : tie.Need-fill-row-requires
 fill-row-requires c κs =
     let s = c .before .before .before .before .before .before .args in
-    row-passed (s .users) (s .number) (length (s .row .now)) (sym (c .before .before .before .before .judge-row .ensures) ∙ c .before .before .enum-told .given .1)
-    .room
+    let f = sym (c .before .before .before .before .judge-row .ensures) ∙ c .before .before .enum-told .given .1 in
+    row-passed (s .users) (s .number) (length (s .row .now)) f .room
 
 same-length : tie.Need-same-length
 same-length c = search needs

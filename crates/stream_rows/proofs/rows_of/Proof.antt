@@ -48,7 +48,8 @@ returns-9 : tie.Need-returns-9
 unfolding build gather withThree withTwo allRows
 returns-9 c =
     let r = c .match .rest in
-    let six = next 5 (next 4 (next 3 (next 2 (next 1 (next 0 (omega arith) (r .0 .0 .0 .0 .0 .0 .0 .1)) (r .0 .0 .0 .0 .0 .0 .1)) (r .0 .0 .0 .0 .0 .1)) (r .0 .0 .0 .0 .1)) (r .0 .0 .0 .1)) (r .0 .0 .1) in
+    let three = next 2 (next 1 (next 0 (omega arith) (r .0 .0 .0 .0 .0 .0 .0 .1)) (r .0 .0 .0 .0 .0 .0 .1)) (r .0 .0 .0 .0 .0 .1) in
+    let six = next 5 (next 4 (next 3 three (r .0 .0 .0 .0 .1)) (r .0 .0 .0 .1)) (r .0 .0 .1) in
     let last : c .before .args .users ≡ 8 = le-antisymm (c .before .pre) (next 7 (next 6 six (r .0 .1)) (r .1)) in
     rw last
 
