@@ -21,6 +21,7 @@ gather f (suc n) = gather f n ++ f n
 unfoldable pub over : ℕ → ℕ → ℕ
 over m i = cond (ltb i m) 1 0
 
+-- entry i of the row with a, b and c, and the row
 unfoldable pub entryOf : ℕ → ℕ → ℕ → ℕ → ℕ
 entryOf a b c i = 1 + over a i + over b i + over c i
 

@@ -7,7 +7,7 @@ use lib.Dec.{leb}
 use lib.ListN.{length}
 use mir.Val.{boolByte}
 use Rattle.stream_rows.specs.Engine.{withTwo, beforeTwo}
-use Rattle.stream_rows.proofs.Numbers.{Starts, starts}
+use Rattle.stream_rows.proofs.Totals.{Starts, starts}
 use Rattle.stream_rows.proofs.Worked.{two-over}
 use Rattle.stream_rows.proofs.decode.Statement.{statement}
 use Rattle.stream_rows.proofs.decode.Tie as tie

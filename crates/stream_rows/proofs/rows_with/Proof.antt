@@ -2,7 +2,7 @@
 use Prim.Native.Nat.{_-_}
 use native.Mathlib.Omega.{arith}
 use borrow.Author.Needs.{needs}
-use Rattle.stream_rows.proofs.Numbers.{Closed, closed}
+use Rattle.stream_rows.proofs.Totals.{Closed, closed}
 use Rattle.stream_rows.proofs.rows_with.Statement.{statement}
 use Rattle.stream_rows.proofs.rows_with.Tie as tie
 use Rattle.stream_rows.proofs.rows_with.Reads as reads
