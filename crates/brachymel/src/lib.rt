@@ -12,6 +12,8 @@ ghost use Rattle.compared.specs.Text.{compareAnswer, compareAfter};
 ghost use Rattle.trigger.specs.Reading.{entryAnswer, recordRead};
 ghost use Rattle.trigger.specs.Writing.{recordAnswer, entryWritten};
 ghost use Rattle.overlaps.specs.Result.{overlapsAnswer, pairsAfter};
+ghost use Rattle.stream_rows.specs.Result.{rowAnswer, rowAfter, numberAnswer};
+ghost use Rattle.streams.specs.Result.{streamsAnswer, streamsAfter};
 
 // The reading, through words of its own.
 fn read_through(
@@ -141,4 +143,34 @@ pub extern "C" fn brachymel_trigger_overlaps(
     ensures { λ _. ⌜ now (pairs .exit) ≡ pairsAfter bandwidth (now (entries .entry)) (now (pairs .entry)) ⌝ }
 {
     overlaps::overlaps(bandwidth, entries, pairs)
+}
+
+// ---- spatial streams (02, T-11)
+
+#[no_mangle]
+pub extern "C" fn brachymel_streams_row(users: u32, number: u32, row: &mut [u8]) -> Answer
+    ensures { λ r. ⌜ r ≡ rowAnswer users number (length (now (row .entry))) ⌝ }
+    ensures { λ _. ⌜ now (row .exit) ≡ rowAfter users number (now (row .entry)) ⌝ }
+{
+    stream_rows::put_row(users, number, row)
+}
+
+#[no_mangle]
+pub extern "C" fn brachymel_streams_number(row: &[u8]) -> Answer
+    ensures { λ r. ⌜ r ≡ numberAnswer (now (row .entry)) ⌝ }
+{
+    stream_rows::number_of(row)
+}
+
+#[no_mangle]
+pub extern "C" fn brachymel_streams(
+    bandwidth: u32,
+    cc1: &[u8],
+    cc2: &[u8],
+    out: &mut [u8],
+) -> Answer
+    ensures { λ r. ⌜ r ≡ streamsAnswer bandwidth (now (cc1 .entry)) (now (cc2 .entry)) (length (now (out .entry))) ⌝ }
+    ensures { λ _. ⌜ now (out .exit) ≡ streamsAfter bandwidth (now (cc1 .entry)) (now (cc2 .entry)) (now (out .entry)) ⌝ }
+{
+    streams::streams(bandwidth, cc1, cc2, out)
 }

@@ -1,0 +1,48 @@
+-- The answer for a frame's streams is one by the rows 1 to 11, 21 and 23, and a refusal writes nothing.
+use mathlib.Core.Path.{_≡_, refl, _∙_, ap}
+use mathlib.Core.Bool.{true, not}
+use mathlib.Core.List.{List, _∷_}
+use Prim.Native.Nat.{ℕ}
+use lib.Dec.{ltb}
+use lib.ListN.{length}
+use denote.Ref.{now}
+use Rattle.answer.specs.Every.{every}
+use Rattle.answer.specs.Lists.{filled}
+use Rattle.answer.specs.Order.{Judged}
+use Rattle.answer.specs.declared.Answer.{Answer}
+use Rattle.answer.specs.declared.Outcome.the-variants.{Pass}
+use Rattle.answer.proofs.Numbers.{only-if, Gives, none, more, distinct, absent, zero-pass, judged}
+use Rattle.answer.proofs.Order.{after-answered}
+use Rattle.halves.proofs.Exactly.{checks11-then}
+use Rattle.streams.specs.Result.{fields, streamsAt, namedAt, noRowNamed, noStreamsRoom, streamsChecks, streamsNumbers, streamsOutcome, streamsAnswer}
+use Rattle.streams.specs.Result.{streamsAfter}
+use Rattle.streams.proofs.streams.Reads as streams
+
+module _ (bw : ℕ) (a b : List ℕ) where
+  rows-give : (room : ℕ) → Gives streamsNumbers (streamsChecks bw a b room)
+  unfolding noRowNamed noStreamsRoom
+  rows-give room =
+      checks11-then bw a b
+      (more (only-if (not (every (namedAt bw a b) (fields bw a b))) 21 0 0) (more (only-if (ltb room (fields bw a b)) 23 0 (fields bw a b)) none))
+
+  numbers-distinct : distinct (0 ∷ streamsNumbers) ≡ true
+  unfolding distinct absent
+  numbers-distinct = refl
+
+  pub streams-judged : (room : ℕ) → Judged streamsNumbers (streamsChecks bw a b room) (fields bw a b) (streamsAnswer bw a b room)
+  unfolding streamsAnswer streamsOutcome
+  streams-judged room = judged (rows-give room) numbers-distinct (fields bw a b)
+
+  -- number 0 is given only where every row passes
+  pub accepted-exactly : (room : ℕ) → streamsAnswer bw a b room .number ≡ 0 → streamsOutcome bw a b room ≡ Pass
+  unfolding streamsAnswer streamsOutcome
+  accepted-exactly room = zero-pass (rows-give room) numbers-distinct (fields bw a b)
+
+  pub streams-kept : (d : List ℕ) → (streamsAnswer bw a b (length d) .number ≡ 0 → ⊥) → streamsAfter bw a b d ≡ d
+  unfolding streamsAnswer streamsAfter
+  streams-kept d n = after-answered (streamsOutcome bw a b (length d)) (fields bw a b) _ (filled (streamsAt bw a b) (fields bw a b) d) d refl n
+
+-- "Every refusal writes nothing", of what `streams` allows
+pub streams-keeps : (κs : _) (a : _) (r : _) (s : _) → streams.Post κs a r s → (r .number ≡ 0 → ⊥) → now (s .1 .1 .1 .0) ≡ now (a .1 .1 .1 .0)
+streams-keeps κs a r s p n =
+    p .1 ∙ streams-kept (a .0) (now (a .1 .0)) (now (a .1 .1 .0)) (now (a .1 .1 .1 .0)) (λ e. n (ap (λ (z : Answer). z .number) (p .0) ∙ e))

@@ -1,0 +1,5 @@
+pub mod Fields
+pub mod Words
+pub mod Frame
+pub mod Judged
+pub mod Agree
