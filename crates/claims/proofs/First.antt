@@ -1,9 +1,10 @@
 -- The first demand holds.
-use mathlib.Core.Path.{_≡_}
+use mathlib.Core.Path.{_≡_, _∙_, ap}
 use Prim.Native.Nat.{_/_}
 use lib.ListN.{length}
 use denote.Ref.{now}
 use Rattle.answer.specs.Order.{Judged}
+use Rattle.answer.specs.declared.Answer.{Answer}
 use Rattle.frame_words.specs.Words.{wordCount}
 use Rattle.reader.specs.Table.{readNumbers, readChecks}
 use Rattle.reader.proofs.Exactly as reading
@@ -18,8 +19,14 @@ use Rattle.word_bytes.specs.Bytes.{wordsIn}
 use Rattle.brachymel.specs.Bytes.{bytesChecks}
 use Rattle.brachymel.proofs.Judged as entries
 use Rattle.brachymel.proofs.Agree as library
+use Rattle.stream_rows.specs.Result.{rowNumbers, rowChecks, numberNumbers, numberChecks, numberOf}
+use Rattle.stream_rows.proofs.Judged as rows
+use Rattle.streams.specs.Result.{fields, streamsNumbers, streamsChecks}
+use Rattle.streams.proofs.Judged as streamed
+use Rattle.claims.specs.Calls.{RowCall, NumberCall, Puts-row, Gives-number, Gives-streams}
 use Rattle.claims.specs.Calls.{Call, WriteCall, Reads, reads, Lists, lists, Writes, writes, C-reads, c-reads, C-lists, c-lists, C-writes, c-writes}
 use Rattle.claims.specs.First.{First}
+use Rattle.claims.proofs.Given.{row-gives, number-gives, streams-give}
 
 -- ---- each answer is judged
 read-judged : (c : Call) → Reads c
@@ -56,7 +63,27 @@ c-list-judged : (c : Call) → C-lists c
 c-list-judged c (c-lists κs a r s p) =
     rw (p .0) (listed.list-judged (a .0) (now (a .1 .0)) (now (a .1 .1 .0)) (length (now (a .1 .1 .1 .0))))
 
+row-judged : (c : RowCall) → Puts-row c → Judged rowNumbers (rowChecks (c .users) (c .number) (length (c .lent))) (c .users) (c .answer)
+row-judged c h = rw (row-gives c h .0) (rows.row-judged (c .users) (c .number) (length (c .lent)))
+
+number-judged : (c : NumberCall) → Gives-number c → Judged numberNumbers (numberChecks (c .row)) (numberOf (c .row)) (c .answer)
+number-judged c h = rw (number-gives c h) (rows.number-judged (c .row))
+
+streams-judged : (c : Call) → Gives-streams c
+    → Judged streamsNumbers (streamsChecks (c .bandwidth) (c .channel-1) (c .channel-2) (length (c .lent)))
+    (fields (c .bandwidth) (c .channel-1) (c .channel-2)) (c .answer)
+streams-judged c h = rw (streams-give c h .0) (streamed.streams-judged (c .bandwidth) (c .channel-1) (c .channel-2) (length (c .lent)))
+
 -- ---- a refusal keeps
+row-kept : (c : RowCall) → Puts-row c → (c .answer .number ≡ 0 → ⊥) → c .after ≡ c .lent
+row-kept c h n =
+    row-gives c h .1 ∙ rows.row-kept (c .users) (c .number) (c .lent) (λ e. n (ap (λ (z : Answer). z .number) (row-gives c h .0) ∙ e))
+
+streams-kept : (c : Call) → Gives-streams c → (c .answer .number ≡ 0 → ⊥) → c .after ≡ c .lent
+streams-kept c h n =
+    streams-give c h .1
+    ∙ streamed.streams-kept (c .bandwidth) (c .channel-1) (c .channel-2) (c .lent) (λ e. n (ap (λ (z : Answer). z .number) (streams-give c h .0) ∙ e))
+
 read-kept : (c : Call) → Reads c → (c .answer .number ≡ 0 → ⊥) → c .after ≡ c .lent
 read-kept c (reads κs a r s p) = reader.read-keeps κs a r s p
 
@@ -83,6 +110,9 @@ first-demand = record {
   c-read-ends = c-read-judged;
   c-write-ends = c-write-judged;
   c-list-ends = c-list-judged;
+  row-ends = row-judged;
+  number-ends = number-judged;
+  streams-end = streams-judged;
   read-asks-nothing = λ κs a. tt;
   write-asks-nothing = λ κs a. tt;
   list-asks-nothing = λ κs a. tt;
@@ -90,10 +120,18 @@ first-demand = record {
   c-read-asks-nothing = λ κs a. tt;
   c-write-asks-nothing = λ κs a. tt;
   c-list-asks-nothing = λ κs a. tt;
+  row-asks-nothing = λ κs a. tt;
+  number-asks-nothing = λ κs a. tt;
+  streams-ask-nothing = λ κs a. tt;
+  c-row-asks-nothing = λ κs a. tt;
+  c-number-asks-nothing = λ κs a. tt;
+  c-streams-ask-nothing = λ κs a. tt;
   read-keeps = read-kept;
   write-keeps = write-kept;
   list-keeps = list-kept;
   c-read-keeps = c-read-kept;
   c-write-keeps = c-write-kept;
   c-list-keeps = c-list-kept;
+  row-keeps = row-kept;
+  streams-keep = streams-kept;
 }

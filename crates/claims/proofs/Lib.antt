@@ -1,3 +1,4 @@
+pub mod Given
 pub mod First
 pub mod Second
 pub mod Third
@@ -18,3 +19,4 @@ pub mod Sweep
 pub mod InWords
 pub mod FromC
 pub mod Program
+pub mod Streams

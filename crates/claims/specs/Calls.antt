@@ -22,6 +22,12 @@ use Rattle.brachymel.proofs.brachymel_trigger_overlaps.Reads as c-trigger-overl
 use Rattle.compare.proofs.compare.Reads as compare
 use Rattle.brachymel.proofs.brachymel_compare.Reads as c-compare
 use Rattle.comparing.proofs.respond.Reads as compare-respond
+use Rattle.stream_rows.proofs.put_row.Reads as put-row
+use Rattle.stream_rows.proofs.number_of.Reads as number-of
+use Rattle.streams.proofs.streams.Reads as streams
+use Rattle.brachymel.proofs.brachymel_streams_row.Reads as c-streams-row
+use Rattle.brachymel.proofs.brachymel_streams_number.Reads as c-streams-number
+use Rattle.brachymel.proofs.brachymel_streams.Reads as c-streams
 
 -- a call that reads or lists: the bandwidth code, both channels' bytes, the lent buffer, and then the answer and what the buffer holds
 pub record Call : Type 0 where
@@ -68,6 +74,19 @@ pub record CompareCall : Type 0 where
   pub lent : List ℕ
   pub answer : Answer
   pub after : List ℕ
+
+-- a call for the row of streams with a number: the users, the number, the lent buffer, and then the answer and what the buffer holds
+pub record RowCall : Type 0 where
+  pub users : ℕ
+  pub number : ℕ
+  pub lent : List ℕ
+  pub answer : Answer
+  pub after : List ℕ
+
+-- a call for the number of such a row: the row, and then the answer
+pub record NumberCall : Type 0 where
+  pub row : List ℕ
+  pub answer : Answer
 
 abbrev call : ℕ → List ℕ → List ℕ → List ℕ → Answer → List ℕ → Call
 call bw a b d r e = record { bandwidth = bw; channel-1 = a; channel-2 = b; lent = d; answer = r; after = e }
@@ -158,3 +177,22 @@ pub data Compares : CompareCall → Type 0 where
 pub data Compare-responds : TextCall → Type 0 where
   compare-responds : (κs : _) (a : _) (r : _) (s : _) → compare-respond.Post κs a r s
       → Compare-responds (record { text = now (a .0); lent = now (a .1 .0); bytes = r; after = now (s .1 .0) })
+
+-- spatial streams, from Rattle or from C: the row with a number, the number of a row, the streams of a frame's User fields
+abbrev row-call : ℕ → ℕ → List ℕ → Answer → List ℕ → RowCall
+row-call users number d r x = record { users = users; number = number; lent = d; answer = r; after = x }
+
+pub data Puts-row : RowCall → Type 0 where
+  puts-row : (κs : _) (a : _) (r : _) (s : _) → put-row.Post κs a r s → Puts-row (row-call (a .0) (a .1 .0) (now (a .1 .1 .0)) r (now (s .1 .1 .0)))
+  c-puts-row : (κs : _) (a : _) (r : _) (s : _) → c-streams-row.Post κs a r s
+      → Puts-row (row-call (a .0) (a .1 .0) (now (a .1 .1 .0)) r (now (s .1 .1 .0)))
+
+pub data Gives-number : NumberCall → Type 0 where
+  gives-number : (κs : _) (a : _) (r : _) (s : _) → number-of.Post κs a r s → Gives-number (record { row = now (a .0); answer = r })
+  c-gives-number : (κs : _) (a : _) (r : _) (s : _) → c-streams-number.Post κs a r s → Gives-number (record { row = now (a .0); answer = r })
+
+pub data Gives-streams : Call → Type 0 where
+  gives-streams : (κs : _) (a : _) (r : _) (s : _) → streams.Post κs a r s
+      → Gives-streams (call (a .0) (now (a .1 .0)) (now (a .1 .1 .0)) (now (a .1 .1 .1 .0)) r (now (s .1 .1 .1 .0)))
+  c-gives-streams : (κs : _) (a : _) (r : _) (s : _) → c-streams.Post κs a r s
+      → Gives-streams (call (a .0) (now (a .1 .0)) (now (a .1 .1 .0)) (now (a .1 .1 .1 .0)) r (now (s .1 .1 .1 .0)))

@@ -11,3 +11,4 @@ pub mod Compared
 pub mod Sweep
 pub mod FromC
 pub mod Program
+pub mod Streams

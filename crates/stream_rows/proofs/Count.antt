@@ -12,7 +12,7 @@ use Rattle.answer.specs.Decides.{Decides}
 use Rattle.answer.specs.Every.{every}
 use Rattle.answer.specs.Lists.{at}
 use Rattle.answer.specs.Tally.{tally}
-use Rattle.answer.proofs.Every.{every-next, every-at, all-every}
+use Rattle.answer.proofs.Every.{both-left, both-right, every-next, every-at, all-every}
 use Rattle.answer.proofs.Tally.{tally-step, tally-le}
 use Rattle.stream_rows.specs.Rows.{sum, Listed}
 use Rattle.stream_rows.specs.Engine.{previous, fits, beforeTwo, beforeThree, Numbered, Counting}
@@ -20,7 +20,7 @@ use Rattle.stream_rows.specs.Worked.{isListed, WorkedTest}
 use Rattle.stream_rows.specs.Result.{numberOf}
 use Rattle.stream_rows.proofs.Shapes.{atLeast, Falls, IsRow, falls-row, row-sums}
 use Rattle.stream_rows.proofs.Worked.{number-within, number-row}
-use Rattle.stream_rows.proofs.Number.{both-left, both-right, number-is}
+use Rattle.stream_rows.proofs.Number.{number-is}
 
 -- ---- entries that fit are streams that never rise
 module _ (row : List ℕ) (n : ℕ) where

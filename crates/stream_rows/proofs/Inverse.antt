@@ -94,7 +94,7 @@ unfolding numberAnswer
 number-answered row p = rw (pass-number row p)
 
 -- ---- by 02's words alone: in every list that counts the rows
-configured : (users k : ℕ) (row : List ℕ) → k < length (theRows users) → rowIn (theRows users) k ≡ row → Configures users k row
+pub configured : (users k : ℕ) (row : List ℕ) → k < length (theRows users) → rowIn (theRows users) k ≡ row → Configures users k row
 configured users k row l e = record {
   counted-so = λ rows c. (let s : rows ≡ theRows users = only-one c (counted users) in rw s (l, e));
 }

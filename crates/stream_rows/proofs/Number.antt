@@ -1,6 +1,6 @@
 -- The number of a row: decoding and encoding undo each other, over every number of users.
 use mathlib.Core.Path.{_≡_, refl, sym, _∙_, ap}
-use mathlib.Core.Bool.{Bool, true, false, _&&_}
+use mathlib.Core.Bool.{Bool, true, false}
 use mathlib.Core.List.{List}
 use Prim.Native.Nat.{ℕ, _<_}
 use native.Mathlib.Omega.{arith}
@@ -10,21 +10,13 @@ use lib.Seq.{ext-getD}
 use borrow.Author.Tests.{eq-eqb, eqb-true}
 use Rattle.answer.specs.Every.{every}
 use Rattle.answer.specs.Lists.{at}
-use Rattle.answer.proofs.Every.{every-at, all-every}
+use Rattle.answer.proofs.Every.{both-left, both-right, every-at, all-every}
 use Rattle.answer.proofs.Least.{least-found}
 use Rattle.stream_rows.specs.Rows.{Listed, rowIn}
 use Rattle.stream_rows.specs.Worked.{theRows}
 use Rattle.stream_rows.specs.Result.{same, numberOf}
 use Rattle.stream_rows.proofs.Only.{each-once}
 use Rattle.stream_rows.proofs.Worked.{counted}
-
-pub both-left : (x y : Bool) → x && y ≡ true → x ≡ true
-both-left true y e = refl
-both-left false y e = e
-
-pub both-right : (x y : Bool) → x && y ≡ true → y ≡ true
-both-right true y e = e
-both-right false y e = absurd (let z : _≡_ {A = ℕ} 0 1 = cc in omega arith)
 
 -- ---- rows with the same entries
 same-true : (a b : List ℕ) → same a b ≡ true → a ≡ b

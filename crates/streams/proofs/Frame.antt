@@ -63,7 +63,7 @@ module _ (bw : ℕ) (a b : List ℕ) (e : outcome11 bw a b ≡ Pass) where
   unfolding row rowIn
   row-back = build-cong (valueOf w) (rowAt bw a b) (positions bw) (value-back bw a b known)
 
-  of-eight : SomePlanOfEight r 0 (length r)
+  pub of-eight : SomePlanOfEight r 0 (length r)
   of-eight =
       let f = pass-right (outcome6 bw a b) (planOutcome r) (pass-left _ (outcome9to11 bw a b) (sym (outcome11-stages bw a b) ∙ e)) in
       accepted-plan r (rw f at (outcome-laid r))
@@ -160,7 +160,7 @@ module _ (bw : ℕ) (a b : List ℕ) (x : Answer) (e : outcome11 bw a b ≡ Refu
       first-append (checks11 bw a b) (noRowNamed bw a b ∷ noStreamsRoom bw a b room ∷ [])
       ∙ or-refuse (firstOf (checks11 bw a b)) _ x e
 
-  refused-answer : (room : ℕ) → streamsAnswer bw a b room ≡ x
+  pub refused-answer : (room : ℕ) → streamsAnswer bw a b room ≡ x
   unfolding streamsAnswer
   refused-answer room = rw (stopped room)
 
@@ -169,11 +169,11 @@ module _ (bw : ℕ) (a b : List ℕ) (x : Answer) (e : outcome11 bw a b ≡ Refu
   refused-after d = rw (stopped (length d))
 
 -- ---- with room for 154 words the reader gives 1 to 11
-read-outcome : (bw : ℕ) (a b : List ℕ) → readOutcome bw a b 154 ≡ outcome11 bw a b
+pub read-outcome : (bw : ℕ) (a b : List ℕ) (room : ℕ) → 154 ≤ room → readOutcome bw a b room ≡ outcome11 bw a b
 unfolding check12 noRoom
-read-outcome bw a b =
-    readOutcome-stages bw a b 154
-    ∙ ap (λ (o : Outcome). outcome11 bw a b or o) (if-pass _ _ (le-ltb 154 (wordCount bw a b) (word-count-le bw a b)))
+read-outcome bw a b room l =
+    readOutcome-stages bw a b room
+    ∙ ap (λ (o : Outcome). outcome11 bw a b or o) (if-pass _ _ (le-ltb room (wordCount bw a b) (omega (arith, word-count-le bw a b))))
     ∙ or-end (outcome11 bw a b)
 
 -- what `read` has read into 154 words
@@ -185,7 +185,7 @@ pub record HasRead (bw : ℕ) (a b given now : List ℕ) (x : Answer) : Type 0 w
 module _ {bw : ℕ} {a b given now : List ℕ} {x : Answer} (h : HasRead bw a b given now x) where
   answered : x ≡ answerAt (outcome11 bw a b) (wordCount bw a b)
   unfolding readAnswer
-  answered = h .answers ∙ rw (h .room, read-outcome bw a b)
+  answered = h .answers ∙ rw (h .room, read-outcome bw a b 154 (omega arith))
 
   -- refused: this is the answer, and nothing was written
   pub stays : (x .number ≡ 0 → ⊥) → (d : List ℕ) → (x ≡ streamsAnswer bw a b (length d)) × (d ≡ streamsAfter bw a b d)
@@ -201,7 +201,7 @@ module _ {bw : ℕ} {a b given now : List ℕ} {x : Answer} (h : HasRead bw a b 
   -- accepted: the words that were lent begin with the frame's
   module _ (z : x .number ≡ 0) where
     pub passes : outcome11 bw a b ≡ Pass
-    passes = sym (read-outcome bw a b) ∙ rw (h .room) at (accepted-exactly bw a b (length given) (ap (λ (y : Answer). y .number) (sym (h .answers)) ∙ z))
+    passes = sym (read-outcome bw a b 154 (omega arith)) ∙ rw (h .room) at (accepted-exactly bw a b (length given) (ap (λ (y : Answer). y .number) (sym (h .answers)) ∙ z))
 
     pub place-is : x .place ≡ wordCount bw a b
     place-is = ap (λ (y : Answer). y .place) (answered ∙ ap (λ (o : Outcome). answerAt o (wordCount bw a b)) passes)
@@ -209,7 +209,7 @@ module _ {bw : ℕ} {a b given now : List ℕ} {x : Answer} (h : HasRead bw a b 
     pub words-are : take (x .place) now ≡ wordsOf bw a b
     unfolding wordsAfter
     words-are =
-        rw (place-is, h .leaves, h .room, read-outcome bw a b, passes, ← words-length bw a b) (take-append-seam (wordsOf bw a b) _)
+        rw (place-is, h .leaves, h .room, read-outcome bw a b 154 (omega arith), passes, ← words-length bw a b) (take-append-seam (wordsOf bw a b) _)
 
     pub room-for : x .place ≤ length now
     unfolding wordsAfter
@@ -218,4 +218,4 @@ module _ {bw : ℕ} {a b given now : List ℕ} {x : Answer} (h : HasRead bw a b 
         let e : length (wordsOf bw a b ++ drop (wordCount bw a b) given) ≡ 154 =
         length-append (wordsOf bw a b) (drop (wordCount bw a b) given)
         ∙ omega (arith, words-length bw a b, length-drop (wordCount bw a b) given, h .room) in
-        rw (place-is, h .leaves, h .room, read-outcome bw a b, passes, e) most
+        rw (place-is, h .leaves, h .room, read-outcome bw a b 154 (omega arith), passes, e) most

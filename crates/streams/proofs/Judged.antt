@@ -1,18 +1,22 @@
 -- The answer for a frame's streams is one by the rows 1 to 11, 21 and 23, and a refusal writes nothing.
-use mathlib.Core.Path.{_≡_, refl, _∙_, ap}
-use mathlib.Core.Bool.{true, not}
-use mathlib.Core.List.{List, _∷_}
+use mathlib.Core.Path.{_≡_, refl, sym, _∙_, ap}
+use mathlib.Core.Bool.{true, false, not}
+use mathlib.Core.List.{List, [], _∷_}
 use Prim.Native.Nat.{ℕ}
 use lib.Dec.{ltb}
-use lib.ListN.{length}
+use native.Mathlib.Omega.{arith}
+use borrow.Author.Tests.{not-true, not-false}
+use lib.ListN.{length, List·getD-append}
 use denote.Ref.{now}
 use Rattle.answer.specs.Every.{every}
 use Rattle.answer.specs.Lists.{filled}
-use Rattle.answer.specs.Order.{Judged}
+use Rattle.answer.specs.Order.{firstOf, Judged}
 use Rattle.answer.specs.declared.Answer.{Answer}
 use Rattle.answer.specs.declared.Outcome.the-variants.{Pass}
-use Rattle.answer.proofs.Numbers.{only-if, Gives, none, more, distinct, absent, zero-pass, judged}
-use Rattle.answer.proofs.Order.{after-answered}
+use Rattle.answer.proofs.Numbers.{only-if, Gives, none, more, distinct, absent, zero-pass, number-applies, judged}
+use Rattle.answer.proofs.First.{first-append, pass-first}
+use Rattle.answer.proofs.Order.{after-answered, pass-if, pass-left, pass-right, refuse-if}
+use Rattle.halves.specs.Table.{checks11, outcome11}
 use Rattle.halves.proofs.Exactly.{checks11-then}
 use Rattle.streams.specs.Result.{fields, streamsAt, namedAt, noRowNamed, noStreamsRoom, streamsChecks, streamsNumbers, streamsOutcome, streamsAnswer}
 use Rattle.streams.specs.Result.{streamsAfter}
@@ -37,6 +41,24 @@ module _ (bw : ℕ) (a b : List ℕ) where
   pub accepted-exactly : (room : ℕ) → streamsAnswer bw a b room .number ≡ 0 → streamsOutcome bw a b room ≡ Pass
   unfolding streamsAnswer streamsOutcome
   accepted-exactly room = zero-pass (rows-give room) numbers-distinct (fields bw a b)
+
+  -- what passing says: so does the reading, and every field is named
+  pub passed : (room : ℕ) → streamsOutcome bw a b room ≡ Pass → (outcome11 bw a b ≡ Pass) × (every (namedAt bw a b) (fields bw a b) ≡ true)
+  unfolding streamsOutcome outcome11 noRowNamed firstOf
+  passed room e =
+      let f = sym (first-append (checks11 bw a b) (noRowNamed bw a b ∷ noStreamsRoom bw a b room ∷ [])) ∙ e in (
+        pass-left (firstOf (checks11 bw a b)) _ f,
+        not-false _ (pass-if _ _ (pass-left _ _ (pass-right (firstOf (checks11 bw a b)) _ f))),
+      )
+
+  -- and what 21 says: the reading passes, and not every field is named
+  pub refused-21 : (room : ℕ) → streamsAnswer bw a b room .number ≡ 21 → (outcome11 bw a b ≡ Pass) × (every (namedAt bw a b) (fields bw a b) ≡ false)
+  unfolding streamsAnswer streamsOutcome outcome11 noRowNamed
+  refused-21 room e =
+      let w = number-applies (rows-give room) numbers-distinct (fields bw a b) 11 (omega arith) e in (
+        pass-first (checks11 bw a b) (λ k l. sym (List·getD-append (checks11 bw a b) (noRowNamed bw a b ∷ noStreamsRoom bw a b room ∷ []) Pass k l) ∙ w .nothing-earlier k l),
+        not-true _ (refuse-if _ _ _ (w .refuses) .0),
+      )
 
   pub streams-kept : (d : List ℕ) → (streamsAnswer bw a b (length d) .number ≡ 0 → ⊥) → streamsAfter bw a b d ≡ d
   unfolding streamsAnswer streamsAfter

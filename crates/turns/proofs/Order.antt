@@ -113,7 +113,7 @@ module _ (o : ℕ → ℕ) (row : List ℕ) (s : Signals o (at row) 0 (length ro
       }
 
   -- ---- of an x-th field
-  of-word : (x : ℕ) → x < fieldsIn 1 row + fieldsIn 2 row
+  pub of-word : (x : ℕ) → x < fieldsIn 1 row + fieldsIn 2 row
       → (c : ℕ) × (j : ℕ) × (j < fieldsIn c row) × (wordOf (at row) (length row) c j ≡ x)
   of-word x h =
       ⊎-elim

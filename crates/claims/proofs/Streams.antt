@@ -1,0 +1,233 @@
+-- Spatial streams are as 02 has them.
+use mathlib.Core.Path.{_≡_, refl, sym, _∙_, ap, subst}
+use mathlib.Core.Logic.{⊎-elim, _⊎_, inl, inr, _≢_}
+use mathlib.Core.Bool.{Bool, true, false, cond, not, _||_, true≢false}
+use mathlib.Core.List.{List, [], _∷_}
+use Prim.Native.Nat.{ℕ, zero, suc, _+_, _-_, _≤_, _<_}
+use native.Mathlib.Omega.{arith}
+use borrow.Author.Tests.{lt-ltb, le-ltb, lt-leb, le-leb, eq-eqb, ne-eqb, ltb-true, ltb-false, leb-true, leb-false, eqb-false, not-true, not-false}
+use lib.Dec.{ltb, leb, eqb}
+use lib.ListN.{length, take, drop, getD}
+use Rattle.answer.specs.Answer.{no, refuseIf, _or_, answerAt}
+use Rattle.answer.specs.Every.{every}
+use Rattle.answer.specs.Lists.{at, build}
+use Rattle.answer.specs.declared.Answer.{Answer}
+use Rattle.answer.specs.declared.Outcome.{Outcome}
+use Rattle.answer.specs.declared.Outcome.the-variants.{Pass, Refuse}
+use Rattle.answer.proofs.Every.{every-at, some-fails}
+use Rattle.answer.proofs.Lists.{getD-build, getD-filled, drop-filled}
+use Rattle.answer.proofs.Order.{pass-or-refuse}
+use Rattle.kinds.specs.Signals.{Signals}
+use Rattle.records.specs.declared.Record.{Record}
+use Rattle.records.specs.Records.{recordsOf}
+use Rattle.records.specs.Owns.{fieldsBefore, Owns}
+use Rattle.records.specs.Demand.{resourceIn}
+use Rattle.records.specs.FieldsOf.{fieldsOn, FieldOf, in-1, in-2, wordOf}
+use Rattle.records.proofs.FieldsOf.{owned-below, turns}
+use Rattle.records.proofs.Worked.{worked}
+use Rattle.turns.specs.Turns.{usersOf, turnOf}
+use Rattle.turns.proofs.Order.{turn-is, of-word}
+use Rattle.channel.specs.Layout.{row, count, user, userOf}
+use Rattle.halves.specs.Table.{outcome11}
+use Rattle.frame_words.specs.Words.{wordCount}
+use Rattle.frame_words.proofs.Counts.{row-count-1, row-count-2}
+use Rattle.reader.specs.Result.{readAnswer}
+use Rattle.stream_rows.specs.Rows.{Listed, Before, rowIn, Counted, Configures}
+use Rattle.stream_rows.specs.Worked.{theRows, isListed}
+use Rattle.stream_rows.specs.Result.{not2to8, noRow, rowOutcome, rowAnswer, rowAfter, notRow, numberAnswer}
+use Rattle.stream_rows.proofs.Worked as rows
+use Rattle.stream_rows.proofs.Totals.{row-counts}
+use Rattle.stream_rows.proofs.Count.{is-listed}
+use Rattle.stream_rows.proofs.Judged.{RowPassed, up-to-8}
+use Rattle.stream_rows.proofs.Inverse as inverse
+use Rattle.streams.specs.Streams.{stationIn, nssIn, configurationIn, aloneStreams, sharedStreams, streamsOf, namesNone}
+use Rattle.streams.specs.Result.{fields, fieldAt, streamsAt, namedAt, streamsOutcome, streamsAnswer, streamsAfter}
+use Rattle.faults.proofs.Passing.{of-both}
+use Rattle.streams.proofs.Fields.{named-row}
+use Rattle.streams.proofs.Frame.{known, of-eight, refused-answer, read-outcome}
+use Rattle.streams.proofs.Judged as judged
+use Rattle.claims.specs.Calls.{Call, RowCall, NumberCall, Reads, reads, Puts-row, Gives-number, Gives-streams}
+use Rattle.claims.specs.Streams.{From2To8, rowGiven, Decoding, StreamsOn, NoRow, channelOf, TheField, theResource, byteOf, SignalsRow, PerStation}
+use Rattle.claims.proofs.Given.{row-gives, number-gives, streams-give}
+
+-- ---- rows and numbers
+same-number : {x y : Answer} {n : ℕ} → x ≡ y → x .number ≡ n → y .number ≡ n
+same-number e z = ap (λ (a : Answer). a .number) (sym e) ∙ z
+
+so-many : (users : ℕ) (given : List (List ℕ)) → From2To8 users → Counted users given
+    → length given ≡ getD (10 ∷ 20 ∷ 35 ∷ 49 ∷ 54 ∷ 50 ∷ 41 ∷ []) (users - 2) 0
+so-many users given l c =
+    let e : 2 + (users - 2) ≡ users = omega (arith, l) in
+    ap length (rows.worked users .only given c)
+    ∙ ap (λ (n : ℕ). length (theRows n)) (sym e)
+    ∙ sym (getD-build (λ i. length (theRows (2 + i))) 7 (users - 2) 0 (omega (arith, l)))
+    ∙ ap (λ (v : List ℕ). getD v (users - 2) 0) row-counts
+
+module _ (c : RowCall) (h : Puts-row c) (z : c .answer .number ≡ 0) where
+  accepted : rowAnswer (c .users) (c .number) (length (c .lent)) .number ≡ 0
+  accepted = same-number (row-gives c h .0) z
+
+  passed : RowPassed (c .users) (c .number) (length (c .lent))
+  passed = inverse.row-accepted (c .users) (c .number) (length (c .lent)) accepted
+
+  is-row : rowGiven c ≡ rowIn (theRows (c .users)) (c .number)
+  is-row = ap (take (c .users)) (row-gives c h .1) ∙ inverse.row-written (c .users) (c .number) (c .lent) passed
+
+each-given : (users : ℕ) (listed : List ℕ) → From2To8 users → Listed users listed
+    → (k : ℕ) × ((c : RowCall) → Puts-row c → c .users ≡ users → c .number ≡ k → users ≤ length (c .lent)
+    → (c .answer ≡ no 0 0 users) × (rowGiven c ≡ listed))
+each-given users listed l w =
+    let n = rows.counted users .all listed w in (
+      n .0,
+      λ c h e f m.
+          let g = row-gives c h in
+          let p : RowPassed users (n .0) (length (c .lent)) = record { from-2 = l .0; to-8 = l .1; numbered = n .1; room = m } in
+          let a : c .answer ≡ no 0 0 users = g .0 ∙ rw (e, f) (inverse.row-answered users (n .0) (c .lent) p) in
+          let b : rowGiven c ≡ listed = rw (g .1, e, f) (inverse.row-written users (n .0) (c .lent) p ∙ n .2) in
+          (a, b),
+    )
+
+in-order : (c c′ : RowCall) → Puts-row c → Puts-row c′ → c .answer .number ≡ 0 → c′ .answer .number ≡ 0 → c .users ≡ c′ .users
+    → c .number < c′ .number → Before (rowGiven c) (rowGiven c′)
+in-order c c′ h h′ z z′ e l =
+    let a = is-row c h z in
+    let b = is-row c′ h′ z′ in
+    rw (a, b, e) (rows.counted (c′ .users) .ordered (c .number) (c′ .number) l (passed c′ h′ z′ .numbered))
+
+-- ---- 21
+is-21 : (users number n : ℕ) → not2to8 users || leb (length (theRows users)) number ≡ true → rowAnswer users number n ≡ no 21 0 0
+unfolding rowAnswer rowOutcome noRow _or_
+is-21 users number n e = rw e
+
+refused-row : (c : RowCall) → Puts-row c
+    → ((given : List (List ℕ)) → From2To8 (c .users) → Counted (c .users) given → length given ≤ c .number) → c .answer ≡ no 21 0 0
+refused-row c h past = row-gives c h .0 ∙ is-21 (c .users) (c .number) (length (c .lent)) (test (not2to8 (c .users)) refl)
+  where
+    test : (t : Bool) → not2to8 (c .users) ≡ t → not2to8 (c .users) || leb (length (theRows (c .users))) (c .number) ≡ true
+    test true e = rw e
+    test false e = rw (e, le-leb (length (theRows (c .users))) (c .number) (past (theRows (c .users)) (up-to-8 (c .users) e) (rows.counted (c .users))))
+
+refused-number : (d : NumberCall) → Gives-number d → (From2To8 (length (d .row)) → Listed (length (d .row)) (d .row) → ⊥) → d .answer ≡ no 21 0 0
+unfolding numberAnswer notRow
+refused-number d h none = number-gives d h ∙ go (not2to8 (length (d .row))) (isListed (d .row)) refl refl
+  where
+    go : (t u : Bool) → not2to8 (length (d .row)) ≡ t → isListed (d .row) ≡ u → numberAnswer (d .row) ≡ no 21 0 0
+    go true u e f = rw e
+    go false true e f = absurd (none (up-to-8 (length (d .row)) e) (is-listed (d .row) .yes f))
+    go false false e f = rw (e, f)
+
+pub decoding : Decoding
+decoding = record {
+  counted = λ users. (theRows users, rows.worked users .counted, rows.worked users .only);
+  so-many = so-many;
+  decodes = λ c h z. (
+    (passed c h z .from-2, passed c h z .to-8),
+    rw (row-gives c h .1) (inverse.row-configured (c .users) (c .number) (c .lent) (accepted c h z)),
+  );
+  past-kept = λ c h z. rw (row-gives c h .1) (inverse.past-kept (c .users) (c .number) (c .lent) (passed c h z));
+  each-listed = λ c h z. rw (is-row c h z) (rows.counted (c .users) .listed (c .number) (passed c h z .numbered));
+  each-given = each-given;
+  in-order = in-order;
+  encoding-undoes = λ c d h g z e.
+      number-gives d g ∙ rw (e, row-gives c h .1) (inverse.encodes-back (c .users) (c .number) (c .lent) (accepted c h z));
+  decoding-undoes = λ d c g h z e f m.
+      let w = number-gives d g in
+      let x = row-gives c h in
+      let n : c .number ≡ numberAnswer (d .row) .place = f ∙ ap (λ (y : Answer). y .place) w in
+      let b = inverse.decodes-back (d .row) (c .lent) (same-number w z) (rw e at m) in
+      (x .0 ∙ rw (e, n) (b .0), rw (x .1, e, n) (b .1));
+  row-refused = λ c h z l given k. inverse.row-21 (c .users) (c .number) (length (c .lent)) given (same-number (row-gives c h .0) z) (l .0) (l .1) k;
+  refused-row = refused-row;
+  number-refused = λ d g z l w. inverse.number-21 (d .row) (same-number (number-gives d g) z) (l .0) (l .1) w;
+  refused-number = refused-number;
+}
+
+-- ---- the streams of a User field
+streams-on : (x : Record) (t f v : ℕ) → v ≡ streamsOf (fieldsOn x) t f → namesNone (fieldsOn x) f ≡ false → StreamsOn x t f v
+unfolding streamsOf aloneStreams sharedStreams
+streams-on x t f v g e = record {
+  nobodys = λ n. g ∙ rw (eq-eqb (stationIn f) 2046 n);
+  alone = λ n l k. g ∙ rw (ne-eqb (stationIn f) 2046 n, lt-ltb (fieldsOn x) 2 l, lt-ltb (nssIn f) 8 k);
+  not-known = λ n l k. g ∙ rw (ne-eqb (stationIn f) 2046 n, lt-ltb (fieldsOn x) 2 l, le-ltb (nssIn f) 8 k);
+  shared = λ n l. (
+    rowIn (theRows (fieldsOn x)) (configurationIn f),
+    inverse.configured (fieldsOn x) (configurationIn f) _ (named-row (fieldsOn x) f e n l) refl,
+    g ∙ rw (ne-eqb (stationIn f) 2046 n, le-ltb (fieldsOn x) 2 l),
+  );
+}
+
+-- 21 of a field is by 02's words
+none-named : (x : Record) (f : ℕ) → namesNone (fieldsOn x) f ≡ true → NoRow x f
+unfolding namesNone
+none-named x f e =
+    let a = of-both (not (eqb (stationIn f) 2046)) _ e in
+    let b = of-both (leb 2 (fieldsOn x)) _ (a .1) in
+    record {
+      somebodys = eqb-false (stationIn f) 2046 (not-true _ (a .0));
+      is-shared = leb-true 2 (fieldsOn x) (b .0);
+      past-last = λ given c.
+          rw (rows.worked (fieldsOn x) .only given c) (leb-true (length (theRows (fieldsOn x))) (configurationIn f) (b .1));
+    }
+
+named-none : (x : Record) (f : ℕ) → NoRow x f → namesNone (fieldsOn x) f ≡ true
+unfolding namesNone
+named-none x f n =
+    rw (
+      ne-eqb (stationIn f) 2046 (n .somebodys),
+      le-leb 2 (fieldsOn x) (n .is-shared),
+      le-leb (length (theRows (fieldsOn x))) (configurationIn f) (n .past-last (theRows (fieldsOn x)) (rows.counted (fieldsOn x))),
+    )
+
+-- ---- a field of a frame by its resource, in any plan that signals the row
+module _ (bw : ℕ) (a b : List ℕ) (e : outcome11 bw a b ≡ Pass) (o : ℕ → ℕ) (s : Signals o (at (row bw a b)) 0 (length (row bw a b))) where
+  abbrev r : List ℕ
+  r = row bw a b
+
+  abbrev number : ℕ → ℕ → ℕ
+  number n j = wordOf (at r) (length r) n j
+
+  abbrev resource : ℕ → Record
+  resource i = resourceIn (recordsOf o r) i
+
+  abbrev bits : ℕ → ℕ → ℕ
+  bits n j = user bw (cond (eqb n 1) a b) j
+
+  owns-it : (i t n j : ℕ) → FieldOf o (at r) (length r) i t n j → Owns o (at r) (length r) i n j
+  owns-it i t n j (in-1 x w k) = w
+  owns-it i t n j (in-2 x m m′ w k l f) = w
+
+  -- it is one of the frame's, and its bits are those of its word's number
+  of-frame : (i t n j : ℕ) → FieldOf o (at r) (length r) i t n j → (number n j < fields bw a b) × (fieldAt bw a b (number n j) ≡ bits n j)
+  unfolding userOf
+  of-frame i t n j (in-1 x w k) =
+      let l : x < count bw 1 a = omega (arith, owned-below o (at r) (length r) i 1 x w, row-count-1 bw a b (known bw a b e)) in
+      (omega arith, rw (lt-ltb x (count bw 1 a) l))
+  of-frame i t n j (in-2 x m m′ w k l f) =
+      let c : fieldsBefore 1 (at r) (length r) ≡ count bw 1 a = row-count-1 bw a b (known bw a b e) in
+      let d : x < count bw 2 b = omega (arith, owned-below o (at r) (length r) i 2 x w, row-count-2 bw a b (known bw a b e)) in
+      let g : count bw 1 a + x - count bw 1 a ≡ x = omega arith in
+      (omega arith, rw (c, le-ltb (count bw 1 a + x) (count bw 1 a) (omega arith), g))
+
+  module _ (i t n j : ℕ) (w : FieldOf o (at r) (length r) i t n j) where
+    turn : turnOf r (number n j) ≡ t
+    turn = turns o (at r) (length r) s .one-turn i _ t n j (turn-is o r s i n j (owns-it i t n j w) .turn) w
+
+    users : usersOf r (number n j) ≡ fieldsOn (resource i)
+    users = turn-is o r s i n j (owns-it i t n j w) .users
+
+    pub streams-same : streamsAt bw a b (number n j) ≡ streamsOf (fieldsOn (resource i)) t (bits n j)
+    unfolding streamsAt
+    streams-same = rw (turn, users, of-frame i t n j w .1)
+
+    pub named-same : namedAt bw a b (number n j) ≡ not (namesNone (fieldsOn (resource i)) (bits n j))
+    unfolding namedAt
+    named-same = rw (users, of-frame i t n j w .1)
+
+  -- and each of the frame's fields is one of a resource's
+  pub field-of : (x : ℕ) → x < fields bw a b
+      → (i : ℕ) × (t : ℕ) × (n : ℕ) × (j : ℕ) × FieldOf o (at r) (length r) i t n j × (number n j ≡ x)
+  field-of x h =
+      let v = of-word o r s x (omega (arith, row-count-1 bw a b (known bw a b e), row-count-2 bw a b (known bw a b e))) in
+      let k = worked o r s (v .0) (v .1) (v .2) in
+      let f = turns o (at r) (length r) s .each-owned _ (v .0) (v .1) (k .owns) in
+      (_, f .0, v .0, v .1, f .1, v .3)
