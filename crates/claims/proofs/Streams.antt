@@ -1,16 +1,16 @@
 -- Spatial streams are as 02 has them.
-use mathlib.Core.Path.{_≡_, refl, sym, _∙_, ap, subst}
-use mathlib.Core.Logic.{⊎-elim, _⊎_, inl, inr, _≢_}
+use mathlib.Core.Path.{_≡_, refl, sym, _∙_, ap}
+use mathlib.Core.Logic.{_⊎_, inl, inr, _≢_}
 use mathlib.Core.Bool.{Bool, true, false, cond, not, _||_, true≢false}
 use mathlib.Core.List.{List, [], _∷_}
-use Prim.Native.Nat.{ℕ, zero, suc, _+_, _-_, _≤_, _<_}
+use Prim.Native.Nat.{ℕ, _+_, _-_, _≤_, _<_}
 use native.Mathlib.Omega.{arith}
-use borrow.Author.Tests.{lt-ltb, le-ltb, lt-leb, le-leb, eq-eqb, ne-eqb, ltb-true, ltb-false, leb-true, leb-false, eqb-false, not-true, not-false}
-use lib.Dec.{ltb, leb, eqb}
-use lib.ListN.{length, take, drop, getD}
-use Rattle.answer.specs.Answer.{no, refuseIf, _or_, answerAt}
+use borrow.Author.Tests.{lt-ltb, le-ltb, le-leb, eq-eqb, ne-eqb, leb-true, eqb-false, not-true, not-false}
+use lib.Dec.{leb, eqb}
+use lib.ListN.{length, take, getD}
+use Rattle.answer.specs.Answer.{no, _or_, answerAt}
 use Rattle.answer.specs.Every.{every}
-use Rattle.answer.specs.Lists.{at, build}
+use Rattle.answer.specs.Lists.{at, filled}
 use Rattle.answer.specs.declared.Answer.{Answer}
 use Rattle.answer.specs.declared.Outcome.{Outcome}
 use Rattle.answer.specs.declared.Outcome.the-variants.{Pass, Refuse}
@@ -32,9 +32,9 @@ use Rattle.halves.specs.Table.{outcome11}
 use Rattle.frame_words.specs.Words.{wordCount}
 use Rattle.frame_words.proofs.Counts.{row-count-1, row-count-2}
 use Rattle.reader.specs.Result.{readAnswer}
-use Rattle.stream_rows.specs.Rows.{Listed, Before, rowIn, Counted, Configures}
+use Rattle.stream_rows.specs.Rows.{Listed, Before, rowIn, Counted}
 use Rattle.stream_rows.specs.Worked.{theRows, isListed}
-use Rattle.stream_rows.specs.Result.{not2to8, noRow, rowOutcome, rowAnswer, rowAfter, notRow, numberAnswer}
+use Rattle.stream_rows.specs.Result.{not2to8, noRow, rowOutcome, rowAnswer, notRow, numberAnswer}
 use Rattle.stream_rows.proofs.Worked as rows
 use Rattle.stream_rows.proofs.Totals.{row-counts}
 use Rattle.stream_rows.proofs.Count.{is-listed}
@@ -231,3 +231,96 @@ module _ (bw : ℕ) (a b : List ℕ) (e : outcome11 bw a b ≡ Pass) (o : ℕ �
       let k = worked o r s (v .0) (v .1) (v .2) in
       let f = turns o (at r) (length r) s .each-owned _ (v .0) (v .1) (k .owns) in
       (_, f .0, v .0, v .1, f .1, v .3)
+
+-- ---- an accepted call
+module _ (c : Call) (h : Gives-streams c) where
+  abbrev bw : ℕ
+  bw = c .bandwidth
+
+  abbrev a : List ℕ
+  a = c .channel-1
+
+  abbrev b : List ℕ
+  b = c .channel-2
+
+  module _ (z : c .answer .number ≡ 0) where
+    every-row-passes : streamsOutcome bw a b (length (c .lent)) ≡ Pass
+    every-row-passes = judged.accepted-exactly bw a b (length (c .lent)) (same-number (streams-give c h .0) z)
+
+    reading-passes : outcome11 bw a b ≡ Pass
+    reading-passes = judged.passed bw a b (length (c .lent)) every-row-passes .0
+
+    all-named : every (namedAt bw a b) (fields bw a b) ≡ true
+    all-named = judged.passed bw a b (length (c .lent)) every-row-passes .1
+
+    one-each : c .answer ≡ no 0 0 (fields bw a b)
+    unfolding streamsAnswer
+    one-each = streams-give c h .0 ∙ rw every-row-passes
+
+    after-is : c .after ≡ filled (streamsAt bw a b) (fields bw a b) (c .lent)
+    unfolding streamsAfter
+    after-is = streams-give c h .1 ∙ rw every-row-passes
+
+    -- a field of a resource, in a plan that signals the row
+    module _ (o : ℕ → ℕ) (s : SignalsRow c o) (i t n j : ℕ) (w : TheField c o i t n j) where
+      inside : byteOf c n j < fields bw a b
+      inside = of-frame bw a b reading-passes o s i t n j w .0
+
+      is-named : namesNone (fieldsOn (theResource c o i)) (user bw (channelOf c n) j) ≡ false
+      is-named =
+          not-true _
+          (sym (named-same bw a b reading-passes o s i t n j w) ∙ every-at (namedAt bw a b) (fields bw a b) all-named (byteOf c n j) inside)
+
+      its-streams : StreamsOn (theResource c o i) t (user bw (channelOf c n) j) (at (c .after) (byteOf c n j))
+      its-streams =
+          streams-on (theResource c o i) t (user bw (channelOf c n) j) _
+          (ap (λ (v : List ℕ). at v (byteOf c n j)) after-is
+          ∙ getD-filled (streamsAt bw a b) (fields bw a b) (c .lent) (byteOf c n j) 0 inside
+          ∙ streams-same bw a b reading-passes o s i t n j w)
+          is-named
+
+      has-row : NoRow (theResource c o i) (user bw (channelOf c n) j) → ⊥
+      has-row v = true≢false (sym (named-none (theResource c o i) (user bw (channelOf c n) j) v) ∙ is-named)
+
+  -- ---- 21
+  some-field : c .answer .number ≡ 21 → (o : ℕ → ℕ) → SignalsRow c o
+      → (i : ℕ) × (t : ℕ) × (n : ℕ) × (j : ℕ) × TheField c o i t n j × NoRow (theResource c o i) (user bw (channelOf c n) j)
+  some-field z o s =
+      let q = judged.refused-21 bw a b (length (c .lent)) (same-number (streams-give c h .0) z) in
+      let x = some-fails (namedAt bw a b) (fields bw a b) (q .1) in
+      let f = field-of bw a b (q .0) o s (x .0) (x .1) in
+      let w = f .4 in
+      let e : namedAt bw a b (byteOf c (f .2) (f .3)) ≡ false = ap (namedAt bw a b) (f .5) ∙ x .2 in
+      (f .0, f .1, f .2, f .3, w, none-named _ _ (not-false _ (sym (named-same bw a b (q .0) o s (f .0) (f .1) (f .2) (f .3) w) ∙ e)))
+
+-- ---- 1 to 11
+read-answers : (d : Call) → Reads d → d .answer ≡ readAnswer (d .bandwidth) (d .channel-1) (d .channel-2) (length (d .lent))
+read-answers d (reads κs a r s p) = p .0
+
+as-read : (c d : Call) → Gives-streams c → Reads d → d .bandwidth ≡ c .bandwidth → d .channel-1 ≡ c .channel-1 → d .channel-2 ≡ c .channel-2
+    → 154 ≤ length (d .lent) → d .answer .number ≢ 0 → c .answer ≡ d .answer
+unfolding readAnswer
+as-read c d h k e f g l n = go (pass-or-refuse (outcome11 (c .bandwidth) (c .channel-1) (c .channel-2)))
+  where
+    answered : d .answer ≡ answerAt (outcome11 (c .bandwidth) (c .channel-1) (c .channel-2)) (wordCount (c .bandwidth) (c .channel-1) (c .channel-2))
+    answered = read-answers d k ∙ rw (e, f, g, read-outcome (c .bandwidth) (c .channel-1) (c .channel-2) (length (d .lent)) l)
+
+    go : (outcome11 (c .bandwidth) (c .channel-1) (c .channel-2) ≡ Pass)
+        ⊎ ((y : Answer) × (outcome11 (c .bandwidth) (c .channel-1) (c .channel-2) ≡ Refuse y)) → c .answer ≡ d .answer
+    go (inl p) = absurd (n (ap (λ (x : Answer). x .number) (answered ∙ ap (λ (x : Outcome). answerAt x (wordCount (c .bandwidth) (c .channel-1) (c .channel-2))) p)))
+    go (inr (y, q)) =
+        streams-give c h .0
+        ∙ refused-answer (c .bandwidth) (c .channel-1) (c .channel-2) y q (length (c .lent))
+        ∙ sym (answered ∙ ap (λ (x : Outcome). answerAt x (wordCount (c .bandwidth) (c .channel-1) (c .channel-2))) q)
+
+pub per-station : PerStation
+per-station = record {
+  one-each = one-each;
+  past-kept = λ c h z.
+      rw (after-is c h z) (drop-filled (streamsAt (c .bandwidth) (c .channel-1) (c .channel-2)) (fields (c .bandwidth) (c .channel-1) (c .channel-2)) (c .lent));
+  a-plan = λ c h z. of-eight (c .bandwidth) (c .channel-1) (c .channel-2) (reading-passes c h z);
+  the-streams = its-streams;
+  refused-21 = some-field;
+  none-accepted = has-row;
+  as-read = as-read;
+}

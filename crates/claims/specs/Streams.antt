@@ -16,7 +16,6 @@ use lib.Dec.{eqb}
 use lib.ListN.{length, take, drop, getD}
 use Rattle.answer.specs.Answer.{no}
 use Rattle.answer.specs.Lists.{at}
-use Rattle.answer.specs.declared.Answer.{Answer}
 use Rattle.kinds.specs.Signals.{Signals}
 use Rattle.plan.specs.Answers.{SomePlanOfEight}
 use Rattle.records.specs.declared.Record.{Record}
@@ -24,7 +23,7 @@ use Rattle.records.specs.Records.{recordsOf}
 use Rattle.records.specs.Demand.{resourceIn}
 use Rattle.records.specs.FieldsOf.{fieldsOn, FieldOf, wordOf}
 use Rattle.channel.specs.Layout.{row, user}
-use Rattle.stream_rows.specs.Rows.{Listed, Before, rowIn, Counted, Configures}
+use Rattle.stream_rows.specs.Rows.{Listed, Before, Counted, Configures}
 use Rattle.streams.specs.Streams.{stationIn, nssIn, configurationIn}
 use Rattle.streams.specs.Result.{fields}
 use Rattle.claims.specs.Calls.{Call, RowCall, NumberCall, Reads, Puts-row, Gives-number, Gives-streams}

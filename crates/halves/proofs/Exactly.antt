@@ -1,10 +1,9 @@
 -- "given exactly when (nothing earlier applies)": each number of 01's table, with its channel and place.
 use mathlib.Core.Path.{_≡_, refl, sym, _∙_, ap}
 use mathlib.Core.Bool.{Bool, true, false, cond}
-use mathlib.Core.List.{List, [], _∷_, _++_}
-use Prim.Native.Nat.{ℕ, _+_, _-_, _/_}
+use mathlib.Core.List.{List, _∷_, _++_}
+use Prim.Native.Nat.{ℕ, _+_, _-_}
 use lib.Dec.{ltb}
-use lib.ListN.{length}
 use Rattle.answer.specs.Answer.{no}
 use Rattle.answer.proofs.Numbers.{Only, only-if, only-or, Gives, more}
 use Rattle.answer.proofs.Order.{refuse-if}

@@ -1,5 +1,5 @@
 -- What is judged of the User fields: a shared field of somebody's that is not refused names a row; 21 and 23.
-use mathlib.Core.Path.{_≡_, refl, _∙_}
+use mathlib.Core.Path.{_≡_, _∙_}
 use mathlib.Core.Bool.{Bool, true, false, not}
 use mathlib.Core.List.{List}
 use Prim.Native.Nat.{ℕ, _≤_, _<_}

@@ -1,17 +1,14 @@
 -- What the code makes of an accepted frame's words is what 02 asks of the frame.
-use mathlib.Core.Path.{_≡_, refl, sym, _∙_, ap}
+use mathlib.Core.Path.{_≡_, sym, _∙_, ap}
 use mathlib.Core.Logic.{⊎-elim, _⊎_, inl, inr}
-use mathlib.Core.Bool.{Bool, not, _&&_}
 use mathlib.Core.List.{List, [], _∷_, _++_}
-use Prim.Native.Nat.{ℕ, zero, suc, _+_, _-_, _*_, _/_, _%_, _≤_, _<_}
+use Prim.Native.Nat.{ℕ, _+_, _-_, _*_, _/_, _%_, _≤_, _<_}
 use native.Mathlib.Omega.{arith}
 use borrow.Author.Tests.{lt-ltb, le-ltb}
-use lib.Dec.{ltb}
 use lib.ListN.{length, replicate, take, drop, length-append, length-drop}
 use lib.Seq.{getD-drop, take-append-seam}
-use Rattle.answer.specs.Answer.{no, refuseIf, _or_, answerAt, after}
-use Rattle.answer.specs.Every.{every}
-use Rattle.answer.specs.Lists.{at, build, filled}
+use Rattle.answer.specs.Answer.{_or_, answerAt}
+use Rattle.answer.specs.Lists.{at}
 use Rattle.answer.specs.Order.{firstOf}
 use Rattle.answer.specs.declared.Answer.{Answer}
 use Rattle.answer.specs.declared.Outcome.{Outcome}
@@ -21,10 +18,8 @@ use Rattle.answer.proofs.First.{first-append}
 use Rattle.answer.proofs.Lists.{build-cong, getD-filled, filled-cong}
 use Rattle.answer.proofs.Order.{or-end, or-next, or-refuse, pass-left, pass-right, pass-or-refuse, if-pass}
 use Rattle.resource.proofs.Test.{below-or}
-use Rattle.kinds.specs.Signals.{Signals}
-use Rattle.kinds.specs.Fields.{Eight}
-use Rattle.plan.specs.Answers.{Laid, SomePlanOfEight}
-use Rattle.plan.specs.Engine.{onlyPlan, planOutcome}
+use Rattle.plan.specs.Answers.{SomePlanOfEight}
+use Rattle.plan.specs.Engine.{planOutcome}
 use Rattle.plan.proofs.Laid.{outcome-laid}
 use Rattle.plan.proofs.Demand.{accepted-plan}
 use Rattle.turns.specs.Turns.{fieldsIn, usersOf, turnOf}
@@ -44,7 +39,6 @@ use Rattle.reader.specs.Table.{noRoom, check12, readOutcome}
 use Rattle.reader.specs.Result.{readAnswer, wordsAfter}
 use Rattle.reader.proofs.Stages.{readOutcome-stages}
 use Rattle.reader.proofs.Exactly.{accepted-exactly}
-use Rattle.streams.specs.Streams.{streamsOf, namesNone}
 use Rattle.streams.specs.Engine.{Coded, namedIn, streamsIn, allNamed, outcomeIn, answerIn, afterIn, codesOf, rowIn, Worded, wordsAnswer, wordsStreams}
 use Rattle.streams.specs.Result.{fields, fieldAt, streamsAt, namedAt, noRowNamed, noStreamsRoom, streamsOutcome, streamsAnswer, streamsAfter}
 

@@ -1,9 +1,9 @@
 -- The row and the User words as parts of what the code holds.
-use mathlib.Core.Path.{_≡_, _∙_, ap}
+use mathlib.Core.Path.{_≡_}
 use mathlib.Core.List.{List}
 use Prim.Native.Nat.{ℕ}
 use lib.ListN.{length, replicate, take}
-use Rattle.answer.specs.Lists.{build, filled}
+use Rattle.answer.specs.Lists.{filled}
 use Rattle.answer.proofs.Lists.{take-filled, length-build}
 use Rattle.channel.specs.Layout.{positions}
 use Rattle.words.specs.Engine.{valueOf}

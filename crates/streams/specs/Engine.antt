@@ -1,7 +1,6 @@
 -- Engine: what the code holds of each User field, and what it makes of it. The contracts of the code cite it; nobody has to believe it:
 -- `proofs/Frame.antt`.
-use mathlib.Core.Path.{_≡_}
-use mathlib.Core.Bool.{Bool, true, not}
+use mathlib.Core.Bool.{Bool, not}
 use mathlib.Core.List.{List}
 use Prim.Native.Nat.{ℕ, _+_, _/_, _%_, _≤_, _<_}
 use lib.Dec.{ltb}

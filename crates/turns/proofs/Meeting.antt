@@ -1,18 +1,16 @@
 -- The fields that a loop has met, by their owners: how many each resource has so far, and which of them the next one is.
 use mathlib.Core.Path.{_≡_, refl, sym, _∙_, ap}
 use mathlib.Core.Logic.{⊎-elim, _≢_}
-use mathlib.Core.Bool.{false, cond}
 use mathlib.Core.List.{List}
-use Prim.Native.Nat.{ℕ, _+_, _*_, _≤_, _<_}
+use Prim.Native.Nat.{ℕ, _+_, _≤_, _<_}
 use native.Mathlib.Numerals.{add-one}
 use native.Mathlib.Omega.{arith}
 use borrow.Author.Tests.{eq-eqb, ne-eqb}
 use lib.Dec.{eqb}
-use lib.ListN.{length, replicate, set, length-set, getD, drop}
+use lib.ListN.{length, replicate, set, length-set}
 use lib.Seq.{getD-set-same, getD-set-other}
-use Rattle.answer.specs.Lists.{at, build, filled}
-use Rattle.answer.specs.Tally.{tally}
-use Rattle.answer.proofs.Lists.{length-build, build-cong, getD-build, build-is, getD-filled, drop-filled}
+use Rattle.answer.specs.Lists.{at, build}
+use Rattle.answer.proofs.Lists.{length-build, getD-build, build-is}
 use Rattle.answer.proofs.Tally.{tally-le}
 use Rattle.kinds.proofs.Tests.{equal-or}
 use Rattle.turns.specs.Engine.{having}

@@ -1,7 +1,6 @@
 -- The owners that the code holds are those of the row's plan, and what it makes of them is which of its resource's fields each is, and of how many.
-use mathlib.Core.Path.{_≡_, sym, _∙_, ap}
+use mathlib.Core.Path.{_≡_, _∙_, ap}
 use mathlib.Core.Logic.{⊎-elim}
-use mathlib.Core.Bool.{Bool}
 use mathlib.Core.List.{List, _++_}
 use Prim.Native.Nat.{ℕ, _+_, _-_, _*_, _≤_, _<_}
 use native.Mathlib.Omega.{arith}
@@ -20,7 +19,7 @@ use Rattle.records.specs.Worked.{theOwner}
 use Rattle.records.proofs.Listing.{records-most}
 use Rattle.records.proofs.Entering.{few-fields}
 use Rattle.records.proofs.Worked.{worked}
-use Rattle.turns.specs.Turns.{fieldsIn, ownerIn, ownedBy, usersOf, turnOf}
+use Rattle.turns.specs.Turns.{fieldsIn, ownerIn, usersOf, turnOf}
 use Rattle.turns.specs.Engine.{among, having, Numbered, Few, turnCode}
 use Rattle.turns.proofs.Meeting.{met-few}
 

@@ -1,6 +1,5 @@
 -- Engine: how the code holds the owners of the fields, and what it hands on of each. The contracts of the code cite it; nobody has to believe it:
 -- `proofs/Owned.antt`.
-use mathlib.Core.Path.{_≡_}
 use mathlib.Core.Bool.{cond}
 use mathlib.Core.List.{List}
 use Prim.Native.Nat.{ℕ, _+_, _-_, _*_, _≤_, _<_}

@@ -1,12 +1,10 @@
 -- `streams::answer_words` meets its contract.
 use borrow.Author.Needs.{needs}
-use mathlib.Core.Path.{_≡_, sym, _∙_, ap}
-use mathlib.Core.List.{List}
 use native.Mathlib.Omega.{arith}
 use Prim.Native.Nat.{_≤_}
-use lib.ListN.{length, take, drop, length-drop}
+use lib.ListN.{length, drop, length-drop}
 use Rattle.answer.proofs.Grow.{part-tail}
-use Rattle.streams.specs.Engine.{rowIn, wordsAnswer, wordsStreams}
+use Rattle.streams.specs.Engine.{wordsAnswer, wordsStreams}
 use Rattle.streams.proofs.Words.{front-row, front-length}
 use Rattle.streams.proofs.answer_words.Statement.{statement}
 use Rattle.streams.proofs.answer_words.Tie as tie

@@ -1,14 +1,14 @@
 -- `streams::put_streams` meets its contract.
 use borrow.Author.Needs.{needs}
-use mathlib.Core.Path.{_≡_, refl, _∙_, ap}
-use mathlib.Core.Bool.{Bool, true, false, not}
+use mathlib.Core.Path.{_≡_, refl}
+use mathlib.Core.Bool.{true, false}
 use mathlib.Core.List.{List}
 use Prim.Native.Nat.{ℕ, _+_, _-_, _/_, _≤_, _<_}
 use native.Mathlib.Omega.{arith}
 use lib.ListN.{length, set, length-set}
 use Rattle.answer.specs.Lists.{at, filled}
 use Rattle.words.specs.Engine.{userField}
-use Rattle.answer.proofs.Lists.{filled-start, filled-step, filled-length}
+use Rattle.answer.proofs.Lists.{filled-start, filled-step}
 use Rattle.answer.proofs.Every.{every-at}
 use borrow.Author.Tests.{not-true}
 use Rattle.streams.specs.Streams.{namesNone}

@@ -1,9 +1,9 @@
 -- `streams::row_in` meets its contract.
 use borrow.Author.Needs.{needs}
-use mathlib.Core.Path.{_≡_, refl}
+use mathlib.Core.Path.{_≡_}
 use Prim.Native.Nat.{ℕ, _-_, _≤_}
 use native.Mathlib.Omega.{arith}
-use lib.ListN.{length, replicate, length-replicate}
+use lib.ListN.{replicate, length-replicate}
 use Rattle.answer.specs.Lists.{filled}
 use Rattle.answer.proofs.Lists.{filled-start, filled-step}
 use Rattle.words.specs.Engine.{valueOf}

@@ -1,8 +1,7 @@
 -- `streams::streams_through` meets its contract.
 use borrow.Author.Needs.{needs}
-use mathlib.Core.Path.{_≡_, sym, _∙_, ap}
-use native.Mathlib.Omega.{arith}
-use lib.ListN.{length, take}
+use mathlib.Core.Path.{sym, _∙_}
+use lib.ListN.{length}
 use lib.Seq.{length-take-le}
 use Rattle.streams.proofs.Frame.{HasRead, known, worded, answer-words, words-streams, stays, passes, words-are, room-for}
 use Rattle.streams.proofs.streams_through.Statement.{statement}

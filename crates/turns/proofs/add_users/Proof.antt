@@ -1,13 +1,12 @@
 -- `turns::add_users` meets its contract.
 use borrow.Author.Needs.{needs}
 use mathlib.Core.List.{List}
-use mathlib.Core.Path.{_≡_, refl, sym, _∙_, ap}
+use mathlib.Core.Path.{_≡_, refl}
 use Prim.Native.Nat.{ℕ, _+_, _*_, _-_, _≤_, _<_}
 use native.Mathlib.Omega.{arith}
-use lib.ListN.{length, length-set}
-use Rattle.answer.specs.Lists.{at, build, filled}
-use Rattle.answer.proofs.Lists.{filled-start, filled-step, filled-length, getD-kept}
-use Rattle.turns.specs.Engine.{among, having}
+use Rattle.answer.specs.Lists.{at, filled}
+use Rattle.answer.proofs.Lists.{filled-start, filled-step, getD-kept}
+use Rattle.turns.specs.Engine.{among}
 use Rattle.turns.proofs.add_users.Statement.{statement}
 use Rattle.turns.proofs.add_users.Tie as tie
 

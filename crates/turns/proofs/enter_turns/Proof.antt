@@ -1,12 +1,10 @@
 -- `turns::enter_turns` meets its contract.
 use borrow.Author.Needs.{needs}
-use mathlib.Core.Path.{_≡_, refl, sym, _∙_, ap}
-use mathlib.Core.List.{List}
-use Prim.Native.Nat.{ℕ, _-_, _≤_}
+use mathlib.Core.Path.{_≡_, _∙_}
+use Prim.Native.Nat.{_-_, _≤_}
 use native.Mathlib.Omega.{arith}
-use lib.ListN.{length, length-set}
-use Rattle.answer.specs.Lists.{at, build, filled}
-use Rattle.answer.proofs.Lists.{length-build, getD-build, filled-start, filled-step, filled-length}
+use Rattle.answer.specs.Lists.{build, filled}
+use Rattle.answer.proofs.Lists.{filled-start, filled-step}
 use Rattle.turns.specs.Engine.{among, having}
 use Rattle.turns.proofs.Meeting.{met-none, met-is, met-next, met-few}
 use Rattle.turns.proofs.enter_turns.Statement.{statement}

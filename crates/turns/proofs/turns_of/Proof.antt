@@ -1,8 +1,6 @@
 -- `turns::turns_of` meets its contract.
 use borrow.Author.Needs.{needs}
-use mathlib.Core.Path.{_≡_, refl, sym, _∙_, ap}
-use Prim.Native.Nat.{_<_}
-use Rattle.turns.specs.Engine.{among}
+use mathlib.Core.Path.{refl}
 use Rattle.turns.proofs.Owned.{room, numbered, held-few, made}
 use Rattle.turns.proofs.turns_of.Statement.{statement}
 use Rattle.turns.proofs.turns_of.Tie as tie
