@@ -302,22 +302,24 @@ as-read : (c d : Call) → Gives-streams c → Reads d → d .bandwidth ≡ c .b
 unfolding readAnswer
 as-read c d h k e f g l n = go (pass-or-refuse (outcome11 (c .bandwidth) (c .channel-1) (c .channel-2)))
   where
-    answered : d .answer ≡ answerAt (outcome11 (c .bandwidth) (c .channel-1) (c .channel-2)) (wordCount (c .bandwidth) (c .channel-1) (c .channel-2))
+    words : ℕ
+    words = wordCount (c .bandwidth) (c .channel-1) (c .channel-2)
+
+    answered : d .answer ≡ answerAt (outcome11 (c .bandwidth) (c .channel-1) (c .channel-2)) words
     answered = read-answers d k ∙ rw (e, f, g, read-outcome (c .bandwidth) (c .channel-1) (c .channel-2) (length (d .lent)) l)
 
     go : (outcome11 (c .bandwidth) (c .channel-1) (c .channel-2) ≡ Pass)
         ⊎ ((y : Answer) × (outcome11 (c .bandwidth) (c .channel-1) (c .channel-2) ≡ Refuse y)) → c .answer ≡ d .answer
-    go (inl p) = absurd (n (ap (λ (x : Answer). x .number) (answered ∙ ap (λ (x : Outcome). answerAt x (wordCount (c .bandwidth) (c .channel-1) (c .channel-2))) p)))
+    go (inl p) = absurd (n (ap (λ (x : Answer). x .number) (answered ∙ ap (λ (x : Outcome). answerAt x words) p)))
     go (inr (y, q)) =
         streams-give c h .0
         ∙ refused-answer (c .bandwidth) (c .channel-1) (c .channel-2) y q (length (c .lent))
-        ∙ sym (answered ∙ ap (λ (x : Outcome). answerAt x (wordCount (c .bandwidth) (c .channel-1) (c .channel-2))) q)
+        ∙ sym (answered ∙ ap (λ (x : Outcome). answerAt x words) q)
 
 pub per-station : PerStation
 per-station = record {
   one-each = one-each;
-  past-kept = λ c h z.
-      rw (after-is c h z) (drop-filled (streamsAt (c .bandwidth) (c .channel-1) (c .channel-2)) (fields (c .bandwidth) (c .channel-1) (c .channel-2)) (c .lent));
+  past-kept = λ c h z. rw (after-is c h z) (drop-filled (streamsAt _ _ _) (fields _ _ _) (c .lent));
   a-plan = λ c h z. of-eight (c .bandwidth) (c .channel-1) (c .channel-2) (reading-passes c h z);
   the-streams = its-streams;
   refused-21 = some-field;

@@ -66,7 +66,8 @@ pub record Decoding : Type 1 where
   pub refused-row : (c : RowCall) → Puts-row c
       → ((rows : List (List ℕ)) → From2To8 (c .users) → Counted (c .users) rows → length rows ≤ c .number) → c .answer ≡ no 21 0 0
   -- "or a row not listed": exactly there
-  pub number-refused : (d : NumberCall) → Gives-number d → d .answer .number ≡ 21 → From2To8 (length (d .row)) → Listed (length (d .row)) (d .row) → ⊥
+  pub number-refused : (d : NumberCall) → Gives-number d → d .answer .number ≡ 21 → From2To8 (length (d .row))
+      → Listed (length (d .row)) (d .row) → ⊥
   pub refused-number : (d : NumberCall) → Gives-number d → (From2To8 (length (d .row)) → Listed (length (d .row)) (d .row) → ⊥)
       → d .answer ≡ no 21 0 0
 
@@ -124,5 +125,5 @@ pub record PerStation : Type 1 where
   pub none-accepted : (c : Call) → Gives-streams c → c .answer .number ≡ 0 → (o : ℕ → ℕ) → SignalsRow c o
       → (i t n j : ℕ) → TheField c o i t n j → NoRow (theResource c o i) (user (c .bandwidth) (channelOf c n) j) → ⊥
   -- 1 to 11 are the reader's: of the same frame, with room for all words, it gives the same refusal
-  pub as-read : (c d : Call) → Gives-streams c → Reads d → d .bandwidth ≡ c .bandwidth → d .channel-1 ≡ c .channel-1 → d .channel-2 ≡ c .channel-2
-      → 154 ≤ length (d .lent) → d .answer .number ≢ 0 → c .answer ≡ d .answer
+  pub as-read : (c d : Call) → Gives-streams c → Reads d
+      → d .bandwidth ≡ c .bandwidth → d .channel-1 ≡ c .channel-1 → d .channel-2 ≡ c .channel-2 → 154 ≤ length (d .lent) → d .answer .number ≢ 0 → c .answer ≡ d .answer

@@ -185,7 +185,8 @@ module _ {bw : ℕ} {a b given now : List ℕ} {x : Answer} (h : HasRead bw a b 
   pub stays : (x .number ≡ 0 → ⊥) → (d : List ℕ) → (x ≡ streamsAnswer bw a b (length d)) × (d ≡ streamsAfter bw a b d)
   stays n d = go (pass-or-refuse (outcome11 bw a b))
     where
-      go : (outcome11 bw a b ≡ Pass) ⊎ ((y : Answer) × (outcome11 bw a b ≡ Refuse y)) → (x ≡ streamsAnswer bw a b (length d)) × (d ≡ streamsAfter bw a b d)
+      go : (outcome11 bw a b ≡ Pass) ⊎ ((y : Answer) × (outcome11 bw a b ≡ Refuse y))
+          → (x ≡ streamsAnswer bw a b (length d)) × (d ≡ streamsAfter bw a b d)
       go (inl p) = absurd (n (ap (λ (y : Answer). y .number) (answered ∙ ap (λ (o : Outcome). answerAt o (wordCount bw a b)) p)))
       go (inr (y, q)) = (
         answered ∙ ap (λ (o : Outcome). answerAt o (wordCount bw a b)) q ∙ sym (refused-answer bw a b y q (length d)),
@@ -195,7 +196,9 @@ module _ {bw : ℕ} {a b given now : List ℕ} {x : Answer} (h : HasRead bw a b 
   -- accepted: the words that were lent begin with the frame's
   module _ (z : x .number ≡ 0) where
     pub passes : outcome11 bw a b ≡ Pass
-    passes = sym (read-outcome bw a b 154 (omega arith)) ∙ rw (h .room) at (accepted-exactly bw a b (length given) (ap (λ (y : Answer). y .number) (sym (h .answers)) ∙ z))
+    passes =
+        let e = accepted-exactly bw a b (length given) (ap (λ (y : Answer). y .number) (sym (h .answers)) ∙ z) in
+        sym (read-outcome bw a b 154 (omega arith)) ∙ rw (h .room) at e
 
     pub place-is : x .place ≡ wordCount bw a b
     place-is = ap (λ (y : Answer). y .place) (answered ∙ ap (λ (o : Outcome). answerAt o (wordCount bw a b)) passes)

@@ -52,11 +52,13 @@ module _ (bw : ℕ) (a b : List ℕ) where
       )
 
   -- and what 21 says: the reading passes, and not every field is named
-  pub refused-21 : (room : ℕ) → streamsAnswer bw a b room .number ≡ 21 → (outcome11 bw a b ≡ Pass) × (every (namedAt bw a b) (fields bw a b) ≡ false)
+  pub refused-21 : (room : ℕ) → streamsAnswer bw a b room .number ≡ 21
+      → (outcome11 bw a b ≡ Pass) × (every (namedAt bw a b) (fields bw a b) ≡ false)
   unfolding streamsAnswer streamsOutcome outcome11 noRowNamed
   refused-21 room e =
-      let w = number-applies (rows-give room) numbers-distinct (fields bw a b) 11 (omega arith) e in (
-        pass-first (checks11 bw a b) (λ k l. sym (List·getD-append (checks11 bw a b) (noRowNamed bw a b ∷ noStreamsRoom bw a b room ∷ []) Pass k l) ∙ w .nothing-earlier k l),
+      let w = number-applies (rows-give room) numbers-distinct (fields bw a b) 11 (omega arith) e in
+      let rest = noRowNamed bw a b ∷ noStreamsRoom bw a b room ∷ [] in (
+        pass-first (checks11 bw a b) (λ k l. sym (List·getD-append (checks11 bw a b) rest Pass k l) ∙ w .nothing-earlier k l),
         not-true _ (refuse-if _ _ _ (w .refuses) .0),
       )
 

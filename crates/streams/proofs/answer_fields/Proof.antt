@@ -25,8 +25,8 @@ outcome : (c : tie.After-or-else)
     c .or-else .result ≡ outcomeIn (s .codes .now) (s .words .now) (length (s .out .now))
 outcome c =
     let s = c .before .before .before .before .before .before .args in
-    judged (s .codes .now) (s .words .now) (length (s .out .now)) _ _ _ _ (c .before .before .before .all-named .ensures) (c .before .before .refuse-if .ensures)
-    (c .before .refuse-if2 .ensures) (c .or-else .ensures)
+    judged (s .codes .now) (s .words .now) (length (s .out .now)) _ _ _ _ (c .before .before .before .all-named .ensures)
+    (c .before .before .refuse-if .ensures) (c .before .refuse-if2 .ensures) (c .or-else .ensures)
 
 enum-known-judged : tie.Need-enum-known-judged
 enum-known-judged c = search needs

@@ -62,7 +62,8 @@ returns c =
     let w = s .words .now in
     let e = front-row (s .bw) w _ _ (c .before .before .before .before .before .before .before .before .before .positions-of .ensures .0)
     (c .before .before .before .before .before .before .before .before .row-in .ensures) in
-    rw (← e, ← c .before .before .before .before .before .before .codes-of .ensures, ← part-tail w 10 (t .pre .1 .ten)) (c .before .before .answer-fields .ensures)
+    let k = c .before .before .before .before .before .before .codes-of .ensures in
+    rw (← e, ← k, ← part-tail w 10 (t .pre .1 .ten)) (c .before .before .answer-fields .ensures)
 
 pub answer-words-spec : {M : Type 1} → statement M
 answer-words-spec =

@@ -24,7 +24,9 @@ has-read c = record {
 }
 
 returns : tie.Need-returns
-returns c = stays (has-read (c .before .before .before .before)) (c .if1 .taken) (c .before .before .before .before .before .before .before .before .before .before .args .out .now)
+returns c =
+    let s = c .before .before .before .before .before .before .before .before .before .before .args in
+    stays (has-read (c .before .before .before .before)) (c .if1 .taken) (s .out .now)
 
 slice-reshare-prefix-answer-words : tie.Need-slice-reshare-prefix-answer-words
 slice-reshare-prefix-answer-words c = room-for (has-read (c .before .before .before .before .before)) (c .before .if1 .left)

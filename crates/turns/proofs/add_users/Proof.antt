@@ -45,14 +45,16 @@ element-copy-out-turns-2 c = rw (c .before .owner-in .ensures) (c .before .befor
 mul-turns-3 : tie.Need-mul-turns-3 Inv-loop μ-loop
 mul-turns-3 c =
     let s = c .before .before .before .before .before in
-    let h : c .before .before .owner-in .result < 144 = rw (c .before .before .owner-in .ensures) (s .pre .0 .2 .low _ (c .before .before .before .loop-test .taken)) in
+    let k = s .pre .0 .2 .low _ (c .before .before .before .loop-test .taken) in
+    let h : c .before .before .owner-in .result < 144 = rw (c .before .before .owner-in .ensures) k in
     omega (arith, s .pre .1 .2 .few (c .before .before .owner-in .result) h)
 
 add-turns : tie.Need-add-turns Inv-loop μ-loop
 add-turns c =
     let l = c .before .before .before .before .loop in
     let s = c .before .before .before .before .before in
-    let h : c .before .before .owner-in .result < 144 = rw (c .before .before .owner-in .ensures) (s .pre .0 .2 .low _ (c .before .before .before .loop-test .taken)) in
+    let k = s .pre .0 .2 .low _ (c .before .before .before .loop-test .taken) in
+    let h : c .before .before .owner-in .result < 144 = rw (c .before .before .owner-in .ensures) k in
     omega (
       arith,
       s .pre .1 .2 .few (c .before .before .owner-in .result) h,
