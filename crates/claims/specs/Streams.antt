@@ -126,4 +126,5 @@ pub record PerStation : Type 1 where
       → (i t n j : ℕ) → TheField c o i t n j → NoRow (theResource c o i) (user (c .bandwidth) (channelOf c n) j) → ⊥
   -- 1 to 11 are the reader's: of the same frame, with room for all words, it gives the same refusal
   pub as-read : (c d : Call) → Gives-streams c → Reads d
-      → d .bandwidth ≡ c .bandwidth → d .channel-1 ≡ c .channel-1 → d .channel-2 ≡ c .channel-2 → 154 ≤ length (d .lent) → d .answer .number ≢ 0 → c .answer ≡ d .answer
+      → d .bandwidth ≡ c .bandwidth → d .channel-1 ≡ c .channel-1 → d .channel-2 ≡ c .channel-2 → 154 ≤ length (d .lent)
+      → d .answer .number ≢ 0 → c .answer ≡ d .answer
