@@ -1,6 +1,6 @@
 -- The reader's plan is 01's, and each User word is of the format that its field's owner has.
 use mathlib.Core.Path.{_≡_, sym, _∙_, ap, subst}
-use mathlib.Core.Bool.{Bool, true, false}
+use mathlib.Core.Bool.{Bool}
 use mathlib.Core.List.{List}
 use Prim.Native.Nat.{ℕ, _+_, _≤_, _<_}
 use native.Mathlib.Omega.{arith}
@@ -12,27 +12,21 @@ use Rattle.answer.specs.declared.Answer.{Answer}
 use Rattle.answer.specs.declared.Outcome.the-variants.{Pass}
 use Rattle.answer.proofs.Order.{pass-left, pass-right}
 use Rattle.bits.specs.Bits.{field}
-use Rattle.resource.specs.Values.{fieldsOf, divides}
-use Rattle.resource.proofs.Pieces.{some-pieces, no-pieces-left, divided-low}
 use Rattle.answer.specs.Lists.{at}
-use Rattle.kinds.specs.Signals.{Place, Signals}
+use Rattle.kinds.specs.Signals.{Signals}
 use Rattle.kinds.specs.Fields.{together, shared}
 use Rattle.plan.specs.Answers.{Laid}
 use Rattle.plan.specs.Engine.{planOutcome}
 use Rattle.plan.proofs.Laid.{outcome-laid}
 use Rattle.plan.proofs.Demand.{accepted-plan, only-plan}
 use Rattle.records.specs.declared.Record.{Record}
-use Rattle.records.specs.Records.{recordsFrom, recordsOf, blank}
-use Rattle.records.specs.Owns.{fieldsBefore, ComesFrom, number, Owns, of-piece, of-place}
+use Rattle.records.specs.Records.{recordsOf, blank}
+use Rattle.records.specs.Owns.{fieldsBefore, ComesFrom, number}
 use Rattle.records.specs.FieldsOf.{fieldsOn}
-use Rattle.records.specs.Engine.{lowest, ownerOf}
-use Rattle.records.proofs.Listing.{recordAt, Located, located-record}
-use Rattle.records.proofs.Lead.{lowest-only}
+use Rattle.records.specs.Engine.{ownerOf}
 use Rattle.records.proofs.Owners.{comes-below, one-owner, owner-owns}
-use Rattle.records.proofs.Gives.{low-share}
-use Rattle.records.proofs.Totals.{own-total, piece-one, all-places}
-use Rattle.records.proofs.Homes.{home-piece, home-whole}
 use Rattle.records.proofs.Shares.{owner-listed}
+use Rattle.records.proofs.Formats.{as-owned}
 use Rattle.channel.specs.Layout.{row, count, userAt}
 use Rattle.words.specs.Words.{userWord}
 use Rattle.halves.specs.Table.{outcome11, outcome6}
@@ -47,39 +41,6 @@ use Rattle.reader.proofs.Stages.{readOutcome-stages, readOutcome-pass}
 use Rattle.reader.proofs.Exactly.{accepted-exactly}
 use Rattle.reader.proofs.read.Reads as read
 use Rattle.claims.specs.Formats.{WordOn, OwnsIn, OneOwner, Formatted, UserWords}
-
--- ---- the fields of the resource that owns a field, and the position that the field comes from
-module _ (o row : ℕ → ℕ) (n : ℕ) (s : Signals o row 0 n) where
-  abbrev rec : ℕ → Record
-  rec i = getD (recordsFrom o row n) i blank
-
-  -- a piece has one field, and its position gives none to a larger resource
-  piece-alone : (i p k : ℕ) → p < n → k < fieldsOf (row p) → o p ≡ 0 → divides (row p) ≡ true → i ≡ number o row p k
-      → leb 2 (fieldsOn (rec i)) ≡ shared o row p
-  piece-alone i p k l h e d f =
-      let r : rec i ≡ recordAt (o p) row p k =
-      ap rec f ∙ located-record o row n (number o row p k) p k (home-piece o row n s p k l h d) in
-      let a : fieldsOn (rec i) ≡ 1 = ap fieldsOn r ∙ piece-one o row n s p k d e in
-      let z : together (o p) row p ≡ 0 =
-      ap (λ (x : ℕ). together x row p) e ∙ own-total row p ∙ low-share 0 p (row p) (omega (arith, divided-low (row p) d)) in
-      rw (a, z)
-
-  -- any other resource has all the fields of its places
-  place-shared : (i p k q : ℕ) → p < n → k < fieldsOf (row p) → divides (row p) ≡ false → Place (o p) p q → q ≡ lowest (o p) p → i ≡ number o row q 0
-      → leb 2 (fieldsOn (rec i)) ≡ shared o row p
-  place-shared i p k q l h d m g f =
-      let w : o q ≡ o p = s .entire p q (omega arith) l m .2 in
-      let t : Located o row n (number o row q 0) q 0 = rw g (home-whole o row n s p l (omega arith) d) in
-      let r : rec i ≡ recordAt (o p) row q 0 =
-      ap rec f ∙ located-record o row n (number o row q 0) q 0 t ∙ ap (λ (x : ℕ). recordAt x row q 0) w in
-      ap (leb 2) (ap fieldsOn r ∙ all-places o row n s p q 0 l d m)
-
-  -- where the field comes from, and that it is shared there exactly where its owner has two or more
-  pub as-owned : (i c j : ℕ) → Owns o row n i c j → (p : ℕ) × (k : ℕ) × ComesFrom row n c j p k × (leb 2 (fieldsOn (rec i)) ≡ shared o row p)
-  as-owned i c j (of-piece p k w e l f) =
-      (p, k, w, piece-alone i p k (w .inside) (w .kth) e (some-pieces (row p) k l) f)
-  as-owned i c j (of-place p k q w e h g f) =
-      (p, k, w, place-shared i p k q (w .inside) (w .kth) (no-pieces-left (row p) e) h (lowest-only (o p) p q h g) f)
 
 -- ---- the words of a frame
 format : (x : Record) (f v : ℕ) (t : Bool) → leb 2 (fieldsOn x) ≡ t → v ≡ userWord t f → WordOn x f v

@@ -188,7 +188,7 @@ fn sharing(kinds: &[u16; 16], row: &[u16]) -> Marks
 }
 
 // How many User fields the channel (1 or 2) has.
-fn channel_fields(row: &[u16], channel: usize) -> usize
+pub fn channel_fields(row: &[u16], channel: usize) -> usize
     requires { ⌜ (length (now row) ≤ 16) × (0 < channel) × (channel < 3) ⌝ }
     ensures { λ r. ⌜ r ≡ fieldsTo channel (at (now (row .entry))) (length (now (row .entry))) ⌝ }
 {
@@ -328,6 +328,14 @@ fn kinds_of(row: &[u16], wide: bool) -> [u16; 16]
     } else {
         segments::kinds_of(row)
     }
+}
+
+// The same, for what asks for nothing else of a plan.
+pub fn kinds_in(row: &[u16]) -> [u16; 16]
+    requires { ⌜ length (now row) ≤ 16 ⌝ }
+    ensures { λ r. ⌜ r ≡ kindsOf (now (row .entry)) ⌝ }
+{
+    kinds_of(row, has_wider(row))
 }
 
 // The lowest segment that lies in no part with a plan.

@@ -19,3 +19,4 @@ pub mod Tones
 pub mod Whose
 pub mod Demand
 pub mod Worked
+pub mod Formats

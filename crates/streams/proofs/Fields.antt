@@ -1,26 +1,63 @@
 -- What is judged of the User fields: a shared field of somebody's that is not refused names a row; 21 and 23.
-use mathlib.Core.Path.{_≡_, _∙_}
-use mathlib.Core.Bool.{Bool, true, false, not}
+use mathlib.Core.Path.{_≡_, refl, _∙_, ap}
+use mathlib.Core.Bool.{Bool, true, false, not, _&&_}
 use mathlib.Core.List.{List}
 use Prim.Native.Nat.{ℕ, _≤_, _<_}
-use borrow.Author.Tests.{le-leb, leb-false, ltb-false, ne-eqb, not-false}
-use lib.Dec.{ltb}
+use borrow.Author.Tests.{le-leb, leb-true, leb-false, lt-ltb, le-ltb, ltb-false, ne-eqb, not-false}
+use lib.Dec.{eqb, ltb, leb}
 use lib.ListN.{length}
 use Rattle.answer.specs.Answer.{no, refuseIf, _or_}
-use Rattle.answer.specs.Lists.{filled}
+use Rattle.answer.specs.Lists.{at, filled}
 use Rattle.answer.specs.declared.Answer.{Answer}
 use Rattle.answer.specs.declared.Outcome.{Outcome}
 use Rattle.answer.specs.declared.Outcome.the-variants.{Pass, Refuse}
 use Rattle.answer.proofs.Order.{pass-if, pass-left, pass-right}
 use Rattle.stream_rows.specs.Worked.{theRows}
-use Rattle.streams.specs.Streams.{stationIn, configurationIn, namesNone}
+use Rattle.words.specs.Words.{userWord}
+use Rattle.words.proofs.Laws.{shared-parts, alone-parts}
+use Rattle.streams.specs.Streams.{stationIn, nssIn, configurationIn, aloneStreams, sharedStreams, streamsOf, namesNone}
+use Rattle.streams.specs.Engine.{wordStation, wordNss, wordConfiguration, wordNone, wordAlone, wordStreams}
 use Rattle.streams.specs.Engine.{streamsIn, allNamed, outcomeIn, answerIn, afterIn}
+
+-- a station s with the configuration k, on a resource with so many users
+asked-row : (users s k : ℕ) → not (eqb s 2046) && (leb 2 users && leb (length (theRows users)) k) ≡ false → (s ≡ 2046 → ⊥) → 2 ≤ users
+    → k < length (theRows users)
+asked-row users s k e n l = let e = rw (ne-eqb s 2046 n, le-leb 2 users l) at e in leb-false (length (theRows users)) k e
 
 pub named-row : (users f : ℕ) → namesNone users f ≡ false → (stationIn f ≡ 2046 → ⊥) → 2 ≤ users → configurationIn f < length (theRows users)
 unfolding namesNone
-named-row users f e n l =
-    let e = rw (ne-eqb (stationIn f) 2046 n, le-leb 2 users l) at e in
-    leb-false (length (theRows users)) (configurationIn f) e
+named-row users f = asked-row users (stationIn f) (configurationIn f)
+
+pub word-row : (users w : ℕ) → wordNone users w ≡ false → (wordStation w ≡ 2046 → ⊥) → 2 ≤ users → wordConfiguration w < length (theRows users)
+unfolding wordNone
+word-row users w = asked-row users (wordStation w) (wordConfiguration w)
+
+-- ---- a word of the format that its resource's users ask for says what its field does
+word-station : (t : Bool) (f : ℕ) → wordStation (userWord t f) ≡ stationIn f
+word-station true f = ap (λ (vs : List ℕ). at vs 1) (shared-parts f)
+word-station false f = ap (λ (vs : List ℕ). at vs 1) (alone-parts f)
+
+word-nss : (f : ℕ) → wordNss (userWord false f) ≡ nssIn f
+word-nss f = ap (λ (vs : List ℕ). at vs 4) (alone-parts f)
+
+word-configuration : (f : ℕ) → wordConfiguration (userWord true f) ≡ configurationIn f
+word-configuration f = ap (λ (vs : List ℕ). at vs 4) (shared-parts f)
+
+pub word-none : (users f : ℕ) → wordNone users (userWord (leb 2 users) f) ≡ namesNone users f
+unfolding wordNone namesNone
+word-none users f = go (leb 2 users) refl
+  where
+    go : (t : Bool) → leb 2 users ≡ t → wordNone users (userWord t f) ≡ namesNone users f
+    go true e = rw (word-station true f, word-configuration f)
+    go false e = rw (word-station false f, e)
+
+pub word-streams : (users t f : ℕ) → wordStreams users t (userWord (leb 2 users) f) ≡ streamsOf users t f
+unfolding wordStreams wordAlone streamsOf aloneStreams sharedStreams
+word-streams users t f = go (leb 2 users) refl
+  where
+    go : (b : Bool) → leb 2 users ≡ b → wordStreams users t (userWord b f) ≡ streamsOf users t f
+    go true e = rw (word-station true f, le-ltb users 2 (leb-true 2 users e), word-configuration f)
+    go false e = rw (word-station false f, lt-ltb users 2 (leb-false 2 users e), word-nss f)
 
 -- ---- 21 and 23
 pub judged : (codes words : List ℕ) (room : ℕ) (t : Bool) (o₁ o₂ o : Outcome) → t ≡ allNamed codes words → o₁ ≡ refuseIf (not t) (no 21 0 0)

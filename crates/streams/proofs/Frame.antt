@@ -1,10 +1,12 @@
 -- What the code makes of an accepted frame's words is what 02 asks of the frame.
 use mathlib.Core.Path.{_≡_, sym, _∙_, ap}
 use mathlib.Core.Logic.{⊎-elim, _⊎_, inl, inr}
+use mathlib.Core.Bool.{Bool, not}
 use mathlib.Core.List.{List, [], _∷_, _++_}
 use Prim.Native.Nat.{ℕ, _+_, _-_, _*_, _/_, _%_, _≤_, _<_}
 use native.Mathlib.Omega.{arith}
 use borrow.Author.Tests.{lt-ltb, le-ltb}
+use lib.Dec.{leb}
 use lib.ListN.{length, replicate, take, drop, length-append, length-drop}
 use lib.Seq.{getD-drop, take-append-seam}
 use Rattle.answer.specs.Answer.{_or_, answerAt}
@@ -20,26 +22,33 @@ use Rattle.answer.proofs.Order.{or-end, or-next, or-refuse, pass-left, pass-rig
 use Rattle.resource.proofs.Test.{below-or}
 use Rattle.plan.specs.Answers.{SomePlanOfEight}
 use Rattle.plan.specs.Engine.{planOutcome}
+use Rattle.plan.specs.Worked.{thePlan}
 use Rattle.plan.proofs.Laid.{outcome-laid}
 use Rattle.plan.proofs.Demand.{accepted-plan}
+use Rattle.records.specs.Owns.{ComesFrom}
+use Rattle.records.specs.FieldsOf.{wordOf}
+use Rattle.records.proofs.Worked.{worked}
+use Rattle.records.proofs.Formats.{as-owned}
 use Rattle.turns.specs.Turns.{fieldsIn, usersOf, turnOf}
 use Rattle.turns.specs.Engine.{turnCode}
-use Rattle.turns.proofs.Order.{users-most, turn-below}
-use Rattle.channel.specs.Layout.{row, rowAt, positions, count, userOf}
+use Rattle.turns.proofs.Order.{turn-is, users-most, turn-below}
+use Rattle.channel.specs.Layout.{row, rowAt, positions, count, user, userOf}
 use Rattle.halves.specs.Table.{checks11, outcome11, outcome6}
 use Rattle.halves.specs.Engine.{outcome9to11}
 use Rattle.halves.proofs.Stages.{outcome11-stages}
 use Rattle.both_halves.proofs.Accepted.{known-code, accepted-signals}
-use Rattle.words.specs.Engine.{valueOf, userField}
-use Rattle.frame_words.specs.Words.{wordCount, wordsOf}
+use Rattle.words.specs.Engine.{valueOf}
+use Rattle.words.specs.Words.{userWord}
+use Rattle.frame_words.specs.Words.{positionIn, giver, sharedAt, userWordAt, wordCount, wordsOf}
 use Rattle.frame_words.proofs.Counted.{word-count-le}
-use Rattle.frame_words.proofs.Counts.{row-count-1, row-count-2}
-use Rattle.frame_words.proofs.Determine.{words-length, value-back, user-back-1, user-back-2}
+use Rattle.frame_words.proofs.Counts.{row-count-1, row-count-2, given-1, given-2}
+use Rattle.frame_words.proofs.Determine.{words-length, value-back, word-1, word-2}
 use Rattle.reader.specs.Table.{noRoom, check12, readOutcome}
 use Rattle.reader.specs.Result.{readAnswer, wordsAfter}
 use Rattle.reader.proofs.Stages.{readOutcome-stages}
 use Rattle.reader.proofs.Exactly.{accepted-exactly}
-use Rattle.streams.specs.Engine.{Coded, namedIn, streamsIn, allNamed, outcomeIn, answerIn, afterIn, codesOf, rowIn, Worded, wordsAnswer, wordsStreams}
+use Rattle.streams.proofs.Fields.{word-none, word-streams}
+use Rattle.streams.specs.Engine.{Coded, namedIn, streamsIn, allNamed, outcomeIn, answerIn, afterIn, codesOf, rowOf, Worded, wordsAnswer, wordsStreams}
 use Rattle.streams.specs.Result.{fields, fieldAt, streamsAt, namedAt, noRowNamed, noStreamsRoom, streamsOutcome, streamsAnswer, streamsAfter}
 
 module _ (bw : ℕ) (a b : List ℕ) (e : outcome11 bw a b ≡ Pass) where
@@ -53,8 +62,8 @@ module _ (bw : ℕ) (a b : List ℕ) (e : outcome11 bw a b ≡ Pass) where
   known = known-code bw a b e
 
   -- ---- the row is that of the words
-  row-back : rowIn bw w ≡ r
-  unfolding row rowIn
+  row-back : rowOf bw w ≡ r
+  unfolding row rowOf
   row-back = build-cong (valueOf w) (rowAt bw a b) (positions bw) (value-back bw a b known)
 
   pub of-eight : SomePlanOfEight r 0 (length r)
@@ -111,23 +120,41 @@ module _ (bw : ℕ) (a b : List ℕ) (e : outcome11 bw a b ≡ Pass) where
     coded = rw row-back coded;
   }
 
-  field-at : (x : ℕ) → x < fields bw a b → userField (at users x) ≡ fieldAt bw a b x
+  -- each User word is of the format that its field's resource has: of channel n, whose bytes are d
+  field-word : (n : ℕ) (d : List ℕ) → ((j p k : ℕ) → ComesFrom (at r) (length r) n j p k → positionIn n (giver bw n d j) ≡ p)
+      → (j : ℕ) → j < fieldsIn n r → userWordAt bw r n d j ≡ userWord (leb 2 (usersOf r (wordOf (at r) (length r) n j))) (user bw d j)
+  unfolding userWordAt
+  field-word n d given j h =
+      let s = accepted-signals bw a b e in
+      let o = worked (thePlan r) r s n j h .owns in
+      let g = as-owned (thePlan r) (at r) (length r) s _ n j o in
+      ap (λ (q : ℕ). userWord (sharedAt r q) (user bw d j)) (given j (g .0) (g .1) (g .2))
+      ∙ ap (λ (t : Bool). userWord t (user bw d j)) (sym (g .3) ∙ ap (leb 2) (sym (turn-is (thePlan r) r s _ n j o .users)))
+
+  word-at : (x : ℕ) → x < fields bw a b → at users x ≡ userWord (leb 2 (usersOf r x)) (fieldAt bw a b x)
   unfolding userOf
-  field-at x h =
+  word-at x h =
       rw (getD-drop 10 w x 0) (⊎-elim
-      (λ (k : x < count bw 1 a). rw (lt-ltb x (count bw 1 a) k) (user-back-1 bw a b x k))
+      (λ (k : x < count bw 1 a).
+      rw (lt-ltb x (count bw 1 a) k)
+      (word-1 bw a b x k ∙ field-word 1 a (given-1 bw a b known) x (omega (arith, row-count-1 bw a b known))))
       (λ (k : count bw 1 a ≤ x).
-      let d : 10 + x ≡ 10 + count bw 1 a + (x - count bw 1 a) = omega arith in
-      rw (le-ltb x (count bw 1 a) k, d) (user-back-2 bw a b (x - count bw 1 a) (omega arith)))
+      let j = x - count bw 1 a in
+      let d : 10 + x ≡ 10 + count bw 1 a + j = omega arith in
+      let v : wordOf (at r) (length r) 2 j ≡ x = omega (arith, row-count-1 bw a b known) in
+      rw (le-ltb x (count bw 1 a) k, d)
+      (word-2 bw a b j (omega arith)
+      ∙ field-word 2 b (given-2 bw a b known) j (omega (arith, row-count-2 bw a b known))
+      ∙ ap (λ (y : ℕ). userWord (leb 2 (usersOf r y)) (user bw b j)) v))
       (below-or x (count bw 1 a)))
 
   streams-in : (x : ℕ) → x < fields bw a b → streamsIn codes users x ≡ streamsAt bw a b x
   unfolding streamsIn streamsAt
-  streams-in x h = rw (code-users x h, code-turn x h, field-at x h)
+  streams-in x h = rw (code-users x h, code-turn x h, word-at x h) (word-streams (usersOf r x) (turnOf r x) (fieldAt bw a b x))
 
   named-in : (x : ℕ) → x < fields bw a b → namedIn codes users x ≡ namedAt bw a b x
   unfolding namedIn namedAt
-  named-in x h = rw (code-users x h, field-at x h)
+  named-in x h = rw (code-users x h, word-at x h) (ap not (word-none (usersOf r x) (fieldAt bw a b x)))
 
   outcome-in : (room : ℕ) → streamsOutcome bw a b room ≡ outcomeIn codes users room
   unfolding outcomeIn allNamed streamsOutcome noRowNamed noStreamsRoom outcome11 firstOf

@@ -7,13 +7,13 @@ use Rattle.answer.specs.Lists.{filled}
 use Rattle.answer.proofs.Lists.{take-filled, length-build}
 use Rattle.channel.specs.Layout.{positions}
 use Rattle.words.specs.Engine.{valueOf}
-use Rattle.streams.specs.Engine.{rowIn}
+use Rattle.streams.specs.Engine.{rowOf}
 
 module _ (bw : ℕ) (words row : List ℕ) (p : ℕ) (e : p ≡ positions bw) (f : row ≡ filled (valueOf words) p (replicate 16 0)) where
-  pub front-row : take p row ≡ rowIn bw words
-  unfolding rowIn
+  pub front-row : take p row ≡ rowOf bw words
+  unfolding rowOf
   front-row = rw (f, take-filled (valueOf words) p (replicate {A = ℕ} 16 0), e)
 
   pub front-length : p ≡ length (take p row)
-  unfolding rowIn
+  unfolding rowOf
   front-length = rw (front-row, length-build (valueOf words) (positions bw)) e

@@ -1,9 +1,9 @@
 -- Engine: what the code holds of each User field, and what it makes of it. The contracts of the code cite it; nobody has to believe it:
 -- `proofs/Frame.antt`.
-use mathlib.Core.Bool.{Bool, not}
+use mathlib.Core.Bool.{Bool, cond, not, _&&_}
 use mathlib.Core.List.{List}
 use Prim.Native.Nat.{ℕ, _+_, _/_, _%_, _≤_, _<_}
-use lib.Dec.{ltb}
+use lib.Dec.{eqb, ltb, leb}
 use lib.ListN.{length, replicate, drop}
 use Rattle.answer.specs.Answer.{no, refuseIf, _or_, answerAt, after}
 use Rattle.answer.specs.Every.{every}
@@ -15,20 +15,44 @@ use Rattle.plan.specs.Engine.{onlyPlan}
 use Rattle.turns.specs.Turns.{fieldsIn}
 use Rattle.turns.specs.Engine.{turnCode}
 use Rattle.channel.specs.Layout.{positions}
-use Rattle.words.specs.Engine.{valueOf, userField}
-use Rattle.streams.specs.Streams.{streamsOf, namesNone}
+use Rattle.words.specs.Engine.{valueOf}
+use Rattle.words.specs.Words.{aloneWordWidths, sharedWordWidths}
+use Rattle.bits.specs.Pack.{unpack}
+use Rattle.stream_rows.specs.Rows.{rowIn}
+use Rattle.stream_rows.specs.Worked.{theRows}
 
 -- a code says which of its resource's fields a field is, and from 256 on of how many: none over eight
 pub record Coded (n : ℕ) (codes : List ℕ) : Type 0 where
   pub turn : (x : ℕ) → x < n → at codes x % 256 < at codes x / 256
   pub few : (x : ℕ) → x < n → at codes x / 256 ≤ 8
 
+-- ---- of a User word, whose format is that of a resource with so many users
+abbrev pub wordStation : ℕ → ℕ
+wordStation w = at (unpack sharedWordWidths w) 1
+
+abbrev pub wordNss : ℕ → ℕ
+wordNss w = at (unpack aloneWordWidths w) 4
+
+abbrev pub wordConfiguration : ℕ → ℕ
+wordConfiguration w = at (unpack sharedWordWidths w) 4
+
+unfoldable pub wordNone : ℕ → ℕ → Bool
+wordNone users w =
+    not (eqb (wordStation w) 2046) && (leb 2 users && leb (length (theRows users)) (wordConfiguration w))
+
+unfoldable pub wordAlone : ℕ → ℕ
+wordAlone w = cond (ltb (wordNss w) 8) (wordNss w + 1) 0
+
+unfoldable pub wordStreams : ℕ → ℕ → ℕ → ℕ
+wordStreams users t w =
+    cond (eqb (wordStation w) 2046) 0 (cond (ltb users 2) (wordAlone w) (at (rowIn (theRows users) (wordConfiguration w)) t))
+
 -- of the codes and the User words
 unfoldable pub namedIn : List ℕ → List ℕ → ℕ → Bool
-namedIn codes words x = not (namesNone (at codes x / 256) (userField (at words x)))
+namedIn codes words x = not (wordNone (at codes x / 256) (at words x))
 
 unfoldable pub streamsIn : List ℕ → List ℕ → ℕ → ℕ
-streamsIn codes words x = streamsOf (at codes x / 256) (at codes x % 256) (userField (at words x))
+streamsIn codes words x = wordStreams (at codes x / 256) (at codes x % 256) (at words x)
 
 unfoldable pub allNamed : List ℕ → List ℕ → Bool
 allNamed codes words = every (namedIn codes words) (length words)
@@ -49,18 +73,18 @@ unfoldable pub codesOf : List ℕ → List ℕ
 codesOf row = filled (turnCode row) (fieldsIn 1 row + fieldsIn 2 row) (replicate 144 0)
 
 -- the row that the words have
-unfoldable pub rowIn : ℕ → List ℕ → List ℕ
-rowIn bw words = build (valueOf words) (positions bw)
+unfoldable pub rowOf : ℕ → List ℕ → List ℕ
+rowOf bw words = build (valueOf words) (positions bw)
 
 -- they are those of an accepted frame
 pub record Worded (bw : ℕ) (words : List ℕ) : Type 0 where
   pub ten : 10 ≤ length words
   pub most : length words ≤ 154
-  pub signals : Signals (onlyPlan (at (rowIn bw words))) (at (rowIn bw words)) 0 (length (rowIn bw words))
-  pub coded : Coded (length (drop 10 words)) (codesOf (rowIn bw words))
+  pub signals : Signals (onlyPlan (at (rowOf bw words))) (at (rowOf bw words)) 0 (length (rowOf bw words))
+  pub coded : Coded (length (drop 10 words)) (codesOf (rowOf bw words))
 
 unfoldable pub wordsAnswer : ℕ → List ℕ → ℕ → Answer
-wordsAnswer bw words room = answerIn (codesOf (rowIn bw words)) (drop 10 words) room
+wordsAnswer bw words room = answerIn (codesOf (rowOf bw words)) (drop 10 words) room
 
 unfoldable pub wordsStreams : ℕ → List ℕ → List ℕ → List ℕ
-wordsStreams bw words d = afterIn (codesOf (rowIn bw words)) (drop 10 words) d
+wordsStreams bw words d = afterIn (codesOf (rowOf bw words)) (drop 10 words) d

@@ -9,8 +9,8 @@ ghost use Rattle.answer.specs.Lists.{at, filled};
 ghost use Rattle.kinds.specs.Signals.{Signals};
 ghost use Rattle.plan.specs.Engine.{onlyPlan};
 ghost use Rattle.words.specs.Engine.{valueOf};
-ghost use Rattle.streams.specs.Streams.{aloneStreams, streamsOf, namesNone};
-ghost use Rattle.streams.specs.Engine.{Coded, streamsIn, allNamed, answerIn, afterIn, codesOf, Worded, wordsAnswer, wordsStreams};
+ghost use Rattle.streams.specs.Engine.{Coded, wordNone, wordAlone, wordStreams, streamsIn, allNamed, answerIn, afterIn, codesOf};
+ghost use Rattle.streams.specs.Engine.{Worded, wordsAnswer, wordsStreams};
 ghost use Rattle.streams.specs.Result.{streamsAnswer, streamsAfter};
 
 // ---- of the frame's row: which of its resource's fields each is, and of how many
@@ -33,45 +33,45 @@ fn codes_of(row: &[u16]) -> [u16; 144]
     requires { ⌜ (length (now row) ≤ 16) × Signals (onlyPlan (at (now row))) (at (now row)) 0 (length (now row)) ⌝ }
     ensures { λ r. ⌜ r ≡ codesOf (now (row .entry)) ⌝ }
 {
-    let plan = plan::plan_of(row);
-    let kinds = plan.kinds;
-    let m = plan.fields1;
-    turns::turns_of(row, &kinds, m, m + plan.fields2)
+    let kinds = plan::kinds_in(row);
+    let m = plan::channel_fields(row, 1);
+    let n = m + plan::channel_fields(row, 2);
+    turns::turns_of(row, &kinds, m, n)
 }
 
-// ---- of a User field: its code and its 22 bits
+// ---- of a User field: its code and its word
 
 // 21 of a field.
-fn names_none(code: u16, f: u32) -> bool
+fn names_none(code: u16, w: u32) -> bool
     requires { ⌜ code / 256 ≤ 8 ⌝ }
-    ensures { λ r. ⌜ r ≡ namesNone (code / 256) f ⌝ }
+    ensures { λ r. ⌜ r ≡ wordNone (code / 256) w ⌝ }
 {
     let users = (code / 256) as usize;
-    let number = (f / 2048 / 16 / 2 % 64) as usize;
-    (f % 2048 != 2046) & ((2 <= users) & (stream_rows::rows_of(users) <= number))
+    let number = (w / 256 / 2048 / 2 / 16 % 64) as usize;
+    (w / 256 % 2048 != 2046) & ((2 <= users) & (stream_rows::rows_of(users) <= number))
 }
 
 // Alone on its resource.
-fn alone_streams(f: u32) -> u8
-    ensures { λ r. ⌜ r ≡ aloneStreams f ⌝ }
+fn alone_streams(w: u32) -> u8
+    ensures { λ r. ⌜ r ≡ wordAlone w ⌝ }
 {
-    let nss = (f / 2048 / 16 / 2 % 16) as u8;
+    let nss = (w / 256 / 2048 / 2 / 16 % 16) as u8;
     if nss < 8 { nss + 1 } else { 0 }
 }
 
-fn field_streams(code: u16, f: u32) -> u8
-    requires { ⌜ (code % 256 < code / 256) × (code / 256 ≤ 8) × (namesNone (code / 256) f ≡ false) ⌝ }
-    ensures { λ r. ⌜ r ≡ streamsOf (code / 256) (code % 256) f ⌝ }
+fn field_streams(code: u16, w: u32) -> u8
+    requires { ⌜ (code % 256 < code / 256) × (code / 256 ≤ 8) × (wordNone (code / 256) w ≡ false) ⌝ }
+    ensures { λ r. ⌜ r ≡ wordStreams (code / 256) (code % 256) w ⌝ }
 {
-    if f % 2048 == 2046 {
+    if w / 256 % 2048 == 2046 {
         return 0;
     }
     if code / 256 < 2 {
-        return alone_streams(f);
+        return alone_streams(w);
     }
     stream_rows::entry_at(
         (code / 256) as usize,
-        (f / 2048 / 16 / 2 % 64) as usize,
+        (w / 256 / 2048 / 2 / 16 % 64) as usize,
         (code % 256) as usize,
     )
 }
@@ -86,7 +86,7 @@ fn all_named(codes: &[u16; 144], words: &[u32]) -> bool
     let mut all = true;
     let mut x: usize = 0;
     while x < n {
-        all = all & !names_none(codes[x], words::user_field(words[x]));
+        all = all & !names_none(codes[x], words[x]);
         x += 1;
     }
     all
@@ -100,7 +100,7 @@ fn put_streams(out: &mut [u8], codes: &[u16; 144], words: &[u32])
     let n = words.len();
     let mut x: usize = 0;
     while x < n {
-        out[x] = field_streams(codes[x], words::user_field(words[x]));
+        out[x] = field_streams(codes[x], words[x]);
         x += 1;
     }
 }

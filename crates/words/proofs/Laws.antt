@@ -33,22 +33,28 @@ unfolding userWord
 user-word-lt true f = pack-lt sharedWordWidths (sharedOf (unpack sharedWidths f)) (shared-fit f)
 user-word-lt false f = pack-lt aloneWordWidths (aloneOf (unpack aloneWidths f)) (alone-fit f)
 
+-- its fields are the User field's
+pub shared-parts : (f : ℕ) → unpack sharedWordWidths (userWord true f) ≡ sharedOf (unpack sharedWidths f)
+unfolding userWord
+shared-parts f = unpack-pack sharedWordWidths (sharedOf (unpack sharedWidths f)) (shared-fit f)
+
+pub alone-parts : (f : ℕ) → unpack aloneWordWidths (userWord false f) ≡ aloneOf (unpack aloneWidths f)
+unfolding userWord
+alone-parts f = unpack-pack aloneWordWidths (aloneOf (unpack aloneWidths f)) (alone-fit f)
+
 -- its known bits tell its format
 known-shared : (f : ℕ) → userWord true f % 256 ≡ 0x47
-unfolding userWord
-known-shared f = ap (λ (vs : List ℕ). at vs 0) (unpack-pack sharedWordWidths (sharedOf (unpack sharedWidths f)) (shared-fit f))
+known-shared f = ap (λ (vs : List ℕ). at vs 0) (shared-parts f)
 
 known-alone : (f : ℕ) → userWord false f % 256 ≡ 0x3F
-unfolding userWord
-known-alone f = ap (λ (vs : List ℕ). at vs 0) (unpack-pack aloneWordWidths (aloneOf (unpack aloneWidths f)) (alone-fit f))
+known-alone f = ap (λ (vs : List ℕ). at vs 0) (alone-parts f)
 
 field-in-word : (b : Bool) (f : ℕ) → f < 2 ^ 22 → fieldIn b (userWord b f) ≡ f
-unfolding userWord
 field-in-word true f l =
-    ap (λ (vs : List ℕ). pack sharedWidths (sharedIn vs)) (unpack-pack sharedWordWidths (sharedOf (unpack sharedWidths f)) (shared-fit f))
+    ap (λ (vs : List ℕ). pack sharedWidths (sharedIn vs)) (shared-parts f)
     ∙ pack-unpack sharedWidths f l
 field-in-word false f l =
-    ap (λ (vs : List ℕ). pack aloneWidths (aloneIn vs)) (unpack-pack aloneWordWidths (aloneOf (unpack aloneWidths f)) (alone-fit f))
+    ap (λ (vs : List ℕ). pack aloneWidths (aloneIn vs)) (alone-parts f)
     ∙ pack-unpack aloneWidths f l
 
 -- a User field of 22 bits is had back from its word, whatever its format

@@ -25,17 +25,14 @@ mul-names-none c = search needs
 element-copy-out-names-none : tie.Need-element-copy-out-names-none Inv-loop μ-loop
 element-copy-out-names-none c = search needs
 
-mul-user-field : tie.Need-mul-user-field Inv-loop μ-loop
-mul-user-field c = search needs
+mul-names-none-2 : tie.Need-mul-names-none-2 Inv-loop μ-loop
+mul-names-none-2 c = search needs
 
-shared-slice-read-user-field : tie.Need-shared-slice-read-user-field Inv-loop μ-loop
-shared-slice-read-user-field c = search needs
-
-user-field-requires : tie.Need-user-field-requires Inv-loop μ-loop
-user-field-requires c κs = search needs
+shared-slice-read-names-none : tie.Need-shared-slice-read-names-none Inv-loop μ-loop
+shared-slice-read-names-none c = search needs
 
 names-none-requires : tie.Need-names-none-requires Inv-loop μ-loop
-names-none-requires c κs = c .before .before .before .before .before .before .pre .1 .few _ (c .before .before .before .loop-test .taken)
+names-none-requires c κs = c .before .before .before .before .before .pre .1 .few _ (c .before .before .loop-test .taken)
 
 add-x : tie.Need-add-x Inv-loop μ-loop
 add-x c = search needs
@@ -46,11 +43,9 @@ loop-less c = search needs
 loop-again : tie.Need-loop-again Inv-loop μ-loop
 unfolding namedIn
 loop-again c =
-    let l = c .before .before .before .before .before .loop in
-    let a = c .before .before .before .before .before .before .before .args in (
-      omega arith,
-      rw (l .inv .1, c .names-none .ensures, c .before .user-field .ensures) (every-next (namedIn (a .codes .now) (a .words .now)) (l .x)),
-    )
+    let l = c .before .before .before .before .loop in
+    let a = c .before .before .before .before .before .before .args in
+    (omega arith, rw (l .inv .1, c .names-none .ensures) (every-next (namedIn (a .codes .now) (a .words .now)) (l .x)))
 
 returns : tie.Need-returns Inv-loop μ-loop
 unfolding allNamed
@@ -68,9 +63,8 @@ all-named-spec =
     loop-holds
     mul-names-none
     element-copy-out-names-none
-    mul-user-field
-    shared-slice-read-user-field
-    user-field-requires
+    mul-names-none-2
+    shared-slice-read-names-none
     names-none-requires
     add-x
     loop-less

@@ -1,20 +1,20 @@
 -- `streams::field_streams` meets its contract.
 use borrow.Author.Needs.{needs}
 use borrow.Author.Tests.{lt-ltb, le-ltb, eq-eqb, ne-eqb}
-use Rattle.streams.specs.Streams.{sharedStreams, streamsOf}
-use Rattle.streams.proofs.Fields.{named-row}
+use Rattle.streams.specs.Engine.{wordStreams}
+use Rattle.streams.proofs.Fields.{word-row}
 use Rattle.streams.proofs.field_streams.Statement.{statement}
 use Rattle.streams.proofs.field_streams.Tie as tie
 
 returns : tie.Need-returns
-unfolding streamsOf
+unfolding wordStreams
 returns c = rw (eq-eqb _ 2046 (c .if1 .taken))
 
 alone-streams-requires : tie.Need-alone-streams-requires
 alone-streams-requires c κs = search needs
 
 returns-2 : tie.Need-returns-2
-unfolding streamsOf
+unfolding wordStreams
 returns-2 c = rw (ne-eqb _ 2046 (c .before .before .if1 .left), lt-ltb _ 2 (c .before .if2 .taken)) (c .alone-streams .ensures)
 
 cast-entry-at : tie.Need-cast-entry-at
@@ -29,10 +29,10 @@ cast-entry-at-3 c = search needs
 entry-at-requires : tie.Need-entry-at-requires
 entry-at-requires c κs =
     let p = c .before .before .pre in
-    (p .1, named-row _ _ (p .2) (c .before .if1 .left) (c .if2 .left), p .0)
+    (p .1, word-row _ _ (p .2) (c .before .if1 .left) (c .if2 .left), p .0)
 
 returns-3 : tie.Need-returns-3
-unfolding streamsOf sharedStreams
+unfolding wordStreams
 returns-3 c = rw (ne-eqb _ 2046 (c .before .before .if1 .left), le-ltb _ 2 (c .before .if2 .left)) (c .entry-at .ensures .0)
 
 pub field-streams-spec : {M : Type 1} → statement M

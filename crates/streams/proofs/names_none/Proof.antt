@@ -1,6 +1,6 @@
 -- `streams::names_none` meets its contract.
 use borrow.Author.Needs.{needs}
-use Rattle.streams.specs.Streams.{namesNone}
+use Rattle.streams.specs.Engine.{wordNone}
 use Rattle.streams.proofs.names_none.Statement.{statement}
 use Rattle.streams.proofs.names_none.Tie as tie
 
@@ -14,7 +14,7 @@ rows-of-requires : tie.Need-rows-of-requires
 rows-of-requires c κs = search needs
 
 returns : tie.Need-returns
-unfolding namesNone
+unfolding wordNone
 returns c = rw (c .rows-of .ensures)
 
 pub names-none-spec : {M : Type 1} → statement M

@@ -5,14 +5,12 @@ use mathlib.Core.Bool.{true, false}
 use mathlib.Core.List.{List}
 use Prim.Native.Nat.{ℕ, _+_, _-_, _/_, _≤_, _<_}
 use native.Mathlib.Omega.{arith}
+use borrow.Author.Tests.{not-true}
 use lib.ListN.{length, set, length-set}
 use Rattle.answer.specs.Lists.{at, filled}
-use Rattle.words.specs.Engine.{userField}
 use Rattle.answer.proofs.Lists.{filled-start, filled-step}
 use Rattle.answer.proofs.Every.{every-at}
-use borrow.Author.Tests.{not-true}
-use Rattle.streams.specs.Streams.{namesNone}
-use Rattle.streams.specs.Engine.{namedIn, streamsIn, allNamed}
+use Rattle.streams.specs.Engine.{wordNone, namedIn, streamsIn, allNamed}
 use Rattle.streams.proofs.put_streams.Statement.{statement}
 use Rattle.streams.proofs.put_streams.Tie as tie
 
@@ -31,27 +29,24 @@ mul-field-streams c = search needs
 element-copy-out-field-streams : tie.Need-element-copy-out-field-streams Inv-loop μ-loop
 element-copy-out-field-streams c = search needs
 
-mul-user-field : tie.Need-mul-user-field Inv-loop μ-loop
-mul-user-field c = search needs
+mul-field-streams-2 : tie.Need-mul-field-streams-2 Inv-loop μ-loop
+mul-field-streams-2 c = search needs
 
-shared-slice-read-user-field : tie.Need-shared-slice-read-user-field Inv-loop μ-loop
-shared-slice-read-user-field c = search needs
-
-user-field-requires : tie.Need-user-field-requires Inv-loop μ-loop
-user-field-requires c κs = search needs
+shared-slice-read-field-streams : tie.Need-shared-slice-read-field-streams Inv-loop μ-loop
+shared-slice-read-field-streams c = search needs
 
 -- a field that all are named with is named
-is-named : (codes words : List ℕ) (x : ℕ) → allNamed codes words ≡ true → x < length words → namesNone (at codes x / 256) (userField (at words x)) ≡ false
+is-named : (codes words : List ℕ) (x : ℕ) → allNamed codes words ≡ true → x < length words → wordNone (at codes x / 256) (at words x) ≡ false
 unfolding allNamed namedIn
 is-named codes words x e h = not-true _ (every-at (namedIn codes words) (length words) e x h)
 
 field-streams-requires : tie.Need-field-streams-requires Inv-loop μ-loop
 field-streams-requires c κs =
-    let t = c .before .before .before .before .before .before .before in
-    let h = c .before .before .before .loop-test .taken in (
+    let t = c .before .before .before .before .before .before in
+    let h = c .before .before .loop-test .taken in (
       t .pre .0 .1 .turn _ h,
       t .pre .0 .1 .few _ h,
-      rw (c .user-field .ensures) (is-named (t .args .codes .now) (t .args .words .now) _ (t .pre .0 .2) h),
+      is-named (t .args .codes .now) (t .args .words .now) _ (t .pre .0 .2) h,
     )
 
 slice-write-out : tie.Need-slice-write-out Inv-loop μ-loop
@@ -66,12 +61,11 @@ loop-less c = search needs
 loop-again : tie.Need-loop-again Inv-loop μ-loop
 unfolding streamsIn
 loop-again c =
-    let s = c .before .before .before .before .before .before .before .before .args in
-    let l = c .before .before .before .before .before .loop in
+    let s = c .before .before .before .before .before .before .before .args in
+    let l = c .before .before .before .before .loop in
     let f = streamsIn (s .codes .now) (s .words .now) in
-    let v : c .field-streams .result ≡ f (l .x) = rw (← c .before .user-field .ensures) (c .field-streams .ensures) in
     let e : set (l .out) (l .x) (c .field-streams .result) ≡ filled f (l .x + 1) (s .out .now) =
-    rw (l .inv .1) (filled-step f (l .x) (c .field-streams .result) (s .out .now) (omega arith) v) in
+    rw (l .inv .1) (filled-step f (l .x) (c .field-streams .result) (s .out .now) (omega arith) (c .field-streams .ensures)) in
     (omega arith, e, simp length-set (l .inv .2))
 
 same-length : tie.Need-same-length Inv-loop μ-loop
@@ -92,9 +86,8 @@ put-streams-spec =
     loop-holds
     mul-field-streams
     element-copy-out-field-streams
-    mul-user-field
-    shared-slice-read-user-field
-    user-field-requires
+    mul-field-streams-2
+    shared-slice-read-field-streams
     field-streams-requires
     slice-write-out
     add-x
