@@ -1,7 +1,7 @@
 -- Spatial streams are as 02 has them.
 use mathlib.Core.Path.{_≡_, refl, sym, _∙_, ap}
 use mathlib.Core.Logic.{_⊎_, inl, inr, _≢_}
-use mathlib.Core.Bool.{Bool, true, false, cond, not, _||_, true≢false}
+use mathlib.Core.Bool.{Bool, true, false, cond, not, _||_}
 use mathlib.Core.List.{List, [], _∷_}
 use Prim.Native.Nat.{ℕ, _+_, _-_, _≤_, _<_}
 use native.Mathlib.Omega.{arith}
@@ -16,7 +16,7 @@ use Rattle.answer.specs.declared.Outcome.{Outcome}
 use Rattle.answer.specs.declared.Outcome.the-variants.{Pass, Refuse}
 use Rattle.answer.proofs.Every.{every-at, some-fails}
 use Rattle.answer.proofs.Lists.{getD-build, getD-filled, drop-filled}
-use Rattle.answer.proofs.Order.{pass-or-refuse}
+use Rattle.answer.proofs.Order.{pass-or-refuse, pass-left}
 use Rattle.kinds.specs.Signals.{Signals}
 use Rattle.records.specs.declared.Record.{Record}
 use Rattle.records.specs.Records.{recordsOf}
@@ -31,7 +31,10 @@ use Rattle.channel.specs.Layout.{row, count, user, userOf}
 use Rattle.halves.specs.Table.{outcome11}
 use Rattle.frame_words.specs.Words.{wordCount}
 use Rattle.frame_words.proofs.Counts.{row-count-1, row-count-2}
+use Rattle.reader.specs.Table.{check12}
 use Rattle.reader.specs.Result.{readAnswer}
+use Rattle.reader.proofs.Stages.{readOutcome-stages}
+use Rattle.reader.proofs.Exactly as reading
 use Rattle.stream_rows.specs.Rows.{Listed, Before, rowIn, Counted}
 use Rattle.stream_rows.specs.Worked.{theRows, isListed}
 use Rattle.stream_rows.specs.Result.{not2to8, noRow, rowOutcome, rowAnswer, notRow, numberAnswer}
@@ -47,7 +50,8 @@ use Rattle.streams.proofs.Fields.{named-row}
 use Rattle.streams.proofs.Frame.{known, of-eight, refused-answer, read-outcome}
 use Rattle.streams.proofs.Judged as judged
 use Rattle.claims.specs.Calls.{Call, RowCall, NumberCall, Reads, reads, Puts-row, Gives-number, Gives-streams}
-use Rattle.claims.specs.Streams.{From2To8, rowGiven, Decoding, StreamsOn, NoRow, channelOf, TheField, theResource, byteOf, SignalsRow, PerStation}
+use Rattle.claims.specs.Streams.{From2To8, rowGiven, Decoding, StreamsOn, NoRow, channelOf, TheField, theResource, byteOf}
+use Rattle.claims.specs.Streams.{SameChannels, SignalsRow, PerStation}
 use Rattle.claims.proofs.Given.{row-gives, number-gives, streams-give}
 
 -- ---- rows and numbers
@@ -140,6 +144,9 @@ decoding = record {
   refused-row = refused-row;
   number-refused = λ d g z l w. inverse.number-21 (d .row) (same-number (number-gives d g) z) (l .0) (l .1) w;
   refused-number = refused-number;
+  rows-agree = λ c c′ h h′ e f g.
+      (row-gives c h .0 ∙ rw (e, f, g) (sym (row-gives c′ h′ .0)), row-gives c h .1 ∙ rw (e, f, g) (sym (row-gives c′ h′ .1)));
+  numbers-agree = λ d d′ h h′ e. number-gives d h ∙ rw e (sym (number-gives d′ h′));
 }
 
 -- ---- the streams of a User field
@@ -279,9 +286,6 @@ module _ (c : Call) (h : Gives-streams c) where
           ∙ streams-same bw a b reading-passes o s i t n j w)
           is-named
 
-      has-row : NoRow (theResource c o i) (user bw (channelOf c n) j) → ⊥
-      has-row v = true≢false (sym (named-none (theResource c o i) (user bw (channelOf c n) j) v) ∙ is-named)
-
   -- ---- 21
   some-field : c .answer .number ≡ 21 → (o : ℕ → ℕ) → SignalsRow c o
       → (i : ℕ) × (t : ℕ) × (n : ℕ) × (j : ℕ) × TheField c o i t n j × NoRow (theResource c o i) (user bw (channelOf c n) j)
@@ -297,24 +301,46 @@ module _ (c : Call) (h : Gives-streams c) where
 read-answers : (d : Call) → Reads d → d .answer ≡ readAnswer (d .bandwidth) (d .channel-1) (d .channel-2) (length (d .lent))
 read-answers d (reads κs a r s p) = p .0
 
-as-read : (c d : Call) → Gives-streams c → Reads d → d .bandwidth ≡ c .bandwidth → d .channel-1 ≡ c .channel-1 → d .channel-2 ≡ c .channel-2
-    → 154 ≤ length (d .lent) → d .answer .number ≢ 0 → c .answer ≡ d .answer
-unfolding readAnswer
-as-read c d h k e f g l n = go (pass-or-refuse (outcome11 (c .bandwidth) (c .channel-1) (c .channel-2)))
-  where
-    words : ℕ
-    words = wordCount (c .bandwidth) (c .channel-1) (c .channel-2)
+module _ (c d : Call) (h : Gives-streams c) (k : Reads d) (m : SameChannels c d) where
+  -- the reading's outcome is that of 1 to 11
+  accepted-11 : d .answer .number ≡ 0 → outcome11 (c .bandwidth) (c .channel-1) (c .channel-2) ≡ Pass
+  accepted-11 z =
+      rw (m .bandwidths, m .channels-1, m .channels-2)
+      (pass-left _ (check12 (d .bandwidth) (d .channel-1) (d .channel-2) (length (d .lent)))
+      (sym (readOutcome-stages (d .bandwidth) (d .channel-1) (d .channel-2) (length (d .lent)))
+      ∙ reading.accepted-exactly (d .bandwidth) (d .channel-1) (d .channel-2) (length (d .lent)) (same-number (read-answers d k) z)))
 
-    answered : d .answer ≡ answerAt (outcome11 (c .bandwidth) (c .channel-1) (c .channel-2)) words
-    answered = read-answers d k ∙ rw (e, f, g, read-outcome (c .bandwidth) (c .channel-1) (c .channel-2) (length (d .lent)) l)
+  as-read : 154 ≤ length (d .lent) → d .answer .number ≢ 0 → c .answer ≡ d .answer
+  unfolding readAnswer
+  as-read l n = go (pass-or-refuse (outcome11 (c .bandwidth) (c .channel-1) (c .channel-2)))
+    where
+      words : ℕ
+      words = wordCount (d .bandwidth) (d .channel-1) (d .channel-2)
 
-    go : (outcome11 (c .bandwidth) (c .channel-1) (c .channel-2) ≡ Pass)
-        ⊎ ((y : Answer) × (outcome11 (c .bandwidth) (c .channel-1) (c .channel-2) ≡ Refuse y)) → c .answer ≡ d .answer
-    go (inl p) = absurd (n (ap (λ (x : Answer). x .number) (answered ∙ ap (λ (x : Outcome). answerAt x words) p)))
-    go (inr (y, q)) =
-        streams-give c h .0
-        ∙ refused-answer (c .bandwidth) (c .channel-1) (c .channel-2) y q (length (c .lent))
-        ∙ sym (answered ∙ ap (λ (x : Outcome). answerAt x words) q)
+      answered : d .answer ≡ answerAt (outcome11 (c .bandwidth) (c .channel-1) (c .channel-2)) words
+      answered =
+          read-answers d k
+          ∙ rw (m .bandwidths, m .channels-1, m .channels-2, read-outcome (d .bandwidth) (d .channel-1) (d .channel-2) (length (d .lent)) l)
+
+      go : (outcome11 (c .bandwidth) (c .channel-1) (c .channel-2) ≡ Pass)
+          ⊎ ((y : Answer) × (outcome11 (c .bandwidth) (c .channel-1) (c .channel-2) ≡ Refuse y)) → c .answer ≡ d .answer
+      go (inl p) = absurd (n (ap (λ (x : Answer). x .number) (answered ∙ ap (λ (x : Outcome). answerAt x words) p)))
+      go (inr (y, q)) =
+          streams-give c h .0
+          ∙ refused-answer (c .bandwidth) (c .channel-1) (c .channel-2) y q (length (c .lent))
+          ∙ sym (answered ∙ ap (λ (x : Outcome). answerAt x words) q)
+
+  given-21 : d .answer .number ≡ 0 → (o : ℕ → ℕ) → SignalsRow c o → (i t n j : ℕ) → TheField c o i t n j
+      → NoRow (theResource c o i) (user (c .bandwidth) (channelOf c n) j) → c .answer ≡ no 21 0 0
+  given-21 z o s i t n j w v =
+      let a = c .channel-1 in
+      let b = c .channel-2 in
+      let e = accepted-11 z in
+      let x = byteOf c n j in
+      let f : namedAt (c .bandwidth) a b x ≡ false =
+      named-same (c .bandwidth) a b e o s i t n j w ∙ ap not (named-none (theResource c o i) (user (c .bandwidth) (channelOf c n) j) v) in
+      streams-give c h .0
+      ∙ judged.given-21 (c .bandwidth) a b (length (c .lent)) e x (of-frame (c .bandwidth) a b e o s i t n j w .0) f
 
 pub per-station : PerStation
 per-station = record {
@@ -323,6 +349,10 @@ per-station = record {
   a-plan = λ c h z. of-eight (c .bandwidth) (c .channel-1) (c .channel-2) (reading-passes c h z);
   the-streams = its-streams;
   refused-21 = some-field;
-  none-accepted = has-row;
+  given-21 = given-21;
   as-read = as-read;
+  streams-agree = λ c c′ h h′ m e. (
+    streams-give c h .0 ∙ rw (m .bandwidths, m .channels-1, m .channels-2, e) (sym (streams-give c′ h′ .0)),
+    streams-give c h .1 ∙ rw (m .bandwidths, m .channels-1, m .channels-2, e) (sym (streams-give c′ h′ .1)),
+  );
 }

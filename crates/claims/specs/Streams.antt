@@ -70,6 +70,10 @@ pub record Decoding : Type 1 where
       → Listed (length (d .row)) (d .row) → ⊥
   pub refused-number : (d : NumberCall) → Gives-number d → (From2To8 (length (d .row)) → Listed (length (d .row)) (d .row) → ⊥)
       → d .answer ≡ no 21 0 0
+  -- any two results that are allowed for one input agree
+  pub rows-agree : (c c′ : RowCall) → Puts-row c → Puts-row c′ → c .users ≡ c′ .users → c .number ≡ c′ .number → c .lent ≡ c′ .lent
+      → (c .answer ≡ c′ .answer) × (c .after ≡ c′ .after)
+  pub numbers-agree : (d d′ : NumberCall) → Gives-number d → Gives-number d′ → d .row ≡ d′ .row → d .answer ≡ d′ .answer
 
 -- ---- "streams per station"
 
@@ -105,6 +109,12 @@ theResource c o i = resourceIn (recordsOf o (row (c .bandwidth) (c .channel-1) (
 abbrev pub byteOf : Call → ℕ → ℕ → ℕ
 byteOf c n j = wordOf (at (row (c .bandwidth) (c .channel-1) (c .channel-2))) (length (row (c .bandwidth) (c .channel-1) (c .channel-2))) n j
 
+-- two calls are of one frame
+pub record SameChannels (c d : Call) : Type 0 where
+  pub bandwidths : c .bandwidth ≡ d .bandwidth
+  pub channels-1 : c .channel-1 ≡ d .channel-1
+  pub channels-2 : c .channel-2 ≡ d .channel-2
+
 abbrev pub SignalsRow : Call → (ℕ → ℕ) → Type 0
 SignalsRow c o =
     Signals o (at (row (c .bandwidth) (c .channel-1) (c .channel-2))) 0 (length (row (c .bandwidth) (c .channel-1) (c .channel-2)))
@@ -119,12 +129,13 @@ pub record PerStation : Type 1 where
       → SomePlanOfEight (row (c .bandwidth) (c .channel-1) (c .channel-2)) 0 (length (row (c .bandwidth) (c .channel-1) (c .channel-2)))
   pub the-streams : (c : Call) → Gives-streams c → c .answer .number ≡ 0 → (o : ℕ → ℕ) → SignalsRow c o
       → (i t n j : ℕ) → TheField c o i t n j → StreamsOn (theResource c o i) t (user (c .bandwidth) (channelOf c n) j) (at (c .after) (byteOf c n j))
-  -- 21 where a field names no row, and only there
+  -- 21 where a field of a frame that can be read names no row, and only there
   pub refused-21 : (c : Call) → Gives-streams c → c .answer .number ≡ 21 → (o : ℕ → ℕ) → SignalsRow c o
       → (i : ℕ) × (t : ℕ) × (n : ℕ) × (j : ℕ) × TheField c o i t n j × NoRow (theResource c o i) (user (c .bandwidth) (channelOf c n) j)
-  pub none-accepted : (c : Call) → Gives-streams c → c .answer .number ≡ 0 → (o : ℕ → ℕ) → SignalsRow c o
-      → (i t n j : ℕ) → TheField c o i t n j → NoRow (theResource c o i) (user (c .bandwidth) (channelOf c n) j) → ⊥
+  pub given-21 : (c d : Call) → Gives-streams c → Reads d → SameChannels c d → d .answer .number ≡ 0 → (o : ℕ → ℕ) → SignalsRow c o
+      → (i t n j : ℕ) → TheField c o i t n j → NoRow (theResource c o i) (user (c .bandwidth) (channelOf c n) j) → c .answer ≡ no 21 0 0
   -- 1 to 11 are the reader's: of the same frame, with room for all words, it gives the same refusal
-  pub as-read : (c d : Call) → Gives-streams c → Reads d
-      → d .bandwidth ≡ c .bandwidth → d .channel-1 ≡ c .channel-1 → d .channel-2 ≡ c .channel-2 → 154 ≤ length (d .lent)
-      → d .answer .number ≢ 0 → c .answer ≡ d .answer
+  pub as-read : (c d : Call) → Gives-streams c → Reads d → SameChannels c d → 154 ≤ length (d .lent) → d .answer .number ≢ 0 → c .answer ≡ d .answer
+  -- any two results that are allowed for one input agree
+  pub streams-agree : (c c′ : Call) → Gives-streams c → Gives-streams c′ → SameChannels c c′ → c .lent ≡ c′ .lent
+      → (c .answer ≡ c′ .answer) × (c .after ≡ c′ .after)
