@@ -43,7 +43,7 @@ use Rattle.stream_rows.proofs.Totals.{row-counts}
 use Rattle.stream_rows.proofs.Count.{is-listed}
 use Rattle.stream_rows.proofs.Judged.{RowPassed, up-to-8}
 use Rattle.stream_rows.proofs.Inverse as inverse
-use Rattle.streams.specs.Streams.{stationIn, nssIn, configurationIn, aloneStreams, sharedStreams, streamsOf, namesNone}
+use Rattle.streams.specs.Streams.{stationIn, nssIn, configurationIn, aloneStreams, sharedStreams, streamsBy, noneBy, streamsOf, namesNone}
 use Rattle.streams.specs.Result.{fields, fieldAt, streamsAt, namedAt, streamsOutcome, streamsAnswer, streamsAfter}
 use Rattle.faults.proofs.Passing.{of-both}
 use Rattle.streams.proofs.Fields.{named-row}
@@ -151,7 +151,7 @@ decoding = record {
 
 -- ---- the streams of a User field
 streams-on : (x : Record) (t f v : ℕ) → v ≡ streamsOf (fieldsOn x) t f → namesNone (fieldsOn x) f ≡ false → StreamsOn x t f v
-unfolding streamsOf aloneStreams sharedStreams
+unfolding streamsOf streamsBy aloneStreams sharedStreams
 streams-on x t f v g e = record {
   nobodys = λ n. g ∙ rw (eq-eqb (stationIn f) 2046 n);
   alone = λ n l k. g ∙ rw (ne-eqb (stationIn f) 2046 n, lt-ltb (fieldsOn x) 2 l, lt-ltb (nssIn f) 8 k);
@@ -165,7 +165,7 @@ streams-on x t f v g e = record {
 
 -- 21 of a field is by 02's words
 none-named : (x : Record) (f : ℕ) → namesNone (fieldsOn x) f ≡ true → NoRow x f
-unfolding namesNone
+unfolding namesNone noneBy
 none-named x f e =
     let a = of-both (not (eqb (stationIn f) 2046)) _ e in
     let b = of-both (leb 2 (fieldsOn x)) _ (a .1) in
@@ -177,7 +177,7 @@ none-named x f e =
     }
 
 named-none : (x : Record) (f : ℕ) → NoRow x f → namesNone (fieldsOn x) f ≡ true
-unfolding namesNone
+unfolding namesNone noneBy
 named-none x f n =
     rw (
       ne-eqb (stationIn f) 2046 (n .somebodys),

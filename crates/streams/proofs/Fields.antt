@@ -1,10 +1,10 @@
 -- What is judged of the User fields: a shared field of somebody's that is not refused names a row; 21 and 23.
 use mathlib.Core.Path.{_≡_, refl, _∙_, ap}
-use mathlib.Core.Bool.{Bool, true, false, not, _&&_}
+use mathlib.Core.Bool.{Bool, true, false, not}
 use mathlib.Core.List.{List}
 use Prim.Native.Nat.{ℕ, _≤_, _<_}
 use borrow.Author.Tests.{le-leb, leb-true, leb-false, lt-ltb, le-ltb, ltb-false, ne-eqb, not-false}
-use lib.Dec.{eqb, ltb, leb}
+use lib.Dec.{ltb, leb}
 use lib.ListN.{length}
 use Rattle.answer.specs.Answer.{no, refuseIf, _or_}
 use Rattle.answer.specs.Lists.{at, filled}
@@ -15,13 +15,13 @@ use Rattle.answer.proofs.Order.{pass-if, pass-left, pass-right}
 use Rattle.stream_rows.specs.Worked.{theRows}
 use Rattle.words.specs.Words.{userWord}
 use Rattle.words.proofs.Laws.{shared-parts, alone-parts}
-use Rattle.streams.specs.Streams.{stationIn, nssIn, configurationIn, aloneStreams, sharedStreams, streamsOf, namesNone}
-use Rattle.streams.specs.Engine.{wordStation, wordNss, wordConfiguration, wordNone, wordAlone, wordStreams}
+use Rattle.streams.specs.Streams.{stationIn, nssIn, configurationIn, streamsBy, noneBy, streamsOf, namesNone}
+use Rattle.streams.specs.Engine.{wordStation, wordNss, wordConfiguration, wordNone, wordStreams}
 use Rattle.streams.specs.Engine.{streamsIn, allNamed, outcomeIn, answerIn, afterIn}
 
 -- a station s with the configuration k, on a resource with so many users
-asked-row : (users s k : ℕ) → not (eqb s 2046) && (leb 2 users && leb (length (theRows users)) k) ≡ false → (s ≡ 2046 → ⊥) → 2 ≤ users
-    → k < length (theRows users)
+asked-row : (users s k : ℕ) → noneBy users s k ≡ false → (s ≡ 2046 → ⊥) → 2 ≤ users → k < length (theRows users)
+unfolding noneBy
 asked-row users s k e n l = let e = rw (ne-eqb s 2046 n, le-leb 2 users l) at e in leb-false (length (theRows users)) k e
 
 pub named-row : (users f : ℕ) → namesNone users f ≡ false → (stationIn f ≡ 2046 → ⊥) → 2 ≤ users → configurationIn f < length (theRows users)
@@ -44,7 +44,7 @@ word-configuration : (f : ℕ) → wordConfiguration (userWord true f) ≡ confi
 word-configuration f = ap (λ (vs : List ℕ). at vs 4) (shared-parts f)
 
 pub word-none : (users f : ℕ) → wordNone users (userWord (leb 2 users) f) ≡ namesNone users f
-unfolding wordNone namesNone
+unfolding wordNone namesNone noneBy
 word-none users f = go (leb 2 users) refl
   where
     go : (t : Bool) → leb 2 users ≡ t → wordNone users (userWord t f) ≡ namesNone users f
@@ -52,7 +52,7 @@ word-none users f = go (leb 2 users) refl
     go false e = rw (word-station false f, e)
 
 pub word-streams : (users t f : ℕ) → wordStreams users t (userWord (leb 2 users) f) ≡ streamsOf users t f
-unfolding wordStreams wordAlone streamsOf aloneStreams sharedStreams
+unfolding wordStreams streamsOf streamsBy
 word-streams users t f = go (leb 2 users) refl
   where
     go : (b : Bool) → leb 2 users ≡ b → wordStreams users t (userWord b f) ≡ streamsOf users t f

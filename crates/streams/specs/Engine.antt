@@ -1,9 +1,9 @@
 -- Engine: what the code holds of each User field, and what it makes of it. The contracts of the code cite it; nobody has to believe it:
 -- `proofs/Frame.antt`.
-use mathlib.Core.Bool.{Bool, cond, not, _&&_}
+use mathlib.Core.Bool.{Bool, not}
 use mathlib.Core.List.{List}
 use Prim.Native.Nat.{ℕ, _+_, _/_, _%_, _≤_, _<_}
-use lib.Dec.{eqb, ltb, leb}
+use lib.Dec.{ltb}
 use lib.ListN.{length, replicate, drop}
 use Rattle.answer.specs.Answer.{no, refuseIf, _or_, answerAt, after}
 use Rattle.answer.specs.Every.{every}
@@ -18,8 +18,7 @@ use Rattle.channel.specs.Layout.{positions}
 use Rattle.words.specs.Engine.{valueOf}
 use Rattle.words.specs.Words.{aloneWordWidths, sharedWordWidths}
 use Rattle.bits.specs.Pack.{unpack}
-use Rattle.stream_rows.specs.Rows.{rowIn}
-use Rattle.stream_rows.specs.Worked.{theRows}
+use Rattle.streams.specs.Streams.{streamsBy, noneBy}
 
 -- a code says which of its resource's fields a field is, and from 256 on of how many: none over eight
 pub record Coded (n : ℕ) (codes : List ℕ) : Type 0 where
@@ -37,15 +36,10 @@ abbrev pub wordConfiguration : ℕ → ℕ
 wordConfiguration w = at (unpack sharedWordWidths w) 4
 
 unfoldable pub wordNone : ℕ → ℕ → Bool
-wordNone users w =
-    not (eqb (wordStation w) 2046) && (leb 2 users && leb (length (theRows users)) (wordConfiguration w))
-
-unfoldable pub wordAlone : ℕ → ℕ
-wordAlone w = cond (ltb (wordNss w) 8) (wordNss w + 1) 0
+wordNone users w = noneBy users (wordStation w) (wordConfiguration w)
 
 unfoldable pub wordStreams : ℕ → ℕ → ℕ → ℕ
-wordStreams users t w =
-    cond (eqb (wordStation w) 2046) 0 (cond (ltb users 2) (wordAlone w) (at (rowIn (theRows users) (wordConfiguration w)) t))
+wordStreams users t w = streamsBy users t (wordStation w) (wordNss w) (wordConfiguration w)
 
 -- of the codes and the User words
 unfoldable pub namedIn : List ℕ → List ℕ → ℕ → Bool

@@ -21,22 +21,31 @@ nssIn f = at (unpack aloneWidths f) 3
 abbrev pub configurationIn : ℕ → ℕ
 configurationIn f = at (unpack sharedWidths f) 3
 
+-- ---- of a STA-ID s, an NSS n and a configuration k, on a resource with so many users
+
 -- 02, T-01: "STA-ID 2046 marks a resource that nobody has."
 abbrev pub nobodys : ℕ → Bool
-nobodys f = eqb (stationIn f) 2046
+nobodys s = eqb s 2046
 
 -- alone on its resource: one more than NSS; 0, not known, where that is over the eight of the published standard
 unfoldable pub aloneStreams : ℕ → ℕ
-aloneStreams f = cond (ltb (nssIn f) 8) (nssIn f + 1) 0
+aloneStreams n = cond (ltb n 8) (n + 1) 0
 
--- on a resource with so many users, the t-th of which is its own: that entry of the row that its configuration names
+-- shared, the t-th of the users being this one: that entry of the row that the configuration names
 unfoldable pub sharedStreams : ℕ → ℕ → ℕ → ℕ
-sharedStreams users t f = at (rowIn (theRows users) (configurationIn f)) t
+sharedStreams users t k = at (rowIn (theRows users) k) t
 
 -- "Where the resource has two or more fields over both channels together" it is shared; a field of nobody's has no streams
-unfoldable pub streamsOf : ℕ → ℕ → ℕ → ℕ
-streamsOf users t f = cond (nobodys f) 0 (cond (ltb users 2) (aloneStreams f) (sharedStreams users t f))
+unfoldable pub streamsBy : ℕ → ℕ → ℕ → ℕ → ℕ → ℕ
+streamsBy users t s n k = cond (nobodys s) 0 (cond (ltb users 2) (aloneStreams n) (sharedStreams users t k))
 
--- 21 of a field: "a number past the last row". A field of nobody's is not asked, nor one that is alone.
+-- 21: "a number past the last row". A field of nobody's is not asked, nor one that is alone.
+unfoldable pub noneBy : ℕ → ℕ → ℕ → Bool
+noneBy users s k = not (nobodys s) && (leb 2 users && leb (length (theRows users)) k)
+
+-- ---- of a User field of 22 bits
+unfoldable pub streamsOf : ℕ → ℕ → ℕ → ℕ
+streamsOf users t f = streamsBy users t (stationIn f) (nssIn f) (configurationIn f)
+
 unfoldable pub namesNone : ℕ → ℕ → Bool
-namesNone users f = not (nobodys f) && (leb 2 users && leb (length (theRows users)) (configurationIn f))
+namesNone users f = noneBy users (stationIn f) (configurationIn f)

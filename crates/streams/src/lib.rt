@@ -9,7 +9,8 @@ ghost use Rattle.answer.specs.Lists.{at, filled};
 ghost use Rattle.kinds.specs.Signals.{Signals};
 ghost use Rattle.plan.specs.Engine.{onlyPlan};
 ghost use Rattle.words.specs.Engine.{valueOf};
-ghost use Rattle.streams.specs.Engine.{Coded, wordNone, wordAlone, wordStreams, streamsIn, allNamed, answerIn, afterIn, codesOf};
+ghost use Rattle.streams.specs.Streams.{aloneStreams};
+ghost use Rattle.streams.specs.Engine.{Coded, wordNss, wordNone, wordStreams, streamsIn, allNamed, answerIn, afterIn, codesOf};
 ghost use Rattle.streams.specs.Engine.{Worded, wordsAnswer, wordsStreams};
 ghost use Rattle.streams.specs.Result.{streamsAnswer, streamsAfter};
 
@@ -53,7 +54,7 @@ fn names_none(code: u16, w: u32) -> bool
 
 // Alone on its resource.
 fn alone_streams(w: u32) -> u8
-    ensures { λ r. ⌜ r ≡ wordAlone w ⌝ }
+    ensures { λ r. ⌜ r ≡ aloneStreams (wordNss w) ⌝ }
 {
     let nss = (w / 256 / 2048 / 2 / 16 % 16) as u8;
     if nss < 8 { nss + 1 } else { 0 }

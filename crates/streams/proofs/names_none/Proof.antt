@@ -1,5 +1,6 @@
 -- `streams::names_none` meets its contract.
 use borrow.Author.Needs.{needs}
+use Rattle.streams.specs.Streams.{noneBy}
 use Rattle.streams.specs.Engine.{wordNone}
 use Rattle.streams.proofs.names_none.Statement.{statement}
 use Rattle.streams.proofs.names_none.Tie as tie
@@ -14,7 +15,7 @@ rows-of-requires : tie.Need-rows-of-requires
 rows-of-requires c κs = search needs
 
 returns : tie.Need-returns
-unfolding wordNone
+unfolding wordNone noneBy
 returns c = rw (c .rows-of .ensures)
 
 pub names-none-spec : {M : Type 1} → statement M
