@@ -1,1 +1,2 @@
 pub mod Agree
+pub mod Reached

@@ -2,11 +2,11 @@
 // run only where the earlier ones pass.
 use answer::Outcome;
 ghost use mathlib.Core.Path.{_≡_};
-ghost use Prim.Native.Nat.{_+_, _≤_};
+ghost use Prim.Native.Nat.{_+_, _*_, _≤_, _<_};
 ghost use lib.ListN.{length};
 ghost use Rattle.answer.specs.Answer.{_or_};
 ghost use Rattle.answer.specs.Lists.{filled};
-ghost use Rattle.channel.specs.Layout.{count, userOf};
+ghost use Rattle.channel.specs.Layout.{count, userOf, endOf};
 ghost use Rattle.halves.specs.Table.{check9, check10, check11};
 ghost use Rattle.halves.specs.Engine.{AtMost512, outcome9to11};
 
@@ -25,9 +25,10 @@ fn cut_users(bw: u32, a: &[u8], b: &[u8], n: usize, m: usize) -> Outcome
     )
 }
 
-// 10 on the way to the numbers, and 11 of them.
+// 10 on the way to the numbers, and 11 of them, of channels that reach their last blocks' ends: 9 has passed.
 fn take_checked(fields: &mut [u32], bw: u32, a: &[u8], b: &[u8], n: usize, m: usize) -> Outcome
-    requires { ⌜ (n + m ≤ length (now fields)) × (n ≤ 72) × (m ≤ 72) × (n ≡ count bw 1 (now a)) × (m ≡ count bw 2 (now b)) ⌝ }
+    requires { ⌜ (n + m ≤ length (now fields)) × (n ≤ 72) × (m ≤ 72) × (n ≡ count bw 1 (now a)) × (m ≡ count bw 2 (now b))
+        × (0 < n → endOf bw n ≤ 8 * length (now a)) × (0 < m → endOf bw m ≤ 8 * length (now b)) ⌝ }
     ensures { λ r. ⌜ r ≡ (check10 bw (now (a .entry)) (now (b .entry)) or check11 bw (now (a .entry)) (now (b .entry))) ⌝ }
     ensures { λ r. ⌜ (r ≡ Outcome.Pass
         → now (fields .exit) ≡ filled (userOf bw (now (a .entry)) (now (b .entry)) n) (n + m) (now (fields .entry))) ⌝ }

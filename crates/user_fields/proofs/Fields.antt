@@ -21,18 +21,47 @@ use Rattle.answer.proofs.Grow.{grown}
 use Rattle.answer.proofs.Order.{pass-or-refuse, or-refuse}
 use Rattle.bits.specs.Bits.{field}
 use Rattle.bits.proofs.Fields.{field-part}
-use Rattle.bits.proofs.Windows.{field-low, window-low}
+use Rattle.bits.proofs.Windows.{field-low, field-rest}
 use Rattle.register.specs.Engine.{quotient, allRight, rightOf}
 use Rattle.register.proofs.Word.{right-leaving}
 use Rattle.register.proofs.Gathered.{right-more}
 use Rattle.block.specs.Check.{right}
 use Rattle.block.proofs.Checks.{right-says, says-right}
 use Rattle.block.proofs.Word.{right-whole}
-use Rattle.channel.specs.Layout.{user, userOf, blockAt, covered, blocks, count}
-use Rattle.channel.proofs.Blocks.{user-even, user-odd, covered-two, covered-one}
+use Rattle.channel.specs.Layout.{user, userOf, blockAt, covered, blocks, count, endOf}
+use Rattle.channel.proofs.Blocks.{user-even, user-odd, block-after, covered-two, covered-one}
+use Rattle.channel.proofs.Laws.{common-ge}
 use Rattle.faults.specs.Checks.{wrongUsers}
 use Rattle.faults.proofs.Passing.{wrongUsers-pass, pass-wrongUsers}
 use Rattle.user_fields.specs.Engine.{blockRight, usersRight}
+
+-- ---- the window that a block is read through
+
+-- what is left of the eight bytes before byte j from bit `at` of them
+pub window-to : (s : List ℕ) (at j w : ℕ) → 8 ≤ j → 8 * (j - 8) ≤ at → at ≤ 8 * j → w ≡ field s (8 * (j - 8)) 64
+    → w / 2 ^ (at - 8 * (j - 8)) ≡ field s at (8 * j - at)
+window-to s at j w h l m e =
+    let k : 8 * (j - 8) + (at - 8 * (j - 8)) ≡ at = omega arith in
+    let n : 64 - (at - 8 * (j - 8)) ≡ 8 * j - at = omega arith in
+    ap (λ (x : ℕ). x / 2 ^ (at - 8 * (j - 8))) e
+    ∙ field-rest s (8 * (j - 8)) 64 (at - 8 * (j - 8)) (omega arith)
+    ∙ ap₂ (field s) k n
+
+-- a block of two fields, and the last of one, end where eight bytes have gone by, and not after the channel's end
+module _ (bw : ℕ) where
+  pub two-high : (b : ℕ) → 57 ≤ blockAt bw b + 54
+  two-high b = omega (arith, common-ge bw, block-after bw b)
+
+  pub one-high : (b : ℕ) → 57 ≤ blockAt bw b + 32
+  one-high b = omega (arith, common-ge bw, block-after bw b)
+
+  pub two-inside : (n b : ℕ) → 2 * b + 1 < n → blockAt bw b + 54 ≤ endOf bw n
+  unfolding blockAt endOf
+  two-inside n b l = omega arith
+
+  pub one-inside : (n : ℕ) → n % 2 ≡ 1 → blockAt bw (n / 2) + 32 ≤ endOf bw n
+  unfolding blockAt endOf
+  one-inside n e = omega arith
 
 -- ---- a number w that starts with block b
 
@@ -50,20 +79,20 @@ module _ (bw b : ℕ) (s : List ℕ) (k w : ℕ) (e : w ≡ field s (blockAt bw 
       ∙ ap (λ (i : ℕ). field s i 22) (sym (user-odd bw b))
 
 -- the test of a block of n fields in it
-pub test-is : (bw b : ℕ) (s : List ℕ) (n c w : ℕ) → w ≡ field s (blockAt bw b) (64 - blockAt bw b % 8) → covered n b ≡ c → c ≤ 44
-    → rightOf w c ≡ blockRight bw s n b
+pub test-is : (bw b : ℕ) (s : List ℕ) (n c k w : ℕ) → w ≡ field s (blockAt bw b) k → covered n b ≡ c → c + 10 ≤ k → rightOf w c ≡ blockRight bw s n b
 unfolding blockRight
-test-is bw b s n c w e f l =
-    right-whole s (blockAt bw b) c w (window-low s (blockAt bw b) w (c + 10) e (omega arith)) ∙ ap (right s (blockAt bw b)) (sym f)
+test-is bw b s n c k w e f l =
+    right-whole s (blockAt bw b) c w (ap (λ (x : ℕ). x % 2 ^ (c + 10)) e ∙ field-low s (blockAt bw b) k (c + 10) l)
+    ∙ ap (right s (blockAt bw b)) (sym f)
 
 -- ---- the blocks of two, one more at a time
 
-pub right-next : (bw b : ℕ) (s : List ℕ) (n q x w : ℕ) → w < 2 ^ 64 → w ≡ field s (blockAt bw b) (64 - blockAt bw b % 8) → 2 * b + 1 < n
+pub right-next : (bw b : ℕ) (s : List ℕ) (n q x k w : ℕ) → w < 2 ^ 64 → w ≡ field s (blockAt bw b) k → 54 ≤ k → 2 * b + 1 < n
     → allRight q x 44 ≡ every (blockRight bw s n) b
     → allRight (bitAnd q (quotient (bitXor 255 w))) (bitOr x w) 44 ≡ every (blockRight bw s n) (b + 1)
-right-next bw b s n q x w h e l i =
+right-next bw b s n q x k w h e m l i =
     right-more q x (quotient (bitXor 255 w)) w 44
-    ∙ ap₂ _&&_ i (right-leaving w 44 h (omega arith) ∙ test-is bw b s n 44 w e (covered-two n b l) (omega arith))
+    ∙ ap₂ _&&_ i (right-leaving w 44 h (omega arith) ∙ test-is bw b s n 44 k w e (covered-two n b l) m)
     ∙ every-next (blockRight bw s n) b
 
 pub two-more : (f : ℕ → ℕ) (b x y : ℕ) (out w : List ℕ) → 2 * b + 1 < length w → out ≡ filled f (2 * b) w → x ≡ f (2 * b) → y ≡ f (2 * b + 1)
@@ -94,6 +123,11 @@ odd-filled f n out w l e h =
     ap (λ (z : List ℕ). set z (n - 1) (f (n - 1))) (h ∙ ap (λ (j : ℕ). filled f j w) p)
     ∙ filled-step f (n - 1) (f (n - 1)) w (omega arith) refl
     ∙ ap (λ (j : ℕ). filled f j w) q
+
+-- a channel of no fields has no block
+pub none-right : (bw : ℕ) (s : List ℕ) (n : ℕ) → n ≡ 0 → usersRight bw s n ≡ true
+unfolding usersRight blocks
+none-right bw s n e = rw e refl
 
 -- ---- 10: a channel's passes where all its blocks are right, and only there
 
@@ -138,3 +172,9 @@ both-filled bw a b w v ys n m l e f =
     (e ∙ filled-cong (user bw a) (userOf bw a b n) n w (λ i h. user-one bw a b n i h))
     (λ i h. user-other bw a b n i)
     f
+
+-- where channel 2 has none, channel 1's are all
+pub one-filled : (bw : ℕ) (a b w v : List ℕ) (n m : ℕ) → m ≡ 0 → v ≡ filled (user bw a) n w → v ≡ filled (userOf bw a b n) (n + m) w
+one-filled bw a b w v n m z e =
+    let k : n ≡ n + m = omega arith in
+    e ∙ filled-cong (user bw a) (userOf bw a b n) n w (λ i h. user-one bw a b n i h) ∙ ap (λ (j : ℕ). filled (userOf bw a b n) j w) k

@@ -3,6 +3,7 @@ use mathlib.Core.Path.{sym, _∙_}
 use Rattle.answer.proofs.Order.{or-refuse, or-assoc, pass-not-refuse}
 use Rattle.halves.specs.Engine.{outcome9to11}
 use Rattle.halves.proofs.Stages.{pass-next}
+use Rattle.second_half.proofs.Reached.{reached}
 use borrow.Author.Needs.{needs}
 use Rattle.second_half.proofs.check_users.Statement.{statement}
 use Rattle.second_half.proofs.check_users.Tie as tie
@@ -25,7 +26,12 @@ enum-told-2 : tie.Need-enum-told-2
 enum-told-2 c = search needs
 
 take-checked-requires : tie.Need-take-checked-requires
-take-checked-requires c κs = search needs
+take-checked-requires c κs =
+    let b = c .before .before .before .before .before .before .before in
+    let a = b .args in
+    let f = sym (c .before .before .before .cut-users .ensures) ∙ c .before .enum-told2 .given .1 in
+    let r = reached (a .bw) (a .a .now) (a .b .now) (a .n) (a .m) (b .pre .4) (b .pre .5) f in
+    search needs
 
 same-length : tie.Need-same-length
 same-length c = search needs

@@ -23,7 +23,9 @@ returns c =
     (t .ensures .0 ∙ even-right (a .bw) (a .s .now) (a .n) (omega arith), rw (← e) (t .ensures .1))
 
 take-last-requires : tie.Need-take-last-requires
-take-last-requires c κs = search needs
+take-last-requires c κs =
+    let r = c .before .before .before .before .before .before .before .before .pre .2 (omega arith) in
+    search needs
 
 same-length-2 : tie.Need-same-length-2
 same-length-2 c = search needs

@@ -1,5 +1,5 @@
 -- `user_fields::take_pairs` meets its contract.
-use Prim.Native.Nat.{ℕ, _-_, _*_, _/_, _%_, _≤_}
+use Prim.Native.Nat.{ℕ, _+_, _-_, _*_, _/_, _≤_}
 use mathlib.Core.Path.{_≡_, refl, _∙_, ap}
 use native.Mathlib.Omega.{arith}
 use lib.Bits.{bitAnd, bitOr}
@@ -11,7 +11,7 @@ use Rattle.bits.specs.Bits.{field}
 use Rattle.register.specs.Engine.{allRight}
 use Rattle.channel.specs.Layout.{user, blockAt}
 use Rattle.user_fields.specs.Engine.{blockRight}
-use Rattle.user_fields.proofs.Fields.{first-is, second-is, right-next, two-more}
+use Rattle.user_fields.proofs.Fields.{two-high, two-inside, first-is, second-is, right-next, two-more}
 use borrow.Author.Needs.{needs}
 use Rattle.user_fields.proofs.take_pairs.Statement.{statement}
 use Rattle.user_fields.proofs.take_pairs.Tie as tie
@@ -30,8 +30,19 @@ loop-holds c = (search needs, refl, filled-start _ _, refl)
 block-bit-requires : tie.Need-block-bit-requires Inv-loop μ-loop
 block-bit-requires c κs = search needs
 
-wide-from-requires : tie.Need-wide-from-requires Inv-loop μ-loop
-wide-from-requires c κs = search needs
+add-window-to : tie.Need-add-window-to Inv-loop μ-loop
+add-window-to c = search needs
+
+window-to-requires : tie.Need-window-to-requires Inv-loop μ-loop
+window-to-requires c κs =
+    let b = c .before .before .before .before .before in
+    let a = b .args in
+    let l = c .before .before .loop in
+    let e = c .block-bit .ensures .0 in
+    let h = two-high (a .bw) (l .b) in
+    let i = two-inside (a .bw) (a .n) (l .b) (omega arith) in
+    let r = b .pre .2 (omega arith) in
+    (omega arith, omega arith, omega arith, omega arith, omega arith)
 
 first-in-requires : tie.Need-first-in-requires Inv-loop μ-loop
 first-in-requires c κs = search needs
@@ -73,16 +84,18 @@ loop-again : tie.Need-loop-again Inv-loop μ-loop
 loop-again c =
     let a = c .before .before .before .before .before .before .before .before .before .args in
     let l = c .before .before .before .before .before .before .loop in
-    let w = c .before .before .before .wide-from .result in
-    let at : c .before .before .before .before .block-bit .result ≡ blockAt (a .bw) (l .b) = c .before .before .before .before .block-bit .ensures .0 in
-    let e : w ≡ field (a .s .now) (blockAt (a .bw) (l .b)) (64 - blockAt (a .bw) (l .b) % 8) = rw (← at) (c .before .before .before .wide-from .ensures) in (
+    let w = c .before .before .before .window-to .result in
+    let p = blockAt (a .bw) (l .b) in
+    let k = 8 * ((p + 54 + 7) / 8) - p in
+    let at : c .before .before .before .before .block-bit .result ≡ p = c .before .before .before .before .block-bit .ensures .0 in
+    let e : w ≡ field (a .s .now) p k = rw (← at) (c .before .before .before .window-to .ensures) in (
       search needs,
       ap (λ (u : ℕ). allRight (bitAnd (l .q) u) (bitOr (l .x) w) 44) (c .leaving .ensures)
-          ∙ right-next (a .bw) (l .b) (a .s .now) (a .n) (l .q) (l .x) w (omega arith) e (omega arith) (l .inv .1),
+          ∙ right-next (a .bw) (l .b) (a .s .now) (a .n) (l .q) (l .x) k w (omega arith) e (omega arith) (omega arith) (l .inv .1),
       two-more (user (a .bw) (a .s .now)) (l .b) (c .before .before .first-in .result) (c .before .second-in .result) (l .fields) (a .fields .now) (omega arith)
           (l .inv .2)
-          (c .before .before .first-in .ensures ∙ first-is (a .bw) (l .b) (a .s .now) _ w e (omega arith))
-          (c .before .second-in .ensures ∙ second-is (a .bw) (l .b) (a .s .now) _ w e (omega arith)),
+          (c .before .before .first-in .ensures ∙ first-is (a .bw) (l .b) (a .s .now) k w e (omega arith))
+          (c .before .second-in .ensures ∙ second-is (a .bw) (l .b) (a .s .now) k w e (omega arith)),
       simp length-set (l .inv .3),
     )
 
@@ -107,7 +120,8 @@ take-pairs-spec =
     μ-loop
     loop-holds
     block-bit-requires
-    wide-from-requires
+    add-window-to
+    window-to-requires
     first-in-requires
     mul-fields
     mul-fields-2
