@@ -1,25 +1,28 @@
--- Where the numbers that hold the common fields are right, both channels pass 4.
-use mathlib.Core.Path.{_≡_, refl, sym, _∙_, ap}
-use mathlib.Core.Bool.{Bool, true, false, cond, _&&_, false≢true}
+-- 4 of the numbers that hold the common fields is 4 of the channels: where it passes, and its place.
+use mathlib.Core.Path.{_≡_, refl, sym, _∙_, ap, ap₂}
+use mathlib.Core.Bool.{Bool, true, false, cond, not, _&&_, false≢true}
 use mathlib.Core.List.{List}
 use Prim.Native.Nat.{ℕ, _+_, _≤_, _<_}
 use native.Mathlib.Decide.{decLt, ℕ-discrete}
 use native.Mathlib.Omega.{arith}
 use lib.Dec.{eqb, ltb}
 use borrow.Author.Tests.{lt-ltb, le-ltb, eq-eqb, ne-eqb}
-use Rattle.answer.specs.declared.Outcome.the-variants.{Pass}
+use Rattle.answer.specs.Answer as A
+use Rattle.answer.specs.Answer.{refuseIf, _or_}
+use Rattle.answer.specs.declared.Outcome.the-variants.{Pass, Refuse}
+use Rattle.answer.proofs.Order.{or-pass, or-next, or-refuse, or-end}
 use Rattle.register.specs.Engine.{rightOf}
-use Rattle.block.specs.Check.{Right}
+use Rattle.block.specs.Check.{Right, right}
 use Rattle.block.proofs.Checks.{right-says}
 use Rattle.block.proofs.Word.{right-whole}
 use Rattle.channel.specs.Layout.{present, firsts, seconds, firstBits, secondAt, secondBits, hasSecond}
 use Rattle.channel.specs.declared.Parts.{Parts}
 use Rattle.channel.specs.Engine.{firstPart, secondPart, partsOf}
-use Rattle.channel.proofs.Laws.{present-wide, absent-2}
+use Rattle.channel.proofs.Laws.{present-1, present-wide, absent-2}
 use Rattle.channel.proofs.Held.{first-low, second-low}
-use Rattle.faults.specs.Checks.{wrongCommon}
+use Rattle.faults.specs.Checks.{wrongFirst, wrongSecond, wrongCommon}
 use Rattle.faults.proofs.Passing.{CommonRight, of-both, pass-wrongCommon}
-use Rattle.wrong_blocks.specs.Engine.{partsRight}
+use Rattle.wrong_blocks.specs.Engine.{partsRight, secondRight, wrongAt, wrongHeld, wrongParts}
 
 -- ---- the widths, by code
 
@@ -31,13 +34,36 @@ pub first-wide : (bw : ℕ) → 2 ≤ bw → firstBits bw ≡ 35
 unfolding firstBits firsts
 first-wide bw l = rw (le-ltb bw 2 l)
 
-pub second-160 : (bw : ℕ) → bw ≡ 3 → secondBits bw ≡ 18
-unfolding secondBits seconds
-second-160 bw e = rw e
+-- whether there is a second part
+has-none : (bw : ℕ) → bw < 3 → hasSecond bw ≡ false
+unfolding hasSecond seconds
+has-none bw l = rw (ne-eqb bw 3 (λ e. omega arith), ne-eqb bw 4 (λ e. omega arith)) refl
 
-pub second-320 : (bw : ℕ) → bw ≡ 4 → secondBits bw ≡ 54
-unfolding secondBits seconds
-second-320 bw e = rw e
+pub has-some : (bw : ℕ) → 3 ≤ bw → bw ≤ 4 → hasSecond bw ≡ true
+unfolding hasSecond seconds
+has-some bw l m = go (ℕ-discrete bw 3)
+  where
+    go : Dec (bw ≡ 3) → ltb 0 (cond (eqb bw 3) 2 (cond (eqb bw 4) 6 0)) ≡ true
+    go (yes e) = rw e
+    go (no e) = let f : bw ≡ 4 = omega arith in rw f
+
+-- the test of the second part, by code
+module _ (bw z : ℕ) where
+  pub tested-none : bw < 3 → true ≡ secondRight bw z
+  unfolding secondRight
+  tested-none l = rw (has-none bw l)
+
+  pub tested-160 : bw ≡ 3 → rightOf z 18 ≡ secondRight bw z
+  unfolding secondRight hasSecond secondBits seconds
+  tested-160 e = rw e refl
+
+  pub tested-320 : bw ≡ 4 → rightOf z 54 ≡ secondRight bw z
+  unfolding secondRight hasSecond secondBits seconds
+  tested-320 e = rw e refl
+
+  pub tested-there : hasSecond bw ≡ true → secondRight bw z ≡ rightOf z (secondBits bw)
+  unfolding secondRight
+  tested-there e = rw e
 
 -- ---- what the test says
 
@@ -117,3 +143,84 @@ parts-pass bw a b e =
         let o : bw ≡ 0 = omega arith in
         let f : present 0 2 ≡ true = rw o at p in
         absurd (false≢true (sym absent-2 ∙ f))
+
+-- ---- 4, place and all
+
+-- of one channel, as its parts' checks turn out
+module _ (bw c x z : ℕ) where
+  held-pass : rightOf x (firstBits bw) && secondRight bw z ≡ true → wrongHeld bw c x z ≡ Pass
+  unfolding wrongHeld _or_
+  held-pass e = go (rightOf x (firstBits bw)) (secondRight bw z) e
+    where
+      go : (t u : Bool) → t && u ≡ true
+          → refuseIf (not t) (A.no 4 c (firstBits bw)) or refuseIf (not u) (A.no 4 c (secondAt bw + secondBits bw)) ≡ Pass
+      go true true e = refl
+      go true false e = absurd (false≢true e)
+      go false u e = absurd (false≢true e)
+
+  held-wrong : rightOf x (firstBits bw) && secondRight bw z ≡ false → wrongHeld bw c x z ≡ wrongAt bw c (rightOf x (firstBits bw))
+  unfolding wrongHeld wrongAt _or_
+  held-wrong e = go (rightOf x (firstBits bw)) (secondRight bw z) e
+    where
+      go : (t u : Bool) → t && u ≡ false
+          → refuseIf (not t) (A.no 4 c (firstBits bw)) or refuseIf (not u) (A.no 4 c (secondAt bw + secondBits bw))
+          ≡ Refuse (A.no 4 c (cond t (secondAt bw + secondBits bw) (firstBits bw)))
+      go true true e = absurd (false≢true (sym e))
+      go true false e = refl
+      go false u e = refl
+
+-- of both: the first that is wrong gives the answer
+module _ (bw : ℕ) (p : Parts) where
+  pub wrong-20 : bw ≡ 0 → refuseIf (not (rightOf (p .first1) (firstBits bw))) (A.no 4 1 (firstBits bw)) ≡ wrongParts bw p
+  unfolding wrongParts wrongHeld
+  wrong-20 e =
+      let n : present bw 2 ≡ false = rw e absent-2 in
+      let s : secondRight bw (p .second1) ≡ true = sym (tested-none bw (p .second1) (omega arith)) in
+      rw (n, s) (sym (or-end _ ∙ or-end _))
+
+  pub wrong-1 : rightOf (p .first1) (firstBits bw) && secondRight bw (p .second1) ≡ false → wrongAt bw 1 (rightOf (p .first1) (firstBits bw)) ≡ wrongParts bw p
+  unfolding wrongParts wrongAt
+  wrong-1 e = sym (or-refuse _ _ _ (held-wrong bw 1 (p .first1) (p .second1) e))
+
+  module _ (d : bw ≡ 0 → ⊥) where
+    there : present bw 2 ≡ true
+    there = present-wide bw 2 (omega arith)
+
+    pub wrong-2 : rightOf (p .first1) (firstBits bw) && secondRight bw (p .second1) ≡ true
+        → rightOf (p .first2) (firstBits bw) && secondRight bw (p .second2) ≡ false
+        → wrongAt bw 2 (rightOf (p .first2) (firstBits bw)) ≡ wrongParts bw p
+    unfolding wrongParts
+    wrong-2 e f =
+        rw there (sym (or-next _ _ (held-pass bw 1 (p .first1) (p .second1) e) ∙ held-wrong bw 2 (p .first2) (p .second2) f))
+
+    pub wrong-none : rightOf (p .first1) (firstBits bw) && secondRight bw (p .second1) ≡ true
+        → rightOf (p .first2) (firstBits bw) && secondRight bw (p .second2) ≡ true → Pass ≡ wrongParts bw p
+    unfolding wrongParts
+    wrong-none e f =
+        rw there (sym (or-pass _ _ (held-pass bw 1 (p .first1) (p .second1) e) (held-pass bw 2 (p .first2) (p .second2) f)))
+
+-- a channel's parts are wrong where 4 says so
+second-common : (bw : ℕ) (s : List ℕ) (t : Bool) → hasSecond bw ≡ t
+    → not (secondRight bw (secondPart bw s)) ≡ hasSecond bw && not (right s (secondAt bw) (secondBits bw))
+unfolding secondRight
+second-common bw s true h = rw (h, right-whole s (secondAt bw) (secondBits bw) (secondPart bw s) (second-low bw s h)) refl
+second-common bw s false h = rw h refl
+
+held-common : (bw c : ℕ) (s : List ℕ) → present bw c ≡ true → wrongHeld bw c (firstPart bw s) (secondPart bw s) ≡ wrongCommon bw c s
+unfolding wrongHeld wrongCommon wrongFirst wrongSecond
+held-common bw c s e =
+    let f = right-whole s 0 (firstBits bw) (firstPart bw s) (unfold secondAt in first-low bw s) in
+    rw (e, f, second-common bw s (hasSecond bw) refl) refl
+
+absent-pass : (bw c : ℕ) (s : List ℕ) → present bw c ≡ false → wrongCommon bw c s ≡ Pass
+absent-pass bw c s e = pass-wrongCommon bw c s (λ p. absurd (false≢true (sym e ∙ p)))
+
+-- so 4 of the numbers is 4 of the channels, its place too
+pub parts-wrong : (bw : ℕ) (a b : List ℕ) → wrongParts bw (partsOf bw a b) ≡ (wrongCommon bw 1 a or wrongCommon bw 2 b)
+unfolding wrongParts partsOf
+parts-wrong bw a b = ap₂ _or_ (held-common bw 1 a (present-1 bw)) (two (present bw 2) refl)
+  where
+    two : (t : Bool) → present bw 2 ≡ t
+        → cond (present bw 2) (wrongHeld bw 2 (cond (present bw 2) (firstPart bw b) 0) (secondPart bw b)) Pass ≡ wrongCommon bw 2 b
+    two true e = rw e (held-common bw 2 b e)
+    two false e = rw e (sym (absent-pass bw 2 b e))

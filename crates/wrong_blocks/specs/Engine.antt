@@ -1,10 +1,13 @@
 -- Engine: 4 of the numbers that hold the common fields, looked at once for both channels and parts. The contracts of the code cite it; nobody has to
 -- believe it: `proofs/Held.antt`.
-use mathlib.Core.Bool.{Bool, cond, _&&_}
-use Prim.Native.Nat.{ℕ}
+use mathlib.Core.Bool.{Bool, true, cond, not, _&&_}
+use Prim.Native.Nat.{ℕ, _+_}
 use lib.Dec.{eqb, ltb}
+use Rattle.answer.specs.Answer.{no, refuseIf, _or_}
+use Rattle.answer.specs.declared.Outcome.{Outcome}
+use Rattle.answer.specs.declared.Outcome.the-variants.{Pass, Refuse}
 use Rattle.register.specs.Engine.{rightOf}
-use Rattle.channel.specs.Layout.{firstBits, secondBits}
+use Rattle.channel.specs.Layout.{present, firstBits, secondAt, secondBits, hasSecond}
 use Rattle.channel.specs.declared.Parts.{Parts}
 
 -- the first parts, of both channels where there are two; the second parts where there are any
@@ -14,3 +17,21 @@ partsRight bw p =
     (cond (ltb bw 3) (rightOf (p .first1) (firstBits bw) && rightOf (p .first2) (firstBits bw))
     (((rightOf (p .first1) (firstBits bw) && rightOf (p .first2) (firstBits bw)) && rightOf (p .second1) (secondBits bw))
     && rightOf (p .second2) (secondBits bw)))
+
+-- the second part, where there is one
+unfoldable pub secondRight : ℕ → ℕ → Bool
+secondRight bw z = cond (hasSecond bw) (rightOf z (secondBits bw)) true
+
+-- the refusal of channel c, of whose parts one is wrong: the first, or else the second
+unfoldable pub wrongAt : ℕ → ℕ → Bool → Outcome
+wrongAt bw c first = Refuse (no 4 c (cond first (secondAt bw + secondBits bw) (firstBits bw)))
+
+-- 4 of channel c, whose parts are x and z
+unfoldable pub wrongHeld : ℕ → ℕ → ℕ → ℕ → Outcome
+wrongHeld bw c x z =
+    refuseIf (not (rightOf x (firstBits bw))) (no 4 c (firstBits bw))
+    or refuseIf (not (secondRight bw z)) (no 4 c (secondAt bw + secondBits bw))
+
+-- of both, where there are two
+unfoldable pub wrongParts : ℕ → Parts → Outcome
+wrongParts bw p = wrongHeld bw 1 (p .first1) (p .second1) or cond (present bw 2) (wrongHeld bw 2 (p .first2) (p .second2)) Pass

@@ -4,9 +4,9 @@ use channel::Parts;
 ghost use mathlib.Core.Path.{_≡_};
 ghost use Prim.Native.Nat.{_≤_};
 ghost use Rattle.register.specs.Engine.{rightOf};
-ghost use Rattle.channel.specs.Layout.{firstBits, secondBits, count};
+ghost use Rattle.channel.specs.Layout.{firstBits, count};
 ghost use Rattle.faults.specs.Checks.{wrongFirst, wrongSecond, wrongCommon, wrongBlock, firstWrong, wrongUsers};
-ghost use Rattle.wrong_blocks.specs.Engine.{partsRight};
+ghost use Rattle.wrong_blocks.specs.Engine.{partsRight, secondRight, wrongAt, wrongParts};
 
 // The two widths stand as constants, so that no more of the quotient is worked out than reaches the check.
 fn is_first_right(bw: u32, x: u64) -> bool
@@ -19,10 +19,14 @@ fn is_first_right(bw: u32, x: u64) -> bool
     }
 }
 
+// Where there is no second part, none is wrong.
 fn is_second_right(bw: u32, x: u64) -> bool
-    requires { ⌜ (3 ≤ bw) × (bw ≤ 4) ⌝ }
-    ensures { λ r. ⌜ r ≡ rightOf x (secondBits bw) ⌝ }
+    requires { ⌜ bw ≤ 4 ⌝ }
+    ensures { λ r. ⌜ r ≡ secondRight bw x ⌝ }
 {
+    if bw < 3 {
+        return true;
+    }
     if bw == 3 {
         register::right_of(x, 18)
     } else {
@@ -46,6 +50,39 @@ pub fn parts_right(bw: u32, parts: Parts) -> bool
     first & is_second_right(bw, parts.second1) & is_second_right(bw, parts.second2)
 }
 
+// The place in a channel one of whose parts is wrong: the first part's check, or where that one is right the second's.
+fn place_wrong(bw: u32, channel: u32, first: bool) -> Outcome
+    ensures { λ r. ⌜ r ≡ wrongAt bw channel first ⌝ }
+{
+    if first {
+        return answer::refuse_if(true, 4, channel, channel::second_check(bw));
+    }
+    answer::refuse_if(true, 4, channel, channel::first_bits(bw))
+}
+
+// Answer 4, of a frame whose common fields are these: each part's check is worked out once, for the answer and for its place. They are
+// looked at together, since a frame that passes has one way through.
+pub fn wrong_parts(bw: u32, parts: Parts) -> Outcome
+    requires { ⌜ bw ≤ 4 ⌝ }
+    ensures { λ r. ⌜ r ≡ wrongParts bw parts ⌝ }
+{
+    let first1 = is_first_right(bw, parts.first1);
+    if bw == 0 {
+        return answer::refuse_if(!first1, 4, 1, channel::first_bits(bw));
+    }
+    let second1 = is_second_right(bw, parts.second1);
+    let first2 = is_first_right(bw, parts.first2);
+    let second2 = is_second_right(bw, parts.second2);
+    let one = first1 & second1;
+    if one & first2 & second2 {
+        return Outcome::Pass;
+    }
+    if one {
+        return place_wrong(bw, 2, first2);
+    }
+    place_wrong(bw, 1, first1)
+}
+
 fn is_wrong_first(bw: u32, channel: u32, s: &[u8]) -> bool
     ensures { λ r. ⌜ r ≡ wrongFirst bw channel (now (s .entry)) ⌝ }
 {
@@ -66,7 +103,7 @@ fn is_wrong_second(bw: u32, channel: u32, s: &[u8]) -> bool
     }
 }
 
-// Answer 4.
+// Answer 4, of one channel.
 pub fn wrong_common(bw: u32, channel: u32, s: &[u8]) -> Outcome
     ensures { λ r. ⌜ r ≡ wrongCommon bw channel (now (s .entry)) ⌝ }
 {

@@ -1,6 +1,7 @@
 -- `wrong_blocks::parts_right` meets its contract.
-use mathlib.Core.Path.{refl}
+use mathlib.Core.Path.{refl, _∙_}
 use Rattle.wrong_blocks.specs.Engine.{partsRight}
+use Rattle.wrong_blocks.proofs.Held.{has-some, tested-there}
 use borrow.Author.Tests.{eq-eqb, ne-eqb, lt-ltb, le-ltb}
 use borrow.Author.Needs.{needs}
 use Rattle.wrong_blocks.proofs.parts_right.Statement.{statement}
@@ -35,7 +36,10 @@ returns-3 c =
     let x = c .before .before .before .before .before .is-first-right .ensures in
     let y = c .before .before .before .is-first-right2 .ensures in
     let n = ne-eqb _ 0 (c .before .before .before .before .if1 .left) in
-    rw (x, y, c .before .is-second-right .ensures, c .is-second-right2 .ensures) (rw (n, le-ltb _ 3 (c .before .before .if2 .left)) refl)
+    let h = has-some _ (c .before .before .if2 .left) (c .before .before .before .before .before .before .pre) in
+    let z = c .before .is-second-right .ensures ∙ tested-there _ _ h in
+    let w = c .is-second-right2 .ensures ∙ tested-there _ _ h in
+    rw (x, y, z, w) (rw (n, le-ltb _ 3 (c .before .before .if2 .left)) refl)
 
 pub parts-right-spec : {M : Type 1} → statement M
 parts-right-spec =
