@@ -4,16 +4,18 @@
 use answer::Outcome;
 use channel::Parts;
 use halves::Planned;
+use plan::Rest;
 ghost use mathlib.Core.Path.{_≡_};
 ghost use mathlib.Core.Bool.{true};
-ghost use Prim.Native.Nat.{_≤_};
-ghost use lib.ListN.{length, replicate};
+ghost use Prim.Native.Nat.{_≤_, _<_};
+ghost use lib.ListN.{length, take, replicate};
 ghost use Rattle.answer.specs.Answer.{_or_};
 ghost use Rattle.resource.specs.Values.{carried};
+ghost use Rattle.plan.specs.Engine.{Tells};
 ghost use Rattle.channel.specs.Layout.{rowIn16};
 ghost use Rattle.channel.specs.Engine.{partsOf};
-ghost use Rattle.halves.specs.Table.{check1, check2, check3, check4, check5, check6, outcome6};
-ghost use Rattle.halves.specs.Engine.{AtMost512, Whole, Sealed, outcome3, outcome4to6, allCarried, noPlan, plannedOf};
+ghost use Rattle.halves.specs.Table.{check1, check2, check3, check4, check5, check6};
+ghost use Rattle.halves.specs.Engine.{AtMost512, Whole, Sealed, outcome3, outcome5, allCarried, noPlan, plannedOf, Plans};
 
 fn first_checks(bw: u32, a: &[u8], b: &[u8]) -> Outcome
     ensures { λ r. ⌜ r ≡ (check1 bw or check2 bw (now (a .entry)) (now (b .entry))) ⌝ }
@@ -53,13 +55,7 @@ fn wrong_common(bw: u32, a: &[u8], b: &[u8], parts: Parts, sealed: bool) -> Outc
     if sealed {
         return Outcome::Pass;
     }
-    if wrong_blocks::parts_right(bw, parts) {
-        return Outcome::Pass;
-    }
-    answer::or_else(
-        wrong_blocks::wrong_common(bw, 1, a),
-        wrong_blocks::wrong_common(bw, 2, b),
-    )
+    wrong_blocks::wrong_parts(bw, parts)
 }
 
 fn then_overflow(prev: Outcome, bw: u32, a: &[u8], b: &[u8], parts: Parts) -> Outcome
@@ -110,10 +106,10 @@ fn not_carried(bw: u32, a: &[u8], b: &[u8], row: &[u16; 16]) -> Outcome
     )
 }
 
-// 4 to 6, of a frame that passes 1 to 3; and its row.
-fn next_three(bw: u32, a: &[u8], b: &[u8], sealed: bool, row: &mut [u16; 16]) -> Outcome
+// 4 and 5, of a frame that passes 1 to 3; and its row.
+fn next_two(row: &mut [u16; 16], bw: u32, a: &[u8], b: &[u8], sealed: bool) -> Outcome
     requires { ⌜ (sealed ≡ true → Sealed bw (now a) (now b)) × Whole bw (now a) (now b) × (now row ≡ replicate 16 0) ⌝ }
-    ensures { λ r. ⌜ r ≡ outcome4to6 bw (now (a .entry)) (now (b .entry)) ⌝ }
+    ensures { λ r. ⌜ r ≡ (check4 bw (now (a .entry)) (now (b .entry)) or check5 bw (now (a .entry)) (now (b .entry))) ⌝ }
     ensures { λ r. ⌜ (r ≡ Outcome.Pass → now (row .exit) ≡ rowIn16 bw (now (a .entry)) (now (b .entry))) ⌝ }
 {
     let parts = channel::parts_of(bw, a, b);
@@ -123,20 +119,82 @@ fn next_three(bw: u32, a: &[u8], b: &[u8], sealed: bool, row: &mut [u16; 16]) ->
         return five;
     }
     channel::put_row(row, bw, parts);
-    not_carried(bw, a, b, row)
+    five
 }
 
-// 1 to 6, and the row of a frame that passes them.
-fn first_six(bw: u32, a: &[u8], b: &[u8], sealed: bool, row: &mut [u16; 16]) -> Outcome
+// 1 to 5, and the row of a frame that passes them.
+fn first_five(row: &mut [u16; 16], bw: u32, a: &[u8], b: &[u8], sealed: bool) -> Outcome
     requires { ⌜ (sealed ≡ true → Sealed bw (now a) (now b)) × (now row ≡ replicate 16 0) ⌝ }
-    ensures { λ r. ⌜ r ≡ outcome6 bw (now (a .entry)) (now (b .entry)) ⌝ }
+    ensures { λ r. ⌜ r ≡ outcome5 bw (now (a .entry)) (now (b .entry)) ⌝ }
     ensures { λ r. ⌜ (r ≡ Outcome.Pass → now (row .exit) ≡ rowIn16 bw (now (a .entry)) (now (b .entry))) ⌝ }
 {
     let three = first_three(bw, a, b);
     if let Outcome::Refuse(_) = three {
         return three;
     }
-    next_three(bw, a, b, sealed, row)
+    next_two(row, bw, a, b, sealed)
+}
+
+// A refusal, with no plan.
+fn stopped(outcome: Outcome) -> Rest
+    ensures { λ r. ⌜ r .outcome ≡ outcome ⌝ }
+{
+    Rest {
+        outcome,
+        shared: 0,
+        fields1: 0,
+        fields2: 0,
+    }
+}
+
+// What the roles of the first n values tell; and what is sought of these.
+fn tell_front(kinds: &mut [u16; 16], row: &[u16], n: usize) -> Rest
+    requires { ⌜ (n ≤ 16) × (n ≤ length (now row)) × (now kinds ≡ replicate 16 0) ⌝ }
+    ensures { λ r. ⌜ (r .outcome ≡ Outcome.Pass) × (r .shared < 65536 → Tells (take n (now (row .entry))) r (now (kinds .exit))) ⌝ }
+{
+    plan::tell(kinds, &row[..n])
+}
+
+fn seek_front(kinds: &mut [u16; 16], row: &[u16], n: usize) -> Rest
+    requires { ⌜ (n ≤ 16) × (n ≤ length (now row)) ⌝ }
+    ensures { λ r. ⌜ Tells (take n (now (row .entry))) r (now (kinds .exit)) ⌝ }
+{
+    plan::seek(kinds, &row[..n])
+}
+
+// 6 to 8 of a frame that passes 1 to 5, and its plan, where the roles of its values do not tell it.
+fn seek_plan(kinds: &mut [u16; 16], bw: u32, a: &[u8], b: &[u8], row: &[u16; 16]) -> Rest
+    requires { ⌜ (outcome5 bw (now a) (now b) ≡ Outcome.Pass) × (now row ≡ rowIn16 bw (now a) (now b)) ⌝ }
+    ensures { λ r. ⌜ Plans bw (now (a .entry)) (now (b .entry)) r (now (row .entry)) (now (kinds .exit)) ⌝ }
+{
+    let six = not_carried(bw, a, b, row);
+    if let Outcome::Refuse(_) = six {
+        return stopped(six);
+    }
+    seek_front(kinds, row, channel::positions_of(bw))
+}
+
+// 1 to 8, the row, filled once, and its plan, made once. A value that has a role is carried, so that 6 is asked only where the roles do not tell.
+pub fn plan_row(
+    row: &mut [u16; 16],
+    kinds: &mut [u16; 16],
+    bw: u32,
+    a: &[u8],
+    b: &[u8],
+    sealed: bool,
+) -> Rest
+    requires { ⌜ (sealed ≡ true → Sealed bw (now a) (now b)) × (now row ≡ replicate 16 0) × (now kinds ≡ replicate 16 0) ⌝ }
+    ensures { λ r. ⌜ Plans bw (now (a .entry)) (now (b .entry)) r (now (row .exit)) (now (kinds .exit)) ⌝ }
+{
+    let five = first_five(row, bw, a, b, sealed);
+    if let Outcome::Refuse(_) = five {
+        return stopped(five);
+    }
+    let told = tell_front(kinds, row, channel::positions_of(bw));
+    if told.shared < 65536 {
+        return told;
+    }
+    seek_plan(kinds, bw, a, b, row)
 }
 
 fn refused(outcome: Outcome) -> Planned
@@ -152,20 +210,18 @@ fn refused(outcome: Outcome) -> Planned
     }
 }
 
-// The row is filled once, and its plan made once.
+// The same as a value.
 pub fn plan_frame(bw: u32, a: &[u8], b: &[u8], sealed: bool) -> Planned
     requires { ⌜ (sealed ≡ true → Sealed bw (now a) (now b)) ⌝ }
     ensures { λ r. ⌜ r ≡ plannedOf bw (now (a .entry)) (now (b .entry)) ⌝ }
 {
     let mut row = [0u16; 16];
-    let six = first_six(bw, a, b, sealed, &mut row);
-    if let Outcome::Refuse(_) = six {
-        return refused(six);
-    }
-    let p = channel::positions_of(bw);
-    let plan = plan::plan_of(&row[..p]);
+    let mut kinds = [0u16; 16];
+    let plan = plan_row(&mut row, &mut kinds, bw, a, b, sealed);
     let outcome = plan.outcome;
-    let kinds = plan.kinds;
+    if let Outcome::Refuse(_) = outcome {
+        return refused(outcome);
+    }
     Planned {
         outcome,
         row,

@@ -19,7 +19,7 @@ use Rattle.channel.proofs.Laws.{present-1}
 use Rattle.faults.specs.Checks.{tooLong, cutCommon, shortUsers}
 use Rattle.faults.proofs.Passing.{neither, cutCommon-pass, cutUsers-tested}
 use Rattle.halves.specs.Table.{checks11, check1, check2, check3, check4, check5, check6, check7, check8, check9, outcome11, outcome6}
-use Rattle.halves.specs.Engine.{outcome3, outcome4to6, outcome9to11, AtMost512, Whole}
+use Rattle.halves.specs.Engine.{outcome3, outcome5, outcome9to11, AtMost512, Whole}
 
 pub outcome11-stages : (bw : ℕ) (a b : List ℕ) → outcome11 bw a b ≡ outcome6 bw a b or planOutcome (row bw a b) or outcome9to11 bw a b
 unfolding outcome11 outcome6 outcome9to11 check7 check8
@@ -54,14 +54,10 @@ pub record Common (bw : ℕ) (a b : List ℕ) : Type 0 where
   pub known : bw ≤ 4
   pub short : AtMost512 a b
 
--- 1 to 6 are 1 to 3 and 4 to 6
-pub common-three : (bw : ℕ) (a b : List ℕ) → outcome6 bw a b ≡ outcome3 bw a b or outcome4to6 bw a b
-unfolding outcome6 outcome3 outcome4to6
-common-three bw a b =
-    let o = outcome3 bw a b in
-    or-assoc (o or check4 bw a b) (check5 bw a b) (check6 bw a b)
-    ∙ or-assoc o (check4 bw a b) (check5 bw a b or check6 bw a b)
-    ∙ ap (λ (p : Outcome). o or p) (sym (or-assoc (check4 bw a b) (check5 bw a b) (check6 bw a b)))
+-- 1 to 6 are 1 to 5 and 6
+pub common-five : (bw : ℕ) (a b : List ℕ) → outcome6 bw a b ≡ outcome5 bw a b or check6 bw a b
+unfolding outcome6 outcome5 outcome3
+common-five bw a b = refl
 
 -- so much is known where 1 to 3 pass
 pub three-pass : (bw : ℕ) (a b : List ℕ) → outcome3 bw a b ≡ Pass → Whole bw a b
@@ -76,9 +72,14 @@ three-pass bw a b e =
       reach2 = cutCommon-pass bw 2 b (pass-right (cutCommon bw 1 a) _ g);
     }
 
+-- and where 1 to 5 do
+pub five-pass : (bw : ℕ) (a b : List ℕ) → outcome5 bw a b ≡ Pass → Whole bw a b
+unfolding outcome5
+five-pass bw a b e = three-pass bw a b (pass-left _ (check4 bw a b) (pass-left _ (check5 bw a b) e))
+
 pub common-pass : (bw : ℕ) (a b : List ℕ) → outcome6 bw a b ≡ Pass → Common bw a b
 common-pass bw a b e =
-    let w = three-pass bw a b (pass-left _ (outcome4to6 bw a b) (sym (common-three bw a b) ∙ e)) in
+    let w = five-pass bw a b (pass-left _ (check6 bw a b) (sym (common-five bw a b) ∙ e)) in
     record { known = w .known; short = w .short }
 
 -- a check that runs only where the earlier ones pass

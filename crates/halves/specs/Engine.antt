@@ -11,8 +11,9 @@ use Rattle.answer.specs.declared.Outcome.{Outcome}
 use Rattle.answer.specs.declared.Outcome.the-variants.{Pass, Refuse}
 use Rattle.resource.specs.Values.{carried}
 use Rattle.plan.specs.declared.Plan.{Plan}
+use Rattle.plan.specs.declared.Rest.{Rest}
 use Rattle.answer.specs.Lists.{at}
-use Rattle.plan.specs.Engine.{planOf}
+use Rattle.plan.specs.Engine.{planOutcome, planOf, withKinds}
 use Rattle.channel.specs.Layout.{present, common, row, rowIn16}
 use Rattle.halves.specs.Table.{check1, check2, check3, check4, check5, check6, check9, check10, check11, outcome6}
 use Rattle.halves.specs.declared.Planned.{Planned}
@@ -21,9 +22,9 @@ use Rattle.halves.specs.declared.Planned.{Planned}
 unfoldable pub outcome3 : ℕ → List ℕ → List ℕ → Outcome
 outcome3 bw a b = check1 bw or check2 bw a b or check3 bw a b
 
--- 4 to 6
-unfoldable pub outcome4to6 : ℕ → List ℕ → List ℕ → Outcome
-outcome4to6 bw a b = check4 bw a b or check5 bw a b or check6 bw a b
+-- 1 to 5
+unfoldable pub outcome5 : ℕ → List ℕ → List ℕ → Outcome
+outcome5 bw a b = outcome3 bw a b or check4 bw a b or check5 bw a b
 
 -- 9 to 11
 unfoldable pub outcome9to11 : ℕ → List ℕ → List ℕ → Outcome
@@ -56,15 +57,25 @@ allCarried row = every (λ p. carried (at row p)) (length row)
 unfoldable pub noPlan : Outcome → Planned
 noPlan o = record { outcome = o; row = replicate 16 0; kinds = replicate 16 0; shared = 0; fields1 = 0; fields2 = 0 }
 
--- the plan of a row in room for sixteen, whose outcome is 7 and 8
+-- the plan of a row in room for sixteen
 unfoldable pub withPlan : List ℕ → Plan → Planned
 withPlan row p =
     record { outcome = p .outcome; row = row; kinds = p .kinds; shared = p .shared; fields1 = p .fields1; fields2 = p .fields2 }
 
--- a refusal of 1 to 6 has no plan
+-- a refusal has no plan
 abbrev pub plannedAt : Outcome → List ℕ → Plan → Planned
 plannedAt Pass row p = withPlan row p
 plannedAt (Refuse x) row p = noPlan (Refuse x)
 
+-- 1 to 8
+unfoldable pub outcome1to8 : ℕ → List ℕ → List ℕ → Outcome
+outcome1to8 bw a b = outcome6 bw a b or planOutcome (row bw a b)
+
 unfoldable pub plannedOf : ℕ → List ℕ → List ℕ → Planned
-plannedOf bw a b = plannedAt (outcome6 bw a b) (rowIn16 bw a b) (planOf (row bw a b))
+plannedOf bw a b = plannedAt (outcome1to8 bw a b) (rowIn16 bw a b) (planOf (row bw a b))
+
+-- the rest of it, and what lies in the room that is lent: 1 to 8, and of a frame that passes them its row and the row's plan
+pub record Plans (bw : ℕ) (a b : List ℕ) (x : Rest) (r kinds : List ℕ) : Type 0 where
+  pub answers : x .outcome ≡ outcome1to8 bw a b
+  pub the-row : x .outcome ≡ Pass → r ≡ rowIn16 bw a b
+  pub the-plan : x .outcome ≡ Pass → withKinds x kinds ≡ planOf (row bw a b)

@@ -6,6 +6,7 @@ pub mod Parts
 pub mod Laid
 pub mod Worked
 pub mod Demand
+pub mod Carried
 pub mod Narrow
 pub mod Value
 pub mod Told

@@ -28,10 +28,11 @@ use Rattle.segments.proofs.Found.{fitting-fits}
 use Rattle.roles.specs.Engine.{Role, kindIn, mark, Segment}
 use Rattle.roles.proofs.Told.{settled}
 use Rattle.plan.specs.declared.Plan.{Plan}
+use Rattle.plan.specs.declared.Rest.{Rest}
 use Rattle.plan.specs.Answers.{accepted}
-use Rattle.plan.specs.Engine.{onlyPlan, firstOver, planOutcome, sharedTo, kindsOf, planOf, segmentOf, glanceKind, glanceMarks, roleSum, glanceOf}
+use Rattle.plan.specs.Engine.{onlyPlan, planOutcome, sharedTo, kindsOf, planOf, segmentOf, glanceKind, glanceMarks, roleSum, glanceOf, withKinds}
 use Rattle.plan.proofs.Only.{whole-only}
-use Rattle.plan.proofs.Laid.{laid-is, none-over}
+use Rattle.plan.proofs.Laid.{laid-is}
 use Rattle.plan.proofs.Value.{plan-is}
 
 -- ---- a place of a segment, whichever the segment is
@@ -409,12 +410,11 @@ module _ (row roles : List ℕ) (short : length row ≤ 16) (cast : (p : ℕ) �
       let f : 4 * suc s ≡ 4 * s + 4 = omega arith in
       rw (marks-are s (omega arith), e, f) (sym g)
 
-  shared-is : glanceMarks (at roles) ((n + 3) / 4) ≡ sharedTo row (firstOver row)
+  shared-is : glanceMarks (at roles) ((n + 3) / 4) ≡ sharedTo row n
   shared-is =
       marks-are ((n + 3) / 4) (omega arith)
       ∙ bits-past two n (4 * ((n + 3) / 4)) (omega arith) (λ p l u. none p l (omega arith))
       ∙ bits-same two row n (λ p l. ap (λ (c : ℕ). leb 2 (together c (at row) p)) (only p l))
-      ∙ ap (sharedTo row) (sym (none-over row (sym passed)))
     where
       none : (p : ℕ) → n ≤ p → p / 4 < (n + 3) / 4 → two p ≡ false
       none p l u = rw (zero-none (o p) p (at row) (absent p l u) (List·getD-eq-default row 0 l))
@@ -451,7 +451,7 @@ module _ (row roles : List ℕ) (short : length row ≤ 16) (cast : (p : ℕ) �
 
   pub glance-plan : glanceOf n roles ≡ planOf row
   unfolding glanceOf
-  glance-plan = plan-is row _ _ _ _ _ passed kinds-are shared-is (fields-are 0 (omega arith)) (fields-are 1 (omega arith))
+  glance-plan = plan-is row _ _ _ _ passed kinds-are shared-is (fields-are 0 (omega arith)) (fields-are 1 (omega arith))
 
 pub told-plan : (row roles : List ℕ) → length row ≤ 16 → ((p : ℕ) → p < 16 → Role (at row p) (fieldsAt row p) (at roles p)) → (x : Plan)
     → x ≡ glanceOf (length row) roles → x .shared < 65536 → x ≡ planOf row
@@ -459,3 +459,7 @@ unfolding glanceOf
 told-plan row roles short cast x e l =
     let f : x .shared ≡ glanceMarks (at roles) ((length row + 3) / 4) = ap (λ (p : Plan). p .shared) e in
     e ∙ (unfold glanceOf in glance-plan row roles short cast (omega arith))
+
+pub glance-passes : (t : Rest) (kinds : List ℕ) (n : ℕ) (roles : List ℕ) → withKinds t kinds ≡ glanceOf n roles → t .outcome ≡ Pass
+unfolding withKinds glanceOf
+glance-passes t kinds n roles e = ap (λ (p : Plan). p .outcome) e

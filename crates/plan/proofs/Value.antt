@@ -1,5 +1,5 @@
 -- The plan of a row as a value: what its parts say.
-use mathlib.Core.Path.{_≡_, _∙_, ap, subst}
+use mathlib.Core.Path.{_≡_, refl, sym, _∙_, ap, subst}
 use mathlib.Core.Logic.{_≢_, ⊎-elim}
 use mathlib.Core.Bool.{Bool, true, false, cond, not, _&&_}
 use mathlib.Core.List.{List}
@@ -10,12 +10,13 @@ use lib.Pow.{pow-pos, pow-add, pow-mono}
 use native.Mathlib.Numerals.{add-one}
 use lib.Dec.{eqb, leb, ltb}
 use lib.ListN.{length, getD, replicate}
-use borrow.Author.Tests.{eq-eqb, ne-eqb}
+use borrow.Author.Tests.{eq-eqb, ne-eqb, lt-ltb, le-ltb}
 use Rattle.answer.proofs.Lists.{getD-filled, filled-start}
 use Rattle.answer.specs.Answer.{no, refuseIf, _or_}
 use Rattle.answer.specs.declared.Outcome.{Outcome}
-use Rattle.answer.specs.declared.Outcome.the-variants.{Pass}
+use Rattle.answer.specs.declared.Outcome.the-variants.{Pass, Refuse}
 use Rattle.plan.specs.declared.Plan.{Plan}
+use Rattle.plan.specs.declared.Rest.{Rest}
 use Rattle.resource.specs.Values.{fieldsOf}
 use Rattle.resource.proofs.Fields.{fields-most as most-fields}
 use Rattle.answer.specs.Lists.{at}
@@ -24,10 +25,11 @@ use Rattle.segments.specs.Engine.{Entered}
 use Rattle.segments.proofs.Entries.{entered-filled}
 use Rattle.spans.specs.Engine.{partPlan}
 use Rattle.plan.specs.Answers.{segments, Laid}
-use Rattle.plan.specs.Engine.{onlyPlan, GivenTo, overAt, firstUnheld, firstOver, planOutcome, sharedTo, kindsOf, planOf}
+use Rattle.plan.specs.Engine.{onlyPlan, GivenTo, overAt, firstUnheld, firstOver, planOutcome, sharedTo, kindsOf}
+use Rattle.plan.specs.Engine.{passedPlan, noPlan, planAt, planOf, withKinds, planFrom, Tells}
 use Rattle.kinds.proofs.Tests.{equal-or}
 use Rattle.plan.proofs.Only.{only-known}
-use Rattle.plan.proofs.Laid.{none-over, outcome-laid}
+use Rattle.plan.proofs.Laid.{outcome-laid}
 
 -- ---- the kinds
 pub kind-held : (row kinds : List ℕ) (p : ℕ) → p < length row → kinds ≡ kindsOf row → (getD kinds p 0 < 36) × (getD kinds p 0 ≡ onlyPlan (at row) p)
@@ -127,11 +129,10 @@ shared-at row (suc n) p h =
     under true l = bit-under (sharedTo row n) n p l
     under false l = rw (add-zero (sharedTo row n))
 
--- of a row that is accepted, each position's bit says whether its fields share their resource
-pub shared-bit : (row : List ℕ) → planOutcome row ≡ Pass → (p : ℕ) → p < length row
-    → eqb (planOf row .shared / 2 ^ p % 2) 1 ≡ shared (onlyPlan (at row)) (at row) p
-unfolding planOf
-shared-bit row e p h = let l = none-over row e in shared-at row (firstOver row) p (omega arith)
+-- each position's bit says whether its fields share their resource
+pub shared-bit : (row : List ℕ) (p : ℕ) → p < length row → eqb (passedPlan row .shared / 2 ^ p % 2) 1 ≡ shared (onlyPlan (at row)) (at row) p
+unfolding passedPlan
+shared-bit row p h = shared-at row (length row) p h
 
 -- ---- the fields of a channel
 module _ (c : ℕ) (row : ℕ → ℕ) where
@@ -160,17 +161,52 @@ module _ (c : ℕ) (row : ℕ → ℕ) where
           rw (g, ne-eqb (n % 2 + 1) c (λ h. omega arith)) (omega arith)
 
 -- ---- the value
-pub outcome-made : (row : List ℕ) (w v : ℕ) (a b r : Outcome) → w ≡ firstUnheld row → v ≡ firstOver row → a ≡ refuseIf (ltb w (segments row)) (no 7 0 w)
-    → b ≡ refuseIf (ltb v (length row)) (no 8 0 (v / 4)) → r ≡ (a or b) → r ≡ planOutcome row
-unfolding planOutcome
-outcome-made row w v a b r ew ev ea eb er = er ∙ rw (ea, eb, ew, ev)
-
-pub plan-is : (row kinds : List ℕ) (o : Outcome) (s f g : ℕ) → o ≡ planOutcome row → kinds ≡ kindsOf row → s ≡ sharedTo row (firstOver row)
+-- of a row that passes
+pub plan-is : (row kinds : List ℕ) (s f g : ℕ) → Pass ≡ planOutcome row → kinds ≡ kindsOf row → s ≡ sharedTo row (length row)
     → f ≡ fieldsTo 1 (at row) (length row) → g ≡ fieldsTo 2 (at row) (length row)
-    → _≡_ {A = Plan} (record { outcome = o; kinds = kinds; shared = s; fields1 = f; fields2 = g }) (planOf row)
+    → _≡_ {A = Plan} (record { outcome = Pass; kinds = kinds; shared = s; fields1 = f; fields2 = g }) (planOf row)
+unfolding planOf passedPlan
+plan-is row kinds s f g eo ek es ef eg = rw (← eo) (λ i. record { outcome = Pass; kinds = ek i; shared = es i; fields1 = ef i; fields2 = eg i })
+
+pub plan-passed : (row : List ℕ) → planOutcome row ≡ Pass → planOf row ≡ passedPlan row
 unfolding planOf
-plan-is row kinds o s f g eo ek es ef eg = (λ i. record { outcome = eo i; kinds = ek i; shared = es i; fields1 = ef i; fields2 = eg i })
+plan-passed row e = rw e
+
+pub plan-outcome : (row : List ℕ) → planOf row .outcome ≡ planOutcome row
+unfolding planOf passedPlan noPlan
+plan-outcome row = go (planOutcome row)
+  where
+    go : (o : Outcome) → planAt o row .outcome ≡ o
+    go Pass = refl
+    go (Refuse x) = refl
+
+-- 8 where 7 passes: refused, or passed
+module _ (row : List ℕ) (held : segments row ≤ firstUnheld row) where
+  pub over-refuses : (o : Outcome) → firstOver row < length row → o ≡ Refuse (no 8 0 (firstOver row / 4)) → o ≡ planOutcome row
+  unfolding planOutcome _or_
+  over-refuses o l e = rw (le-ltb (firstUnheld row) (segments row) held, lt-ltb (firstOver row) (length row) l) e
+
+  pub none-passes : length row ≤ firstOver row → Pass ≡ planOutcome row
+  unfolding planOutcome _or_
+  none-passes l = rw (le-ltb (firstUnheld row) (segments row) held, le-ltb (firstOver row) (length row) l)
+
+pub unheld-refuses : (row : List ℕ) (o : Outcome) → firstUnheld row < segments row → o ≡ Refuse (no 7 0 (firstUnheld row)) → o ≡ planOutcome row
+unfolding planOutcome _or_
+unheld-refuses row o l e = rw (lt-ltb (firstUnheld row) (segments row) l) e
 
 pub plan-laid : (row : List ℕ) (r : Plan) → r ≡ planOf row → Laid row (r .outcome)
-unfolding planOf
-plan-laid row r e = rw e (outcome-laid row)
+plan-laid row r e = rw (e, plan-outcome row) (outcome-laid row)
+
+-- ---- what is told of it
+
+pub tells-plan : (row : List ℕ) (t : Rest) (kinds : List ℕ) → withKinds t kinds ≡ planOf row → Tells row t kinds
+unfolding withKinds
+tells-plan row t kinds e = record { answers = ap (λ (p : Plan). p .outcome) e ∙ plan-outcome row; plans = λ f. e }
+
+pub told-is : (row : List ℕ) (t : Rest) (kinds : List ℕ) → Tells row t kinds → planFrom (t .outcome) t kinds ≡ planOf row
+unfolding planOf noPlan
+told-is row t kinds w = go (t .outcome) refl
+  where
+    go : (o : Outcome) → t .outcome ≡ o → planFrom o t kinds ≡ planAt (planOutcome row) row
+    go Pass e = w .plans e
+    go (Refuse x) e = rw (sym (w .answers) ∙ e)

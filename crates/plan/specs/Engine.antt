@@ -10,7 +10,7 @@ use lib.ListN.{length, replicate}
 use Rattle.answer.specs.Answer.{no, refuseIf, _or_}
 use Rattle.answer.specs.Least.{least}
 use Rattle.answer.specs.declared.Outcome.{Outcome}
-use Rattle.answer.specs.declared.Outcome.the-variants.{Pass}
+use Rattle.answer.specs.declared.Outcome.the-variants.{Pass, Refuse}
 use Rattle.answer.specs.Lists.{filled, at}
 use Rattle.resource.specs.Values.{fieldsOf}
 use Rattle.kinds.specs.Kinds.{none, span, takes}
@@ -21,6 +21,7 @@ use Rattle.roles.specs.Engine.{Role, settleOf, kindIn}
 use Rattle.spans.specs.Engine.{partPlan}
 use Rattle.plan.specs.Answers.{segments, partEnd}
 use Rattle.plan.specs.declared.Plan.{Plan}
+use Rattle.plan.specs.declared.Rest.{Rest}
 
 -- ---- a value that no resource of a segment has: "the published values from 88 up" (02, T-07)
 unfoldable pub wider : ℕ → Bool
@@ -99,15 +100,40 @@ sharedTo row (suc n) = sharedTo row n + cond (shared (onlyPlan (at row)) (at row
 unfoldable pub kindsOf : List ℕ → List ℕ
 kindsOf row = filled (onlyPlan (at row)) (length row) (replicate 16 0)
 
--- 7 and 8; the kinds; which positions' fields share their resource, as far as none is over eight; the channels' fields
-unfoldable pub planOf : List ℕ → Plan
-planOf row = record {
-  outcome = planOutcome row;
+-- a row that passes 7 and 8: the kinds; which positions' fields share their resource; the channels' fields
+unfoldable pub passedPlan : List ℕ → Plan
+passedPlan row = record {
+  outcome = Pass;
   kinds = kindsOf row;
-  shared = sharedTo row (firstOver row);
+  shared = sharedTo row (length row);
   fields1 = fieldsTo 1 (at row) (length row);
   fields2 = fieldsTo 2 (at row) (length row);
 }
+
+-- of one that is refused, the refusal alone
+unfoldable pub noPlan : Outcome → Plan
+noPlan o = record { outcome = o; kinds = replicate 16 0; shared = 0; fields1 = 0; fields2 = 0 }
+
+abbrev pub planAt : Outcome → List ℕ → Plan
+planAt Pass row = passedPlan row
+planAt (Refuse x) row = noPlan (Refuse x)
+
+unfoldable pub planOf : List ℕ → Plan
+planOf row = planAt (planOutcome row) row
+
+-- a plan, of what is told of it and of its kinds
+unfoldable pub withKinds : Rest → List ℕ → Plan
+withKinds t kinds = record { outcome = t .outcome; kinds = kinds; shared = t .shared; fields1 = t .fields1; fields2 = t .fields2 }
+
+-- the same, of an outcome: a row that is refused has none
+abbrev pub planFrom : Outcome → Rest → List ℕ → Plan
+planFrom Pass t kinds = withKinds t kinds
+planFrom (Refuse x) t kinds = noPlan (Refuse x)
+
+-- what is told of the row is right, and of one that passes with these kinds its plan
+pub record Tells (row : List ℕ) (t : Rest) (kinds : List ℕ) : Type 0 where
+  pub answers : t .outcome ≡ planOutcome row
+  pub plans : t .outcome ≡ Pass → withKinds t kinds ≡ planOf row
 
 -- ---- at one glance, by the roles of the values: `proofs/Told.antt` shows that what they tell is the row's plan
 -- the roles of the row's first m values are entered in a list, and the others stand

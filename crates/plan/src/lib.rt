@@ -1,22 +1,24 @@
 // The plan of a row of RU Allocation values (01, "What a plan is"; 02, T-07), made once: to what each position is given, whose User
 // fields share a resource, how many each channel has, and the answers 7 and 8. A kind of resource is its line in the table of crate
 // `kinds`: line 0 is the position itself, and 36 is none.
+use answer::Answer;
 use answer::Outcome;
 ghost use mathlib.Core.Path.{_≡_};
 ghost use mathlib.Core.Logic.{_⊎_};
 ghost use mathlib.Core.Bool.{false, cond};
 ghost use lib.Dec.{eqb, leb};
 ghost use Prim.Native.Nat.{ℕ, _+_, _-_, _*_, _/_, _%_, _^_, _≤_, _<_, min};
-ghost use lib.ListN.{length};
+ghost use lib.ListN.{length, replicate};
+ghost use Rattle.answer.specs.Answer.{no};
 ghost use Rattle.answer.specs.Lists.{at};
 ghost use Rattle.resource.specs.Values.{fieldsOf};
 ghost use Rattle.kinds.specs.Fields.{together, fieldsTo};
 ghost use Rattle.segments.specs.Engine.{segmentKinds, Entered};
 ghost use Rattle.roles.specs.Engine.{noRole, kindIn};
-ghost use Rattle.plan.specs.Answers.{Size, Laid};
+ghost use Rattle.plan.specs.Answers.{segments, Size, Laid};
 ghost use Rattle.plan.specs.Engine.{wider, anyWider, onlyPlan, given, placeGiven, entirely, isRight, Before};
 ghost use Rattle.plan.specs.Engine.{GivenTo, partRight, heldBy, firstUnheld};
-ghost use Rattle.plan.specs.Engine.{firstOver, sharedTo, kindsOf, planOf, Cast, Low, glanceOf, loneOf};
+ghost use Rattle.plan.specs.Engine.{firstOver, sharedTo, kindsOf, planOf, withKinds, planFrom, Tells, Cast, Low, glanceOf, loneOf};
 
 // The plan of a row.
 pub struct Plan {
@@ -26,6 +28,14 @@ pub struct Plan {
     // bit p: the User fields of position p share their resource
     pub shared: u32,
     // the User fields of each channel
+    pub fields1: usize,
+    pub fields2: usize,
+}
+
+// The rest of the plan of a row, beside its kinds, which lie in room that is lent.
+pub struct Rest {
+    pub outcome: Outcome,
+    pub shared: u32,
     pub fields1: usize,
     pub fields2: usize,
 }
@@ -288,26 +298,6 @@ fn wide_kinds(row: &[u16]) -> [u16; 16]
     kinds
 }
 
-// The plan, from what each position is given to and the lowest segment in no part with a plan.
-fn plan_from(row: &[u16], kinds: [u16; 16], unheld: usize) -> Plan
-    requires { ⌜ (length (now row) ≤ 16) × (kinds ≡ kindsOf (now row)) × (unheld ≡ firstUnheld (now row)) ⌝ }
-    ensures { λ r. ⌜ r ≡ planOf (now (row .entry)) ⌝ }
-{
-    let n = row.len();
-    let s = sharing(&kinds, row);
-    let outcome = answer::or_else(
-        answer::refuse_if(unheld < (n + 3) / 4, 7, 0, unheld),
-        answer::refuse_if(s.over < n, 8, 0, s.over / 4),
-    );
-    Plan {
-        outcome,
-        kinds,
-        shared: s.shared,
-        fields1: channel_fields(row, 1),
-        fields2: channel_fields(row, 2),
-    }
-}
-
 // The lowest segment with a wrong position, where no resource is wider than a segment.
 fn segment_wrong(kinds: &[u16; 16], row: &[u16]) -> usize
     requires { ⌜ (length (now row) ≤ 16) × (now kinds ≡ segmentKinds (now row)) × (anyWider (now row) ≡ false) ⌝ }
@@ -351,15 +341,52 @@ fn unheld_in(kinds: &[u16; 16], row: &[u16], wide: bool) -> usize
     }
 }
 
+// Of a row that is refused, the refusal alone is told.
+fn refused(number: u32, segment: usize) -> Rest
+    ensures { λ r. ⌜ r .outcome ≡ Outcome.Refuse (no number 0 segment) ⌝ }
+{
+    Rest {
+        outcome: Outcome::Refuse(Answer {
+            number,
+            channel: 0,
+            place: segment,
+        }),
+        shared: 0,
+        fields1: 0,
+        fields2: 0,
+    }
+}
+
+// 8, and the rest of the plan of a row that passes it, from what each position is given to; 7 has passed.
+fn counted(kinds: &[u16; 16], row: &[u16]) -> Rest
+    requires { ⌜ (length (now row) ≤ 16) × (now kinds ≡ kindsOf (now row)) × (segments (now row) ≤ firstUnheld (now row)) ⌝ }
+    ensures { λ r. ⌜ Tells (now (row .entry)) r (now (kinds .entry)) ⌝ }
+{
+    let s = sharing(kinds, row);
+    if s.over < row.len() {
+        return refused(8, s.over / 4);
+    }
+    Rest {
+        outcome: Outcome::Pass,
+        shared: s.shared,
+        fields1: channel_fields(row, 1),
+        fields2: channel_fields(row, 2),
+    }
+}
+
 // The plan, sought.
-fn sought_plan(row: &[u16]) -> Plan
+pub fn seek(kinds: &mut [u16; 16], row: &[u16]) -> Rest
     requires { ⌜ length (now row) ≤ 16 ⌝ }
-    ensures { λ r. ⌜ r ≡ planOf (now (row .entry)) ⌝ }
+    ensures { λ r. ⌜ Tells (now (row .entry)) r (now (kinds .exit)) ⌝ }
 {
     let wide = has_wider(row);
-    let kinds = kinds_of(row, wide);
-    let unheld = unheld_in(&kinds, row, wide);
-    plan_from(row, kinds, unheld)
+    let found = kinds_of(row, wide);
+    let unheld = unheld_in(&found, row, wide);
+    if unheld < (row.len() + 3) / 4 {
+        return refused(7, unheld);
+    }
+    *kinds = found;
+    counted(kinds, row)
 }
 
 // ---- at one glance, by the roles of the values
@@ -392,11 +419,10 @@ fn enter_kinds(kinds: &mut [u16; 16], b: usize, k: u16)
 
 // What the roles of a row of n values tell. The counts are the lowest digits of sums of roles; marks from 65536 on say that a segment's do not
 // tell.
-fn glance(n: usize, roles: &[u64; 16]) -> Plan
-    requires { ⌜ (n ≤ 16) × Low (now roles) ⌝ }
-    ensures { λ r. ⌜ r ≡ glanceOf n (now (roles .entry)) ⌝ }
+fn glance(kinds: &mut [u16; 16], n: usize, roles: &[u64; 16]) -> Rest
+    requires { ⌜ (n ≤ 16) × Low (now roles) × (now kinds ≡ replicate 16 0) ⌝ }
+    ensures { λ r. ⌜ withKinds r (now (kinds .exit)) ≡ glanceOf n (now (roles .entry)) ⌝ }
 {
-    let mut kinds = [0u16; 16];
     let mut shared: u32 = 0;
     let mut fields1: u64 = 0;
     let mut fields2: u64 = 0;
@@ -409,13 +435,12 @@ fn glance(n: usize, roles: &[u64; 16]) -> Plan
         fields1 += r0 + r2;
         fields2 += r1 + r3;
         let x = roles::settle(r0, r1, r2, r3);
-        enter_kinds(&mut kinds, b, x.kinds);
+        enter_kinds(kinds, b, x.kinds);
         shared += x.marks << b;
         b += 4;
     }
-    Plan {
+    Rest {
         outcome: Outcome::Pass,
-        kinds,
         shared,
         fields1: (fields1 % 256) as usize,
         fields2: (fields2 % 256) as usize,
@@ -423,12 +448,11 @@ fn glance(n: usize, roles: &[u64; 16]) -> Plan
 }
 
 // What the role of a row's only value tells, where it may stand alone.
-fn lone(r: u64) -> Plan
-    ensures { λ p. ⌜ p ≡ loneOf r ⌝ }
+fn lone(r: u64) -> Rest
+    ensures { λ p. ⌜ withKinds p (replicate 16 0) ≡ loneOf r ⌝ }
 {
-    Plan {
+    Rest {
         outcome: Outcome::Pass,
-        kinds: [0u16; 16],
         shared: (r / 256 % 2) as u32,
         fields1: (r % 256) as usize,
         fields2: 0,
@@ -436,16 +460,49 @@ fn lone(r: u64) -> Plan
 }
 
 // The same as `glance`, of roles that are none past the row: the smallest row takes a shorter way.
-fn tell(n: usize, roles: &[u64; 16]) -> Plan
-    requires { ⌜ (n ≤ 16) × Low (now roles) × ((p : ℕ) → n ≤ p → p < 16 → at (now roles) p ≡ noRole) ⌝ }
-    ensures { λ r. ⌜ r ≡ glanceOf n (now (roles .entry)) ⌝ }
+fn tell_from(kinds: &mut [u16; 16], n: usize, roles: &[u64; 16]) -> Rest
+    requires { ⌜ (n ≤ 16) × Low (now roles) × ((p : ℕ) → n ≤ p → p < 16 → at (now roles) p ≡ noRole) × (now kinds ≡ replicate 16 0) ⌝ }
+    ensures { λ r. ⌜ withKinds r (now (kinds .exit)) ≡ glanceOf n (now (roles .entry)) ⌝ }
 {
     if n == 1 {
         if roles[0] / 65536 % 2 == 1 {
             return lone(roles[0]);
         }
     }
-    glance(n, roles)
+    glance(kinds, n, roles)
+}
+
+// What the roles of a row's values tell: its plan, unless the marks are from 65536 on.
+pub fn tell(kinds: &mut [u16; 16], row: &[u16]) -> Rest
+    requires { ⌜ (length (now row) ≤ 16) × (now kinds ≡ replicate 16 0) ⌝ }
+    ensures { λ r. ⌜ (r .outcome ≡ Outcome.Pass) × (r .shared < 65536 → Tells (now (row .entry)) r (now (kinds .exit))) ⌝ }
+{
+    let mut roles = [roles::no_role(); 16];
+    enter_roles(&mut roles, row);
+    tell_from(kinds, row.len(), &roles)
+}
+
+// What is told of a plan, and its kinds, as one value: a refused row has none.
+fn plan_with(told: Rest, kinds: [u16; 16]) -> Plan
+    ensures { λ r. ⌜ r ≡ planFrom (told .outcome) told kinds ⌝ }
+{
+    let outcome = told.outcome;
+    if let Outcome::Refuse(x) = outcome {
+        return Plan {
+            outcome: Outcome::Refuse(x),
+            kinds: [0u16; 16],
+            shared: 0,
+            fields1: 0,
+            fields2: 0,
+        };
+    }
+    Plan {
+        outcome,
+        kinds,
+        shared: told.shared,
+        fields1: told.fields1,
+        fields2: told.fields2,
+    }
 }
 
 // The plan of a row: what the roles of its values tell or, where they do not, what is found by the search.
@@ -454,11 +511,11 @@ pub fn plan_of(row: &[u16]) -> Plan
     ensures { λ r. ⌜ r ≡ planOf (now (row .entry)) ⌝ }
     ensures { λ r. ⌜ Laid (now (row .entry)) (r .outcome) ⌝ }
 {
-    let mut roles = [roles::no_role(); 16];
-    enter_roles(&mut roles, row);
-    let plan = tell(row.len(), &roles);
-    if plan.shared < 65536 {
-        return plan;
+    let mut kinds = [0u16; 16];
+    let told = tell(&mut kinds, row);
+    if told.shared < 65536 {
+        return plan_with(told, kinds);
     }
-    sought_plan(row)
+    let sought = seek(&mut kinds, row);
+    plan_with(sought, kinds)
 }

@@ -21,8 +21,8 @@ use Rattle.channel.specs.Engine.{firstPart, secondPart, partsOf}
 use Rattle.channel.proofs.Laws.{present-1, present-wide, absent-2}
 use Rattle.channel.proofs.Held.{first-low, second-low}
 use Rattle.faults.specs.Checks.{wrongFirst, wrongSecond, wrongCommon}
-use Rattle.faults.proofs.Passing.{CommonRight, of-both, pass-wrongCommon}
-use Rattle.wrong_blocks.specs.Engine.{partsRight, secondRight, wrongAt, wrongHeld, wrongParts}
+use Rattle.faults.proofs.Passing.{pass-wrongCommon}
+use Rattle.wrong_blocks.specs.Engine.{secondRight, wrongAt, wrongHeld, wrongParts}
 
 -- ---- the widths, by code
 
@@ -39,14 +39,6 @@ has-none : (bw : ℕ) → bw < 3 → hasSecond bw ≡ false
 unfolding hasSecond seconds
 has-none bw l = rw (ne-eqb bw 3 (λ e. omega arith), ne-eqb bw 4 (λ e. omega arith)) refl
 
-pub has-some : (bw : ℕ) → 3 ≤ bw → bw ≤ 4 → hasSecond bw ≡ true
-unfolding hasSecond seconds
-has-some bw l m = go (ℕ-discrete bw 3)
-  where
-    go : Dec (bw ≡ 3) → ltb 0 (cond (eqb bw 3) 2 (cond (eqb bw 4) 6 0)) ≡ true
-    go (yes e) = rw e
-    go (no e) = let f : bw ≡ 4 = omega arith in rw f
-
 -- the test of the second part, by code
 module _ (bw z : ℕ) where
   pub tested-none : bw < 3 → true ≡ secondRight bw z
@@ -60,89 +52,6 @@ module _ (bw z : ℕ) where
   pub tested-320 : bw ≡ 4 → rightOf z 54 ≡ secondRight bw z
   unfolding secondRight hasSecond secondBits seconds
   tested-320 e = rw e refl
-
-  pub tested-there : hasSecond bw ≡ true → secondRight bw z ≡ rightOf z (secondBits bw)
-  unfolding secondRight
-  tested-there e = rw e
-
--- ---- what the test says
-
-record Parted (bw : ℕ) (p : Parts) : Type 0 where
-  in-first1 : rightOf (p .first1) (firstBits bw) ≡ true
-  in-first2 : 0 < bw → rightOf (p .first2) (firstBits bw) ≡ true
-  in-second1 : 3 ≤ bw → rightOf (p .second1) (secondBits bw) ≡ true
-  in-second2 : 3 ≤ bw → rightOf (p .second2) (secondBits bw) ≡ true
-
-parted : (bw : ℕ) (p : Parts) → partsRight bw p ≡ true → Parted bw p
-unfolding partsRight
-parted bw p e = go (ℕ-discrete bw 0) (decLt bw 3) e
-  where
-    x : Bool
-    x = rightOf (p .first1) (firstBits bw)
-
-    y : Bool
-    y = rightOf (p .first2) (firstBits bw)
-
-    z : Bool
-    z = rightOf (p .second1) (secondBits bw)
-
-    w : Bool
-    w = rightOf (p .second2) (secondBits bw)
-
-    go : Dec (bw ≡ 0) → Dec (bw < 3) → cond (eqb bw 0) x (cond (ltb bw 3) (x && y) (((x && y) && z) && w)) ≡ true → Parted bw p
-    go (yes o) d h =
-        let f : x ≡ true = rw (eq-eqb bw 0 o) at h in
-        record { in-first1 = f; in-first2 = λ l. absurd (omega arith); in-second1 = λ l. absurd (omega arith); in-second2 = λ l. absurd (omega arith) }
-    go (no o) (yes l) h =
-        let f : x && y ≡ true = rw (ne-eqb bw 0 o, lt-ltb bw 3 l) at h in
-        let t = of-both x y f in
-        record { in-first1 = t .0; in-first2 = λ m. t .1; in-second1 = λ m. absurd (omega arith); in-second2 = λ m. absurd (omega arith) }
-    go (no o) (no l) h =
-        let f : ((x && y) && z) && w ≡ true = rw (ne-eqb bw 0 o, le-ltb bw 3 (omega arith)) at h in
-        let t = of-both ((x && y) && z) w f in
-        let u = of-both (x && y) z (t .0) in
-        let v = of-both x y (u .0) in
-        record { in-first1 = v .0; in-first2 = λ m. v .1; in-second1 = λ m. u .1; in-second2 = λ m. t .1 }
-
--- ---- the channels
-
-second-wide : (bw : ℕ) → hasSecond bw ≡ true → 3 ≤ bw
-unfolding hasSecond seconds
-second-wide bw e = go (ℕ-discrete bw 3) (ℕ-discrete bw 4) e
-  where
-    go : Dec (bw ≡ 3) → Dec (bw ≡ 4) → ltb 0 (cond (eqb bw 3) 2 (cond (eqb bw 4) 6 0)) ≡ true → 3 ≤ bw
-    go (yes d) u h = omega arith
-    go (no d) (yes u) h = omega arith
-    go (no d) (no u) h =
-        let f : false ≡ true = rw (ne-eqb bw 3 d, ne-eqb bw 4 u) at h in
-        absurd (false≢true f)
-
-channel-right : (bw : ℕ) (s : List ℕ) → rightOf (firstPart bw s) (firstBits bw) ≡ true
-    → (3 ≤ bw → rightOf (secondPart bw s) (secondBits bw) ≡ true) → CommonRight bw s
-channel-right bw s e f =
-    record {
-      first-right = right-says s 0 (firstBits bw) (sym (right-whole s 0 (firstBits bw) (firstPart bw s) (unfold secondAt in first-low bw s)) ∙ e);
-      second-right = λ h.
-          right-says s (secondAt bw) (secondBits bw)
-          (sym (right-whole s (secondAt bw) (secondBits bw) (secondPart bw s) (second-low bw s h)) ∙ f (second-wide bw h));
-    }
-
-pub parts-pass : (bw : ℕ) (a b : List ℕ) → partsRight bw (partsOf bw a b) ≡ true → (wrongCommon bw 1 a ≡ Pass) × (wrongCommon bw 2 b ≡ Pass)
-unfolding partsOf
-parts-pass bw a b e =
-    let q = parted bw (partsOf bw a b) e in (
-      pass-wrongCommon bw 1 a (λ p. channel-right bw a (q .in-first1) (q .in-second1)),
-      pass-wrongCommon bw 2 b (λ p. two (decLt 0 bw) p q),
-    )
-  where
-    two : Dec (0 < bw) → present bw 2 ≡ true → Parted bw (partsOf bw a b) → CommonRight bw b
-    two (yes l) p q =
-        let f : rightOf (firstPart bw b) (firstBits bw) ≡ true = rw (present-wide bw 2 l) at (q .in-first2 l) in
-        channel-right bw b f (q .in-second2)
-    two (no l) p q =
-        let o : bw ≡ 0 = omega arith in
-        let f : present 0 2 ≡ true = rw o at p in
-        absurd (false≢true (sym absent-2 ∙ f))
 
 -- ---- 4, place and all
 

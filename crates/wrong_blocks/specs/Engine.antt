@@ -1,22 +1,13 @@
 -- Engine: 4 of the numbers that hold the common fields, looked at once for both channels and parts. The contracts of the code cite it; nobody has to
 -- believe it: `proofs/Held.antt`.
-use mathlib.Core.Bool.{Bool, true, cond, not, _&&_}
+use mathlib.Core.Bool.{Bool, true, cond, not}
 use Prim.Native.Nat.{ℕ, _+_}
-use lib.Dec.{eqb, ltb}
 use Rattle.answer.specs.Answer.{no, refuseIf, _or_}
 use Rattle.answer.specs.declared.Outcome.{Outcome}
 use Rattle.answer.specs.declared.Outcome.the-variants.{Pass, Refuse}
 use Rattle.register.specs.Engine.{rightOf}
 use Rattle.channel.specs.Layout.{present, firstBits, secondAt, secondBits, hasSecond}
 use Rattle.channel.specs.declared.Parts.{Parts}
-
--- the first parts, of both channels where there are two; the second parts where there are any
-unfoldable pub partsRight : ℕ → Parts → Bool
-partsRight bw p =
-    cond (eqb bw 0) (rightOf (p .first1) (firstBits bw))
-    (cond (ltb bw 3) (rightOf (p .first1) (firstBits bw) && rightOf (p .first2) (firstBits bw))
-    (((rightOf (p .first1) (firstBits bw) && rightOf (p .first2) (firstBits bw)) && rightOf (p .second1) (secondBits bw))
-    && rightOf (p .second2) (secondBits bw)))
 
 -- the second part, where there is one
 unfoldable pub secondRight : ℕ → ℕ → Bool

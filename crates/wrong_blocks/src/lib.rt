@@ -5,8 +5,8 @@ ghost use mathlib.Core.Path.{_≡_};
 ghost use Prim.Native.Nat.{_≤_};
 ghost use Rattle.register.specs.Engine.{rightOf};
 ghost use Rattle.channel.specs.Layout.{firstBits, count};
-ghost use Rattle.faults.specs.Checks.{wrongFirst, wrongSecond, wrongCommon, wrongBlock, firstWrong, wrongUsers};
-ghost use Rattle.wrong_blocks.specs.Engine.{partsRight, secondRight, wrongAt, wrongParts};
+ghost use Rattle.faults.specs.Checks.{wrongBlock, firstWrong, wrongUsers};
+ghost use Rattle.wrong_blocks.specs.Engine.{secondRight, wrongAt, wrongParts};
 
 // The two widths stand as constants, so that no more of the quotient is worked out than reaches the check.
 fn is_first_right(bw: u32, x: u64) -> bool
@@ -32,22 +32,6 @@ fn is_second_right(bw: u32, x: u64) -> bool
     } else {
         register::right_of(x, 54)
     }
-}
-
-// Whether every common check and tail is right, of a frame whose common fields are these: no place is looked for.
-pub fn parts_right(bw: u32, parts: Parts) -> bool
-    requires { ⌜ bw ≤ 4 ⌝ }
-    ensures { λ r. ⌜ r ≡ partsRight bw parts ⌝ }
-{
-    let one = is_first_right(bw, parts.first1);
-    if bw == 0 {
-        return one;
-    }
-    let first = one & is_first_right(bw, parts.first2);
-    if bw < 3 {
-        return first;
-    }
-    first & is_second_right(bw, parts.second1) & is_second_right(bw, parts.second2)
 }
 
 // The place in a channel one of whose parts is wrong: the first part's check, or where that one is right the second's.
@@ -81,38 +65,6 @@ pub fn wrong_parts(bw: u32, parts: Parts) -> Outcome
         return place_wrong(bw, 2, first2);
     }
     place_wrong(bw, 1, first1)
-}
-
-fn is_wrong_first(bw: u32, channel: u32, s: &[u8]) -> bool
-    ensures { λ r. ⌜ r ≡ wrongFirst bw channel (now (s .entry)) ⌝ }
-{
-    if channel::is_present(bw, channel) {
-        !block::block_right(s, 0, channel::first_bits(bw))
-    } else {
-        false
-    }
-}
-
-fn is_wrong_second(bw: u32, channel: u32, s: &[u8]) -> bool
-    ensures { λ r. ⌜ r ≡ wrongSecond bw channel (now (s .entry)) ⌝ }
-{
-    if channel::is_present(bw, channel) & channel::has_second(bw) {
-        !block::block_right(s, channel::second_at(bw), channel::second_bits(bw))
-    } else {
-        false
-    }
-}
-
-// Answer 4, of one channel.
-pub fn wrong_common(bw: u32, channel: u32, s: &[u8]) -> Outcome
-    ensures { λ r. ⌜ r ≡ wrongCommon bw channel (now (s .entry)) ⌝ }
-{
-    let first = channel::first_bits(bw);
-    let second = channel::second_check(bw);
-    answer::or_else(
-        answer::refuse_if(is_wrong_first(bw, channel, s), 4, channel, first),
-        answer::refuse_if(is_wrong_second(bw, channel, s), 4, channel, second),
-    )
 }
 
 fn is_wrong_block(bw: u32, s: &[u8], n: usize, b: usize) -> bool

@@ -7,23 +7,23 @@ use lib.ListN.{length, replicate, length-replicate}
 use Rattle.answer.specs.Lists.{at, filled}
 use Rattle.answer.proofs.Lists.{filled-start, filled-length}
 use Rattle.roles.proofs.Steps.{settle-most}
-use Rattle.plan.specs.Engine.{glanceKind, glanceMarks, roleSum, glanceOf}
+use Rattle.plan.specs.Engine.{glanceKind, glanceMarks, roleSum, glanceOf, withKinds}
 use Rattle.plan.proofs.Roles.{sum-most, marks-most, shifted-most, next-marks, next-lower, next-sum, next-kinds, kinds-past}
 use borrow.Author.Needs.{needs}
 use Rattle.plan.proofs.glance.Statement.{statement}
 use Rattle.plan.proofs.glance.Tie as tie
 
 abbrev Inv-loop : tie.InvT-loop
-Inv-loop n roles kinds₀ shared₀ fields1₀ fields2₀ b₀ kinds shared fields1 fields2 b =
+Inv-loop kinds₀ n roles shared₀ fields1₀ fields2₀ b₀ kinds shared fields1 fields2 b =
     (b % 4 ≡ 0) × (b ≤ n + 3) × (kinds ≡ filled (glanceKind (at roles)) b (replicate 16 0)) × (shared ≡ glanceMarks (at roles) (b / 4))
     × (fields1 ≡ roleSum 0 (at roles) (b / 4)) × (fields2 ≡ roleSum 1 (at roles) (b / 4))
 
 abbrev μ-loop : tie.MeasureT-loop
-μ-loop n roles kinds₀ shared₀ fields1₀ fields2₀ b₀ kinds shared fields1 fields2 b = n + 3 - b
+μ-loop kinds₀ n roles shared₀ fields1₀ fields2₀ b₀ kinds shared fields1 fields2 b = n + 3 - b
 
 loop-holds : tie.Need-loop-holds Inv-loop μ-loop
 unfolding glanceMarks roleSum
-loop-holds c = (refl, omega arith, filled-start _ _, refl, refl, refl)
+loop-holds c = (refl, omega arith, c .pre .2 ∙ filled-start _ _, refl, refl, refl)
 
 mul-r0 : tie.Need-mul-r0 Inv-loop μ-loop
 mul-r0 c = search needs
@@ -134,7 +134,7 @@ loop-again c =
     )
 
 returns : tie.Need-returns Inv-loop μ-loop
-unfolding glanceOf
+unfolding glanceOf withKinds
 returns c =
     let l = c .before .loop in
     let n = c .before .before .args .n in

@@ -1,39 +1,33 @@
 -- `plan::tell` meets its contract.
-use mathlib.Core.Path.{_∙_}
+use mathlib.Core.Path.{_≡_}
 use native.Mathlib.Omega.{arith}
-use Rattle.plan.proofs.Roles.{lone-glance}
+use Rattle.plan.specs.Engine.{withKinds}
+use Rattle.plan.proofs.Value.{tells-plan}
+use Rattle.plan.proofs.Roles.{cast-all, cast-low, cast-past}
+use Rattle.plan.proofs.Told.{told-plan, glance-passes}
 use borrow.Author.Needs.{needs}
 use Rattle.plan.proofs.tell.Statement.{statement}
 use Rattle.plan.proofs.tell.Tie as tie
 
-element-copy-out-if2 : tie.Need-element-copy-out-if2
-element-copy-out-if2 c = search needs
+no-role-requires : tie.Need-no-role-requires
+no-role-requires c κs = search needs
 
-element-copy-out-lone : tie.Need-element-copy-out-lone
-element-copy-out-lone c = search needs
+enter-roles-requires : tie.Need-enter-roles-requires
+enter-roles-requires c κs = search needs
 
-lone-requires : tie.Need-lone-requires
-lone-requires c κs = search needs
+tell-from-requires : tie.Need-tell-from-requires
+tell-from-requires c κs =
+    let n = c .before .before .before .before .no-role .ensures in
+    let w = c .before .before .enter-roles .ensures in
+    (omega arith, cast-low _ _ (omega arith) _ n w, cast-past _ _ (omega arith) _ n w, c .before .before .before .before .before .before .pre .1)
 
 returns : tie.Need-returns
+unfolding withKinds
 returns c =
-    let s = c .before .before .before .before .before in
-    let one = c .before .before .before .before .if1 .taken in
-    c .lone .ensures ∙ lone-glance (s .args .roles .now) (λ p l u. s .pre .2 p (omega arith) u) (c .before .before .if2 .taken) _ one
-
-glance-requires : tie.Need-glance-requires
-glance-requires c κs = search needs
-
-returns-2 : tie.Need-returns-2
-returns-2 c = search needs
+    let row = c .before .before .before .before .before .before .before .args .row .now in
+    let cast = cast-all row _ (omega arith) _ (c .before .before .before .before .before .no-role .ensures) (c .before .before .before .enter-roles .ensures) in
+    let e = c .tell-from .ensures in
+    (glance-passes _ _ _ _ e, λ l. tells-plan row _ _ (told-plan row _ (omega arith) cast _ e l))
 
 pub tell-spec : {M : Type 1} → statement M
-tell-spec =
-    tie.close
-    (tie.spec
-    element-copy-out-if2
-    element-copy-out-lone
-    lone-requires
-    returns
-    glance-requires
-    returns-2)
+tell-spec = tie.close (tie.spec no-role-requires enter-roles-requires tell-from-requires returns)

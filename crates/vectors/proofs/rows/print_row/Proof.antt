@@ -1,7 +1,8 @@
 -- `vectors::rows::print_row` is safe: the kinds that are printed are those of the row's plan.
-use mathlib.Core.Path.{ap}
+use mathlib.Core.Path.{sym, _∙_, ap}
 use Rattle.plan.specs.declared.Plan.{Plan}
-use Rattle.plan.specs.Engine.{planOf}
+use Rattle.plan.specs.Engine.{passedPlan}
+use Rattle.plan.proofs.Value.{plan-outcome, plan-passed}
 use borrow.Author.Needs.{needs}
 use Rattle.vectors.proofs.rows.print_row.Statement.{statement}
 use Rattle.vectors.proofs.rows.print_row.Tie as tie
@@ -22,9 +23,12 @@ enum-told : tie.Need-enum-told
 enum-told c = search needs
 
 print-plan-requires : tie.Need-print-plan-requires
-unfolding planOf
+unfolding passedPlan
 print-plan-requires c κs =
-    (c .before .before .before .before .before .before .pre, ap (λ (p : Plan). p .kinds) (c .before .before .before .before .plan-of .ensures .0))
+    let row = c .before .before .before .before .before .before .args .row .now in
+    let e = c .before .before .before .before .plan-of .ensures .0 in
+    let passed = sym (plan-outcome row) ∙ sym (ap (λ (p : Plan). p .outcome) e) ∙ c .before .enum-told .given .1 in
+    (c .before .before .before .before .before .before .pre, ap (λ (p : Plan). p .kinds) (e ∙ plan-passed row passed))
 
 returns-2 : tie.Need-returns-2
 returns-2 c = search needs

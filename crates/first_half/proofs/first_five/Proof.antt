@@ -1,11 +1,11 @@
--- `first_half::first_six` meets its contract.
+-- `first_half::first_five` meets its contract.
 use Rattle.first_half.proofs.Screens.{stopped-three, passed-three}
 use Rattle.halves.proofs.Stages.{three-pass}
 use Rattle.answer.proofs.Order.{pass-not-refuse}
 use mathlib.Core.Path.{sym, _∙_}
 use borrow.Author.Needs.{needs}
-use Rattle.first_half.proofs.first_six.Statement.{statement}
-use Rattle.first_half.proofs.first_six.Tie as tie
+use Rattle.first_half.proofs.first_five.Statement.{statement}
+use Rattle.first_half.proofs.first_five.Tie as tie
 
 first-three-requires : tie.Need-first-three-requires
 first-three-requires c κs = search needs
@@ -22,8 +22,8 @@ returns c =
 enum-told-2 : tie.Need-enum-told-2
 enum-told-2 c = search needs
 
-next-three-requires : tie.Need-next-three-requires
-next-three-requires c κs =
+next-two-requires : tie.Need-next-two-requires
+next-two-requires c κs =
     let s = c .before .before .before .before .before .before in
     let three = c .before .before .before .first-three .ensures in
     (s .pre .0, three-pass (s .args .bw) (s .args .a .now) (s .args .b .now) (sym three ∙ c .before .enum-told2 .given .1), s .pre .1)
@@ -33,9 +33,9 @@ returns-2 c =
     let s = c .before .before .before .before .before .before .before .args in
     let three = c .before .before .before .before .first-three .ensures in
     let told = c .before .before .enum-told2 .given .1 in
-    (passed-three (s .bw) (s .a .now) (s .b .now) _ _ three told (c .next-three .ensures .0), c .next-three .ensures .1)
+    (passed-three (s .bw) (s .a .now) (s .b .now) _ _ three told (c .next-two .ensures .0), c .next-two .ensures .1)
 
-pub first-six-spec : {M : Type 1} → statement M
-first-six-spec =
+pub first-five-spec : {M : Type 1} → statement M
+first-five-spec =
     tie.close
-    (tie.spec first-three-requires enum-told returns enum-told-2 next-three-requires returns-2)
+    (tie.spec first-three-requires enum-told returns enum-told-2 next-two-requires returns-2)
