@@ -11,7 +11,8 @@ use lib.Dec.{ltb}
 use lib.ListN.{length, getD, take, drop}
 use lib.Seq.{getD-drop}
 use borrow.Author.Tests.{lt-ltb, le-ltb}
-use Rattle.answer.specs.Lists.{at, Front}
+use Rattle.answer.specs.Lists.{at, filled, Front}
+use Rattle.answer.proofs.Lists.{getD-kept}
 use Rattle.answer.specs.Least.{least}
 use Rattle.answer.proofs.Grow.{part-tail}
 use Rattle.answer.proofs.Least.{least-is, least-below}
@@ -22,6 +23,14 @@ use Rattle.words.specs.Words.{userWord}
 use Rattle.user_words.specs.Engine.{runWord}
 use Rattle.frame_words.specs.Engine.{Holds, Formats, userWordOf}
 use Rattle.frame_words.specs.Words.{before, giver, sharedAt, positionIn, userWordAt}
+
+-- from the fields that are words on, those behind are as they were
+past-filled : (f : ℕ → ℕ) (j : ℕ) (w fields : List ℕ) (i : ℕ) → w ≡ filled f j fields → j ≤ length w → at (take (length w - j) (drop j w)) i ≡ at fields (j + i)
+past-filled f j w fields i o q =
+    ap (λ (z : List ℕ). at z i) (part-tail w j q)
+    ∙ getD-drop j w i 0
+    ∙ ap (λ (z : List ℕ). at z (j + i)) o
+    ∙ getD-kept f j fields (j + i) 0 (omega arith)
 
 total-rises : (f : ℕ → ℕ) (m n : ℕ) → m ≤ n → total f m ≤ total f n
 unfolding total
@@ -47,13 +56,14 @@ module _ (bw c : ℕ) (s : List ℕ) (k : ℕ) (l : k < subfieldsIn bw c) where
       (λ h. lt-ltb j (before bw s (k + 1)) z)
       (λ i h. le-ltb j (before bw s (i + 1)) (omega (arith, total-rises (λ q. fieldsOf (value bw s q)) (i + 1) k (omega arith))))
 
-  -- so its run of words, of the channel's fields as numbers, is the channel's from there on
-  pub run-words : (row fields : List ℕ) (i : ℕ) → Front (user bw s) (count bw c s) fields → i < fieldsOf (value bw s k)
-      → runWord fields (before bw s k) (sharedAt row (positionIn c k)) i ≡ userWordAt bw row c s (before bw s k + i)
+  -- so its run of words, of the channel's fields as numbers, is the channel's from there on: those before are words already
+  pub run-words : (row fields w : List ℕ) (j i : ℕ) → w ≡ filled (userWordAt bw row c s) j fields → j ≡ before bw s k → j ≤ length w
+      → Front (user bw s) (count bw c s) fields → i < fieldsOf (value bw s k)
+      → runWord (take (length w - j) (drop j w)) (sharedAt row (positionIn c k)) i ≡ userWordAt bw row c s (j + i)
   unfolding userWordAt runWord
-  run-words row fields i f h =
-      let e = f .front (before bw s k + i) (omega (arith, before-next, before-count)) in
-      rw (e, giver-is (before bw s k + i) (omega arith) (omega (arith, before-next)))
+  run-words row fields w j i o b q f h =
+      let e = f .front (j + i) (omega (arith, before-next, before-count)) in
+      rw (past-filled (userWordAt bw row c s) j w fields i o q, e, giver-is (j + i) (omega arith) (omega (arith, before-next)))
 
 -- a turn of the loop over a channel's values: at value k, which the row r has at its position, j fields came before and m are its own
 pub record Turn (bw c : ℕ) (s r : List ℕ) (j k m : ℕ) : Type 0 where
@@ -113,11 +123,10 @@ module _ (bw : ℕ) (a b r : List ℕ) (n : ℕ) where
 
   -- one run, where all fields are alone
   pub lone-words : (fields : List ℕ) (m : ℕ) → Holds bw 1 a r → Holds bw 2 b r → Formats r 0 → n ≡ count bw 1 a → m ≡ count bw 2 b
-      → Front (userOf bw a b n) (n + m) fields → (j : ℕ) → j < n + m → runWord fields 0 false j ≡ userWordOf bw r a b n j
+      → Front (userOf bw a b n) (n + m) fields → (j : ℕ) → j < n + m → runWord fields false j ≡ userWordOf bw r a b n j
   unfolding runWord userWordOf userOf
   lone-words fields m h k f e d w j l =
-      let i : 0 + j ≡ j = omega arith in
-      ap (λ (x : ℕ). userWord false (at fields x)) i ∙ ap (userWord false) (w .front j l) ∙ go (decLt j n)
+      ap (userWord false) (w .front j l) ∙ go (decLt j n)
     where
       go : Dec (j < n)
           → userWord false (cond (ltb j n) (user bw a j) (user bw b (j - n))) ≡ cond (ltb j n) (userWordAt bw r 1 a j) (userWordAt bw r 2 b (j - n))
@@ -131,14 +140,14 @@ module _ (bw : ℕ) (a b r : List ℕ) (n : ℕ) where
     front = λ i l. w .front i (omega arith) ∙ rw (lt-ltb i n (omega arith));
   }
 
-  pub front-2 : (fields : List ℕ) (m : ℕ) → n + m ≤ length fields → Front (userOf bw a b n) (n + m) fields
-      → Front (user bw b) m (take (length fields - n) (drop n fields))
+  -- of the second, where the first's are words already
+  pub front-2 : (f : ℕ → ℕ) (fields w : List ℕ) (m : ℕ) → w ≡ filled f n fields → n ≤ length w → Front (userOf bw a b n) (n + m) fields
+      → Front (user bw b) m (take (length w - n) (drop n w))
   unfolding userOf
-  front-2 fields m l w = record {
-    front = λ i k.
+  front-2 f fields w m o l k = record {
+    front = λ i h.
         let e : n + i - n ≡ i = omega arith in
-        ap (λ (z : List ℕ). at z i) (part-tail fields n (omega arith))
-        ∙ getD-drop n fields i 0
-        ∙ w .front (n + i) (omega arith)
+        past-filled f n w fields i o l
+        ∙ k .front (n + i) (omega arith)
         ∙ rw (le-ltb (n + i) n (omega arith), e);
   }

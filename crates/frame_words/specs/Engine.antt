@@ -1,14 +1,19 @@
 -- Engine: what the words of a frame are made from beside its bytes, its row and the formats of its positions. The contracts of the code cite
 -- it; nobody has to believe it.
 use mathlib.Core.Path.{_≡_}
-use mathlib.Core.List.{List}
+use mathlib.Core.List.{List, [], _∷_}
 use mathlib.Core.Bool.{cond}
 use Prim.Native.Nat.{ℕ, _-_, _/_, _%_, _^_, _<_}
 use lib.Dec.{eqb, ltb}
 use lib.ListN.{length, getD}
 use Rattle.kinds.specs.Fields.{shared}
 use Rattle.channel.specs.Layout.{subfieldsIn, value}
+use Rattle.words.specs.Words.{tripleWord}
 use Rattle.frame_words.specs.Words.{positionIn, sharedAt, userWordAt}
+
+-- data[2] to data[6], of a row of n positions
+abbrev pub triples : (ℕ → ℕ) → ℕ → List ℕ
+triples r n = tripleWord r n 1 ∷ tripleWord r n 4 ∷ tripleWord r n 7 ∷ tripleWord r n 10 ∷ tripleWord r n 13 ∷ []
 
 -- the row r has channel c's values, of bytes s, at the channel's positions
 pub record Holds (bw c : ℕ) (s r : List ℕ) : Type 0 where

@@ -26,7 +26,7 @@ module _ (bw : ℕ) (a b : List ℕ) (room : ℕ) {p : Planned} (e : p ≡ plann
   first-refuses x f = reading-stopped bw a b room x (planned-refuse bw a b x (outcome-made e f))
 
   -- the second's, where the first passes
-  second-says : p .outcome ≡ Pass → readOutcome bw a b room ≡ usersOutcome bw a b room
+  pub second-says : p .outcome ≡ Pass → readOutcome bw a b room ≡ usersOutcome bw a b room
   second-says f = reading-rest bw a b room (planned-rest bw a b (outcome-made e f))
 
   pub second-answers : p .outcome ≡ Pass → usersAnswer bw a b room ≡ readAnswer bw a b room

@@ -11,7 +11,8 @@ ghost use Rattle.reader.specs.Table.{noRoom};
 ghost use Rattle.reader.specs.Result.{readAnswer, wordsAfter};
 ghost use Rattle.reader.specs.Engine.{Planned8, usersAnswer, usersAfter};
 
-fn then_room(prev: Outcome, need: usize, room: usize) -> Outcome
+// 12, of what the earlier checks say.
+pub fn then_room(prev: Outcome, need: usize, room: usize) -> Outcome
     ensures { λ r. ⌜ r ≡ (prev or noRoom need room) ⌝ }
 {
     answer::or_else(prev, answer::refuse_if(room < need, 12, 0, need))

@@ -1,7 +1,7 @@
--- What the contract of `put_run` leaves open: nothing.
+-- What the contract of `turn_run` leaves open: nothing.
 use mathlib.Core.Path.{_≡_, sym, _∙_}
 use denote.Ref.{now}
-use Rattle.user_words.proofs.put_run.Reads as put-run
+use Rattle.user_words.proofs.turn_run.Reads as turn-run
 
-pub put-run-agrees : (κs : _) (a : _) (r r' : _) (s s' : _) → put-run.Post κs a r s → put-run.Post κs a r' s' → now (s .0) ≡ now (s' .0)
-put-run-agrees κs a r r' s s' p q = p ∙ sym q
+pub turn-run-agrees : (κs : _) (a : _) (r r' : _) (s s' : _) → turn-run.Post κs a r s → turn-run.Post κs a r' s' → now (s .0) ≡ now (s' .0)
+turn-run-agrees κs a r r' s s' p q = p ∙ sym q

@@ -1,9 +1,21 @@
 // Words as bytes, the lowest byte of each first, and back.
 ghost use mathlib.Core.Path.{_≡_};
-ghost use Prim.Native.Nat.{_+_, _*_, _/_, _≤_, _<_, min};
+ghost use Prim.Native.Nat.{_+_, _*_, _≤_, _<_};
 ghost use lib.ListN.{length};
 ghost use Rattle.answer.specs.Lists.{filled};
 ghost use Rattle.word_bytes.specs.Bytes.{byteAt, wordAt};
+ghost use Rattle.word_bytes.specs.Engine.{wordPut};
+
+// Word i as bytes, the lowest first.
+pub fn put_word(out: &mut [u8], i: usize, w: u32)
+    requires { ⌜ 4 * i + 4 ≤ length (now out) ⌝ }
+    ensures { λ _. ⌜ now (out .exit) ≡ wordPut (now (out .entry)) i w ⌝ }
+{
+    out[4 * i] = (w % 256) as u8;
+    out[4 * i + 1] = (w / 256 % 256) as u8;
+    out[4 * i + 2] = (w / 65536 % 256) as u8;
+    out[4 * i + 3] = (w / 16777216 % 256) as u8;
+}
 
 // The first n words as bytes, the lowest byte of each first.
 pub fn put_bytes(out: &mut [u8], words: &[u32], n: usize)
@@ -12,21 +24,9 @@ pub fn put_bytes(out: &mut [u8], words: &[u32], n: usize)
 {
     let mut i = 0;
     while i < n {
-        let w = words[i];
-        out[4 * i] = (w % 256) as u8;
-        out[4 * i + 1] = (w / 256 % 256) as u8;
-        out[4 * i + 2] = (w / 65536 % 256) as u8;
-        out[4 * i + 3] = (w / 16777216 % 256) as u8;
+        put_word(out, i, words[i]);
         i += 1;
     }
-}
-
-// How many whole words the bytes have room for; 154 is as good as more.
-pub fn room_of(bytes: usize) -> usize
-    ensures { λ r. ⌜ (r ≤ 154) × (r ≡ min (bytes / 4) 154) ⌝ }
-{
-    let n = bytes / 4;
-    if n < 154 { n } else { 154 }
 }
 
 fn wide(x: u8) -> u32

@@ -11,7 +11,7 @@ ghost use Rattle.words.specs.Engine.{giLtf, overflowOf, valueOf, fieldIn
 // ---- from the parts of a frame to words
 
 // data[0], of the 17 bits of overflow and the ten of check and tail.
-fn overflow_word(v: u32, t: u32) -> u32
+pub fn overflow_word(v: u32, t: u32) -> u32
     requires { ⌜ t < 1024 ⌝ }
     ensures { λ r. ⌜ r ≡ overflowWord v t ⌝ }
 {
@@ -39,17 +39,21 @@ fn slot_of(row: &[u16], p: usize) -> u32
 }
 
 // data[1].
-fn first_word(row: &[u16]) -> u32
+pub fn first_word(row: &[u16]) -> u32
     ensures { λ r. ⌜ r ≡ firstWord (at (now (row .entry))) (length (now (row .entry))) ⌝ }
 {
     8192 * slot_of(row, 0)
 }
 
 // Of data[2] to data[6] the one that begins with position p.
-fn triple_word(row: &[u16], p: usize) -> u32
+pub fn triple_word(row: &[u16], p: usize) -> u32
     requires { ⌜ p < 16 ⌝ }
     ensures { λ r. ⌜ r ≡ tripleWord (at (now (row .entry))) (length (now (row .entry))) p ⌝ }
 {
+    // of a narrow frame most have none
+    if row.len() <= p {
+        return 0;
+    }
     slot_of(row, p) + 1024 * (slot_of(row, p + 1) + 1024 * slot_of(row, p + 2))
 }
 

@@ -1,9 +1,11 @@
 -- `frame_words::put_frame` meets its contract.
 use Prim.Native.Nat.{_+_, _-_}
-use mathlib.Core.Path.{_≡_, refl, ap}
+use mathlib.Core.Path.{_≡_, refl, _∙_, ap}
 use native.Mathlib.Omega.{arith}
-use lib.ListN.{length, length-drop}
+use lib.ListN.{length, drop, length-drop}
 use borrow.Rule.Slice.PartMut.{putMid}
+use Rattle.answer.specs.Lists.{at}
+use Rattle.answer.proofs.Lists.{filled-cong, getD-filled}
 use Rattle.answer.proofs.Grow.{part-tail}
 use Rattle.frame_words.specs.Words.{headerOf, userWordAt, wordsOfRow, wordCount}
 use Rattle.frame_words.specs.Engine.{userWordOf}
@@ -17,38 +19,45 @@ put-head-requires : tie.Need-put-head-requires
 unfolding wordCount
 put-head-requires c κs = omega arith
 
--- the header leaves as many words
-head-many : (c : tie.After-put-head) → length (c .put-head .last .0) ≡ length (c .before .before .before .before .before .before .before .args .words .now)
-head-many c = c .put-head .kept .0
+turn-users-requires : tie.Need-turn-users-requires
+turn-users-requires c κs = search needs
 
-sub-put-users : tie.Need-sub-put-users
+sub-put-fields : tie.Need-sub-put-fields
 unfolding wordCount
-sub-put-users c = omega (arith, head-many (c .before .before))
+sub-put-fields c = omega (arith, c .before .before .before .before .before .before .put-head .kept .0)
 
-part-put-users-start : tie.Need-part-put-users-start
+part-put-fields-start : tie.Need-part-put-fields-start
 unfolding wordCount
-part-put-users-start c = omega (arith, head-many (c .before .before))
+part-put-fields-start c = omega (arith, c .before .before .before .before .before .before .put-head .kept .0)
 
-part-put-users-end : tie.Need-part-put-users-end
-part-put-users-end c = search needs
+part-put-fields-end : tie.Need-part-put-fields-end
+part-put-fields-end c = search needs
 
-put-users-requires : tie.Need-put-users-requires
+add-put-fields : tie.Need-add-put-fields
+add-put-fields c = search needs
+
+put-fields-requires : tie.Need-put-fields-requires
 unfolding wordCount
-put-users-requires c κs =
-    let w = c .before .before .before .put-head .last .0 in
-    let p = c .before .before .before .before .before .before .before .before .before .before .pre in
-    let l = head-many (c .before .before .before) in
-    (rw (part-tail w 10 (omega arith)) (omega (arith, length-drop 10 w, p .5, p .6)), p .1, p .2, p .3, p .4, p .5, p .6, p .7)
+put-fields-requires c κs =
+    let w = c .before .before .before .before .before .before .before .before .put-head .last .0 in
+    let p = c .before .before .before .before .before .before .before .before .before .before .before .before .before .before .before .pre in
+    let l = c .before .before .before .before .before .before .before .before .put-head .kept .0 in
+    (rw (part-tail w 10 (omega arith)) (omega (arith, length-drop 10 w, p .5, p .6)), omega (arith, c .before .before .before .before .turn-users .kept .0))
 
 same-length : tie.Need-same-length
 same-length c = search needs
 
+same-length-2 : tie.Need-same-length-2
+same-length-2 c = search needs
+
 returns : tie.Need-returns
 unfolding wordCount wordsOfRow
 returns c =
-    let s = c .before .before .before .before .before .before .before .before .before .before .before .before .before .args in
-    let p = c .before .before .before .before .before .before .before .before .before .before .before .before .before .pre in
-    let w = c .before .before .before .before .before .before .put-head .last .0 in
+    let u = c .before .before .before .before .before .before .before .turn-users in
+    let d = c .before .before .before .before .before .before .before .before .before .before .before in
+    let s = d .before .before .before .before .before .before .before .args in
+    let p = d .before .before .before .before .before .before .before .pre in
+    let w = d .put-head .last .0 in
     let f = userWordAt (s .bw) (s .row .now) 1 (s .a .now) in
     let g = userWordAt (s .bw) (s .row .now) 2 (s .b .now) in
     let k = userWordOf (s .bw) (s .row .now) (s .a .now) (s .b .now) (s .n) in
@@ -58,17 +67,23 @@ returns c =
     (omega (arith, p .5, p .6))
     (word-one (s .bw) (s .a .now) (s .b .now) (s .row .now) (s .n))
     (λ i l. word-other (s .bw) (s .a .now) (s .b .now) (s .row .now) (s .n) i)
-    (c .before .before .before .before .before .before .put-head .ensures)
-    (ap (putMid 10 (length w - 10) w) (c .before .before .put-users .ensures)))
+    (d .put-head .ensures)
+    (ap (putMid 10 (length w - 10) w)
+    (c .before .before .put-fields .ensures
+    ∙ filled-cong (at (u .last .0)) k (s .n + s .m) _
+    (λ i l. ap (λ z. at z i) (u .ensures) ∙ getD-filled k (s .n + s .m) (s .fields .now) i 0 l))))
 
 pub put-frame-spec : {M : Type 1} → statement M
 put-frame-spec =
     tie.close
     (tie.spec
     put-head-requires
-    sub-put-users
-    part-put-users-start
-    part-put-users-end
-    put-users-requires
+    turn-users-requires
+    sub-put-fields
+    part-put-fields-start
+    part-put-fields-end
+    add-put-fields
+    put-fields-requires
     same-length
+    same-length-2
     returns)

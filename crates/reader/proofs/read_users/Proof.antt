@@ -78,10 +78,14 @@ same-length-3 c = search needs
 returns-2 : tie.Need-returns-2
 unfolding usersAnswer usersAfter wordsOf
 returns-2 c =
-    let s = c .before .before .before .before .before .before .before .before .before .before .before .before .before .before .before .before .before .args in
-    let p = c .before .before .before .before .before .before .before .before .before .before .before .before .before .before .before .before .before .pre .0 in
-    let e = sym (says (c .before .before .before .before .before .before .before)) ∙ c .before .before .before .before .before .enum-told .given .1 in
-    (rw (e, counted (s .bw) (s .a .now) (s .b .now) (s .n) (s .m) (p .count1) (p .count2)), rw (e, ← p .the-row) (c .before .before .put-frame .ensures))
+    let f = c .before .before .before .before in
+    let t = f .before .before .before .before .before in
+    let s = t .before .before .before .before .before .before .before .before .before .before .args in
+    let p = t .before .before .before .before .before .before .before .before .before .before .pre .0 in
+    let e = sym (says t) ∙ f .before .before .before .enum-told .given .1 in (
+      rw (e, counted (s .bw) (s .a .now) (s .b .now) (s .n) (s .m) (p .count1) (p .count2)),
+      rw (e, ← p .the-row) (f .put-frame .ensures),
+    )
 
 pub read-users-spec : {M : Type 1} → statement M
 read-users-spec =

@@ -1,12 +1,12 @@
 -- `word_bytes::put_bytes` meets its contract.
-use Rattle.word_bytes.proofs.Four.{four}
-use Rattle.word_bytes.specs.Bytes.{byteAt}
+use Prim.Native.Nat.{_*_, _-_, _≤_}
+use mathlib.Core.Path.{_≡_, refl, _∙_}
+use native.Mathlib.Omega.{arith}
+use lib.ListN.{length}
 use Rattle.answer.specs.Lists.{filled}
 use Rattle.answer.proofs.Lists.{filled-start}
-use lib.ListN.{length, length-set}
-use Prim.Native.Nat.{_*_, _-_, _≤_}
-use mathlib.Core.Path.{_≡_, refl}
-use native.Mathlib.Omega.{arith}
+use Rattle.word_bytes.specs.Bytes.{byteAt}
+use Rattle.word_bytes.proofs.Four.{word-put}
 use borrow.Author.Needs.{needs}
 use Rattle.word_bytes.proofs.put_bytes.Statement.{statement}
 use Rattle.word_bytes.proofs.put_bytes.Tie as tie
@@ -20,56 +20,14 @@ abbrev μ-loop : tie.MeasureT-loop
 loop-holds : tie.Need-loop-holds Inv-loop μ-loop
 loop-holds c = (omega arith, filled-start _ _, refl)
 
-mul-w : tie.Need-mul-w Inv-loop μ-loop
-mul-w c = search needs
+mul-put-word : tie.Need-mul-put-word Inv-loop μ-loop
+mul-put-word c = search needs
 
-shared-slice-read-w : tie.Need-shared-slice-read-w Inv-loop μ-loop
-shared-slice-read-w c = search needs
+shared-slice-read-put-word : tie.Need-shared-slice-read-put-word Inv-loop μ-loop
+shared-slice-read-put-word c = search needs
 
-cast-out : tie.Need-cast-out Inv-loop μ-loop
-cast-out c = search needs
-
-mul-out : tie.Need-mul-out Inv-loop μ-loop
-mul-out c = search needs
-
-slice-write-out : tie.Need-slice-write-out Inv-loop μ-loop
-slice-write-out c = search needs
-
-cast-out-2 : tie.Need-cast-out-2 Inv-loop μ-loop
-cast-out-2 c = search needs
-
-mul-out-2 : tie.Need-mul-out-2 Inv-loop μ-loop
-mul-out-2 c = search needs
-
-add-out : tie.Need-add-out Inv-loop μ-loop
-add-out c = search needs
-
-slice-write-out-2 : tie.Need-slice-write-out-2 Inv-loop μ-loop
-slice-write-out-2 c = simp length-set (omega arith)
-
-cast-out-3 : tie.Need-cast-out-3 Inv-loop μ-loop
-cast-out-3 c = search needs
-
-mul-out-3 : tie.Need-mul-out-3 Inv-loop μ-loop
-mul-out-3 c = search needs
-
-add-out-2 : tie.Need-add-out-2 Inv-loop μ-loop
-add-out-2 c = search needs
-
-slice-write-out-3 : tie.Need-slice-write-out-3 Inv-loop μ-loop
-slice-write-out-3 c = simp length-set (omega arith)
-
-cast-out-4 : tie.Need-cast-out-4 Inv-loop μ-loop
-cast-out-4 c = search needs
-
-mul-out-4 : tie.Need-mul-out-4 Inv-loop μ-loop
-mul-out-4 c = search needs
-
-add-out-3 : tie.Need-add-out-3 Inv-loop μ-loop
-add-out-3 c = search needs
-
-slice-write-out-4 : tie.Need-slice-write-out-4 Inv-loop μ-loop
-slice-write-out-4 c = simp length-set (omega arith)
+put-word-requires : tie.Need-put-word-requires Inv-loop μ-loop
+put-word-requires c κs = search needs
 
 add-i : tie.Need-add-i Inv-loop μ-loop
 add-i c = search needs
@@ -79,17 +37,17 @@ loop-less c = search needs
 
 loop-again : tie.Need-loop-again Inv-loop μ-loop
 loop-again c =
-    let s = c .before .before .before .args in
-    let l = c .before .before .loop in
-    (omega arith, four (s .words .now) (s .out .now) (l .out) (l .i) _ (omega arith) (l .inv .1) refl, simp length-set (l .inv .2))
+    let s = c .before .before .before .before .before .before .before .before .before .args in
+    let l = c .before .before .before .before .before .before .loop in
+    let p = c .before .before .put-word in
+    (omega arith, p .ensures ∙ word-put (s .words .now) (s .out .now) (l .out) (l .i) _ (omega arith) (l .inv .1) refl, p .kept .0 ∙ l .inv .2)
 
 same-length : tie.Need-same-length Inv-loop μ-loop
 same-length c = c .before .loop .inv .2
 
 returns : tie.Need-returns Inv-loop μ-loop
 returns c =
-    let s = c .before .before .args in
-    let e : c .before .loop .i ≡ s .n = omega arith in
+    let e : c .before .loop .i ≡ c .before .before .before .before .args .n = omega arith in
     rw (← e) (c .before .loop .inv .1)
 
 pub put-bytes-spec : {M : Type 1} → statement M
@@ -99,23 +57,9 @@ put-bytes-spec =
     Inv-loop
     μ-loop
     loop-holds
-    mul-w
-    shared-slice-read-w
-    cast-out
-    mul-out
-    slice-write-out
-    cast-out-2
-    mul-out-2
-    add-out
-    slice-write-out-2
-    cast-out-3
-    mul-out-3
-    add-out-2
-    slice-write-out-3
-    cast-out-4
-    mul-out-4
-    add-out-3
-    slice-write-out-4
+    mul-put-word
+    shared-slice-read-put-word
+    put-word-requires
     add-i
     loop-less
     loop-again
