@@ -9,7 +9,7 @@ use Rattle.frame_words.specs.Words.{wordCount, wordsOf}
 use Rattle.reader.specs.Table.{readOutcome}
 use Rattle.reader.specs.Result.{readAnswer}
 use Rattle.word_bytes.specs.Bytes.{byteAt}
-use Rattle.brachymel.specs.Bytes.{readBytes}
+use Rattle.byte_reader.specs.Bytes.{readBytes}
 use Rattle.brachymel.proofs.brachymel_read.Reads as read
 use Rattle.brachymel.proofs.brachymel_write.Reads as write
 use Rattle.brachymel.proofs.brachymel_list.Reads as list

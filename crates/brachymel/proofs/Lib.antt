@@ -1,5 +1,3 @@
-pub mod Through
 pub mod Agree
 pub mod Judged
 pub mod Early
-pub mod Rooms

@@ -1,33 +1,19 @@
--- Words as bytes, for C.
+-- The writer's words as bytes, for C; the reader's are `byte_reader/specs/Bytes.antt`.
 --
 -- 01, "What comes back": "The capture software is written in C and calls reader and writer with numbers and bytes, words then being
--- little-endian. For the reader's room only whole words count".
+-- little-endian."
 use mathlib.Core.Bool.{not}
 use mathlib.Core.List.{List, [], _∷_}
-use Prim.Native.Nat.{ℕ, _*_, _/_, _%_}
+use Prim.Native.Nat.{ℕ, _%_}
 use lib.Dec.{eqb}
 use lib.ListN.{length}
 use Rattle.answer.specs.Answer.{no, refuseIf, _or_, answerAt, after}
-use Rattle.answer.specs.Lists.{filled}
 use Rattle.answer.specs.declared.Answer.{Answer}
 use Rattle.answer.specs.declared.Outcome.{Outcome}
 use Rattle.halves.specs.Table.{check1}
-use Rattle.frame_words.specs.Words.{wordCount, wordsOf}
-use Rattle.reader.specs.Table.{readOutcome}
-use Rattle.reader.specs.Result.{readAnswer}
 use Rattle.writer.specs.Worked.{theChannel, theBytes}
 use Rattle.writer.specs.Result.{writeOutcome, front, check13, check14}
-use Rattle.word_bytes.specs.Bytes.{byteAt, wordsIn}
-
--- "0 and 12 give places in words"
-abbrev pub bytesReadAnswer : ℕ → List ℕ → List ℕ → List ℕ → Answer
-bytesReadAnswer bw a b w = readAnswer bw a b (length w / 4)
-
--- the lent bytes afterwards; those past the words keep what they held
-unfoldable pub readBytes : ℕ → List ℕ → List ℕ → List ℕ → List ℕ
-readBytes bw a b w = after (readOutcome bw a b (length w / 4)) (filled (byteAt (wordsOf bw a b)) (4 * wordCount bw a b) w) w
-
--- ---- the writer's words
+use Rattle.word_bytes.specs.Bytes.{wordsIn}
 
 -- "a word text not divisible by four gives the writer's 13"
 unfoldable pub ragged : List ℕ → Outcome

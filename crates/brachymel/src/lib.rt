@@ -5,7 +5,8 @@ ghost use mathlib.Core.Path.{_≡_};
 ghost use Prim.Native.Nat.{_/_, _≤_};
 ghost use lib.ListN.{length};
 ghost use Rattle.word_bytes.specs.Bytes.{wordsIn};
-ghost use Rattle.brachymel.specs.Bytes.{bytesReadAnswer, readBytes, bytesWriteAnswer, writeChannel};
+ghost use Rattle.byte_reader.specs.Bytes.{bytesReadAnswer, readBytes};
+ghost use Rattle.brachymel.specs.Bytes.{bytesWriteAnswer, writeChannel};
 ghost use Rattle.writer.specs.Result.{writeAnswer, channelAfter};
 ghost use Rattle.listed.specs.Listing.{listAnswer, listAfter};
 ghost use Rattle.compared.specs.Text.{compareAnswer, compareAfter};
@@ -15,34 +16,12 @@ ghost use Rattle.overlaps.specs.Result.{overlapsAnswer, pairsAfter};
 ghost use Rattle.stream_rows.specs.Result.{rowAnswer, rowAfter, numberAnswer};
 ghost use Rattle.streams.specs.Result.{streamsAnswer, streamsAfter};
 
-// The reading, through words of its own.
-fn read_through(
-    bandwidth: u32,
-    cc1: &[u8],
-    cc2: &[u8],
-    words: &mut [u8],
-    local: &mut [u32],
-) -> Answer
-    requires { ⌜ length (now local) ≡ 154 ⌝ }
-    ensures { λ r. ⌜ r ≡ bytesReadAnswer bandwidth (now (cc1 .entry)) (now (cc2 .entry)) (now (words .entry)) ⌝ }
-    ensures { λ _. ⌜ now (words .exit) ≡ readBytes bandwidth (now (cc1 .entry)) (now (cc2 .entry)) (now (words .entry)) ⌝ }
-{
-    let room = word_bytes::room_of(words.len());
-    let x = reader::read(bandwidth, cc1, cc2, &mut local[..room]);
-    if x.number != 0 {
-        return x;
-    }
-    word_bytes::put_bytes(words, local, x.place);
-    x
-}
-
 #[no_mangle]
 pub extern "C" fn brachymel_read(bandwidth: u32, cc1: &[u8], cc2: &[u8], words: &mut [u8]) -> Answer
     ensures { λ r. ⌜ r ≡ bytesReadAnswer bandwidth (now (cc1 .entry)) (now (cc2 .entry)) (now (words .entry)) ⌝ }
     ensures { λ _. ⌜ now (words .exit) ≡ readBytes bandwidth (now (cc1 .entry)) (now (cc2 .entry)) (now (words .entry)) ⌝ }
 {
-    let mut local = [0u32; 154];
-    read_through(bandwidth, cc1, cc2, words, &mut local)
+    byte_reader::read(bandwidth, cc1, cc2, words)
 }
 
 // The writing, of n words and through words of its own.

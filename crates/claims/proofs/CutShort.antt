@@ -34,7 +34,7 @@ use Rattle.input.specs.Worked.{frame, said}
 use Rattle.lines.specs.Lines.{refusalText}
 use Rattle.listed.specs.Listing.{listing, check23, listNumbers, listChecks, listOutcome, listAnswer, listAfter, frameText, programText}
 use Rattle.listing.proofs.Judged as listed
-use Rattle.brachymel.specs.Bytes.{readBytes}
+use Rattle.byte_reader.specs.Bytes.{readBytes}
 use Rattle.claims.specs.Calls.{Call, TextCall, Reads, reads, Lists, lists, C-reads, c-reads, C-lists, c-lists, Responds, responds}
 use Rattle.claims.specs.CutShort.{EndsIn, OfChannel, of-1, of-2, SaysWhere, cutCommonBefore, cutUsersBefore, checks11Before, readBefore, listBefore}
 use Rattle.claims.specs.CutShort.{ButPlaces, unchanged, place-moved, SameAnswer, AsBefore, ReadAsBefore, C-readAsBefore, ListAsBefore, CutShort}

@@ -27,7 +27,8 @@ use Rattle.writer.specs.Result.{writeAnswer, channelAfter}
 use Rattle.writer.specs.Worked.{ReadsTo}
 use Rattle.writer.specs.Inverse.{Accepts, GivenBack}
 use Rattle.writer.proofs.Reading.{read-place, accepts-reads, reads-pass, reads-accepts}
-use Rattle.brachymel.specs.Bytes.{bytesReadAnswer, readBytes, bytesWriteAnswer, writeChannel}
+use Rattle.byte_reader.specs.Bytes.{bytesReadAnswer, readBytes}
+use Rattle.brachymel.specs.Bytes.{bytesWriteAnswer, writeChannel}
 use Rattle.listed.specs.Listing.{listing, check23, listOutcome, listAnswer, listAfter}
 use Rattle.listing.proofs.Facts.{read-refuses, read-accepts, list-refuses, list-accepts}
 use Rattle.listing.proofs.Judged as listed

@@ -28,7 +28,8 @@ use Rattle.reader.proofs.Exactly.{accepted-exactly}
 use Rattle.writer.specs.Worked.{ReadsTo, theBytes}
 use Rattle.writer.specs.Result.{writeOutcome, check13, check14}
 use Rattle.writer.proofs.Reading.{read-place, reads-pass}
-use Rattle.brachymel.specs.Bytes.{bytesReadAnswer, readBytes, ragged, bytesOutcome, bytesWriteAnswer}
+use Rattle.byte_reader.specs.Bytes.{bytesReadAnswer, readBytes}
+use Rattle.brachymel.specs.Bytes.{ragged, bytesOutcome, bytesWriteAnswer}
 use Rattle.claims.specs.FromC.{AcceptsBytes}
 
 -- the words of the bytes of a frame's words

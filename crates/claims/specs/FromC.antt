@@ -18,7 +18,7 @@ use Rattle.channel.specs.Layout.{present}
 use Rattle.frame_words.specs.Words.{wordsOf, SameFrame}
 use Rattle.reader.specs.Result.{readAnswer}
 use Rattle.writer.specs.Inverse.{GivenBack}
-use Rattle.brachymel.specs.Bytes.{bytesReadAnswer, readBytes}
+use Rattle.byte_reader.specs.Bytes.{bytesReadAnswer, readBytes}
 use Rattle.listed.specs.Listing.{listing}
 use Rattle.listing_size.specs.Longest.{longestAt}
 use Rattle.claims.specs.Calls.{Call, WriteCall, Reads, Writes, Lists, C-reads, C-writes, C-lists}
