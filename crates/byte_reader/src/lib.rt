@@ -63,12 +63,13 @@ pub fn read(bandwidth: u32, cc1: &[u8], cc2: &[u8], words: &mut [u8]) -> Answer
     ensures { λ r. ⌜ r ≡ bytesReadAnswer bandwidth (now (cc1 .entry)) (now (cc2 .entry)) (now (words .entry)) ⌝ }
     ensures { λ _. ⌜ now (words .exit) ≡ readBytes bandwidth (now (cc1 .entry)) (now (cc2 .entry)) (now (words .entry)) ⌝ }
 {
-    let plan = first_half::plan_frame(bandwidth, cc1, cc2, false);
+    let mut row = [0u16; 16];
+    let mut kinds = [0u16; 16];
+    let plan = first_half::plan_row(&mut row, &mut kinds, bandwidth, cc1, cc2, false);
     let planned = plan.outcome;
     if let Outcome::Refuse(x) = planned {
         return x;
     }
-    let row = plan.row;
     let p = channel::positions_of(bandwidth);
     let x = read_planned(
         bandwidth,

@@ -74,12 +74,13 @@ fn read_as(bandwidth: u32, cc1: &[u8], cc2: &[u8], words: &mut [u32], sealed: bo
     ensures { λ r. ⌜ r ≡ readAnswer bandwidth (now (cc1 .entry)) (now (cc2 .entry)) (length (now (words .entry))) ⌝ }
     ensures { λ _. ⌜ now (words .exit) ≡ wordsAfter bandwidth (now (cc1 .entry)) (now (cc2 .entry)) (now (words .entry)) ⌝ }
 {
-    let plan = first_half::plan_frame(bandwidth, cc1, cc2, sealed);
+    let mut row = [0u16; 16];
+    let mut kinds = [0u16; 16];
+    let plan = first_half::plan_row(&mut row, &mut kinds, bandwidth, cc1, cc2, sealed);
     let planned = plan.outcome;
     if let Outcome::Refuse(x) = planned {
         return x;
     }
-    let row = plan.row;
     let p = channel::positions_of(bandwidth);
     let x = read_planned(
         bandwidth,
