@@ -21,7 +21,8 @@ returns : tie.Need-returns
 unfolding readAnswer wordsAfter
 returns c =
     let s = c .before .before .before .before .before .before .before .before .before .args in
-    let e = first-refuses (s .bandwidth) (s .cc1 .now) (s .cc2 .now) (c .before .before .before .plan-row .ensures) (length (s .words .now)) _ (c .before .planned .given .1) in
+    let w = c .before .before .before .plan-row .ensures in
+    let e = first-refuses (s .bandwidth) (s .cc1 .now) (s .cc2 .now) w (length (s .words .now)) _ (c .before .planned .given .1) in
     (rw e, rw e)
 
 enum-told : tie.Need-enum-told
@@ -55,7 +56,8 @@ slice-aggregate-read-planned c =
 read-planned-requires : tie.Need-read-planned-requires
 read-planned-requires c κs =
     let s = c .before .before .before .before .before .before .before .before .before .before .before .args in
-    handed (s .bandwidth) (s .cc1 .now) (s .cc2 .now) (c .before .before .before .before .before .plan-row .ensures) (c .before .before .before .enum-told .given .1) _ (row-is (c .before .before))
+    let w = c .before .before .before .before .before .plan-row .ensures in
+    handed (s .bandwidth) (s .cc1 .now) (s .cc2 .now) w (c .before .before .before .enum-told .given .1) _ (row-is (c .before .before))
 
 same-length : tie.Need-same-length
 same-length c = search needs
