@@ -5,13 +5,13 @@
 -- words give the channels, whatever words they are, and whether these read back to the words is 13's question.
 use mathlib.Core.Bool.{cond}
 use mathlib.Core.List.{List}
-use Prim.Native.Nat.{ℕ, zero, suc, _+_}
+use Prim.Native.Nat.{ℕ, zero, suc, _+_, _*_, _%_, _^_}
 use lib.Dec.{eqb}
 use lib.ListN.{replicate}
 use Rattle.bits.specs.Bits.{put}
 use Rattle.block.specs.Check.{check}
 use Rattle.resource.specs.Values.{fieldsOf}
-use Rattle.channel.specs.Layout.{present, firstBits, secondAt, secondBits, hasSecond, subfieldsIn, valueAt, total, userAt, blockAt, blocks, covered}
+use Rattle.channel.specs.Layout.{present, firsts, seconds, firstBits, secondAt, secondBits, hasSecond, subfieldsIn, valueAt, total, userAt, blockAt, blocks, covered}
 use Rattle.answer.specs.Lists.{at}
 use Rattle.words.specs.Engine.{overflowOf, valueOf, userField}
 use Rattle.frame_words.specs.Words.{positionIn}
@@ -44,6 +44,20 @@ payload bw v x s f n d = puts (userAt bw) 22 f n (puts (valueAt bw) 9 x s (put d
 -- and then every check. "Tail is zero", and so is the padding, where d is.
 unfoldable pub sealed : ℕ → ℕ → List ℕ → List ℕ
 sealed bw n d = sealBlocks bw n (blocks n) (sealSecond bw (seal 0 (firstBits bw) d))
+
+-- ---- a common field as numbers
+
+-- n values of nine bits as one number, the first lowest
+unfoldable pub gathered : (ℕ → ℕ) → ℕ → ℕ
+gathered x zero = 0
+gathered x (suc n) = gathered x n + x n % 512 * 2 ^ (9 * n)
+
+-- the bits that the first check covers, of overflow v and values x, and those that the second covers
+unfoldable pub firstOf : ℕ → ℕ → (ℕ → ℕ) → ℕ
+firstOf bw v x = v % 2 ^ 17 + gathered x (firsts bw) * 2 ^ 17
+
+unfoldable pub secondOf : ℕ → (ℕ → ℕ) → ℕ
+secondOf bw x = gathered (λ k. x (firsts bw + k)) (seconds bw)
 
 -- ---- what the words say
 

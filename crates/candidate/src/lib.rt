@@ -1,9 +1,12 @@
 // The only channels that given words can come from.
 ghost use mathlib.Core.Path.{_≡_};
-ghost use Prim.Native.Nat.{_+_, _<_, _≤_};
-ghost use Rattle.channel.specs.Layout.{subfieldsIn, valueAt, userAt, blocks};
+ghost use Prim.Native.Nat.{_+_, _*_, _^_, _<_, _≤_};
+ghost use lib.ListN.{length};
+ghost use Rattle.channel.specs.Layout.{firsts, subfields, subfieldsIn, valueAt, userAt, blocks};
 ghost use Rattle.answer.specs.Lists.{at};
 ghost use Rattle.words.specs.Engine.{userField};
+ghost use Rattle.frame_words.specs.Words.{positionIn};
+ghost use Rattle.candidate.specs.Engine.{gathered, firstOf, secondOf};
 ghost use Rattle.candidate.specs.Engine.{puts, seal, sealSecond, sealBlocks, valueIn, countIn, firstIn, channelIn};
 ghost use Rattle.candidate.specs.Length.{bytesFor};
 
@@ -38,6 +41,42 @@ pub fn count_in(bw: u32, words: &[u32], channel: u32) -> usize
         k += 1;
     }
     sum
+}
+
+// ---- a common field as numbers
+
+// n values of the row, every other one from position p on, as one number of nine bits each.
+fn gather(row: &[u16], p: usize, n: usize) -> u64
+    requires { ⌜ (n ≤ 6) × (p ≤ 5) × (p + 2 * n ≤ length (now row) + 1) ⌝ }
+    ensures { λ r. ⌜ (r < 2 ^ (9 * n)) × (r ≡ gathered (λ k. at (now (row .entry)) (2 * k + p)) n) ⌝ }
+{
+    let mut x: u64 = 0;
+    let mut k: usize = 0;
+    while k < n {
+        x += ((row[2 * k + p] % 512) as u64) << (9 * k);
+        k += 1;
+    }
+    x
+}
+
+// The bits of channel c that its first common check covers, of its overflow and the row.
+pub fn first_of(bw: u32, v: u32, row: &[u16], c: usize) -> u64
+    requires { ⌜ (1 ≤ c) × (c ≤ 2) × (2 * firsts bw + c ≤ length (now row) + 2) ⌝ }
+    ensures { λ r. ⌜ (r < 2 ^ 35) × (r ≡ firstOf bw v (λ k. at (now (row .entry)) (positionIn c k))) ⌝ }
+{
+    (v % 131072) as u64 + (gather(row, c - 1, channel::firsts_of(bw)) << 17)
+}
+
+// Those that its second covers: none where there is none.
+pub fn second_of(bw: u32, row: &[u16], c: usize) -> u64
+    requires { ⌜ (1 ≤ c) × (c ≤ 2) × (2 * subfields bw + c ≤ length (now row) + 2) ⌝ }
+    ensures { λ r. ⌜ (r < 2 ^ 54) × (r ≡ secondOf bw (λ k. at (now (row .entry)) (positionIn c k))) ⌝ }
+{
+    gather(
+        row,
+        2 * channel::firsts_of(bw) + (c - 1),
+        channel::seconds_of(bw),
+    )
 }
 
 // ---- a channel from what it carries

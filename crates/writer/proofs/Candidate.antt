@@ -14,6 +14,7 @@ use Rattle.answer.specs.Answer.{passes}
 use Rattle.answer.specs.Least.{least}
 use Rattle.answer.specs.declared.Outcome.the-variants.{Pass}
 use Rattle.answer.proofs.First.{first-pass, pass-first}
+use Rattle.answer.proofs.Every.{both-left, both-right}
 use Rattle.answer.proofs.Order.{pass-left, pass-right, pass-if, passes-true}
 use Rattle.answer.proofs.Least.{least-none, least-all}
 use Rattle.bits.specs.Bits.{bit, field, Same}
@@ -36,8 +37,9 @@ use Rattle.candidate.specs.Length.{bytesFor}
 use Rattle.candidate.proofs.Contents.{determined}
 use Rattle.candidate.proofs.Held.{needed-1, needed-2, needed-le, present-length, absent-length, Holds, ContentsSaid}
 use Rattle.candidate.proofs.Held.{all-subfields, candidate-carries, candidate-zero, holds-1, holds-2}
-use Rattle.same_words.specs.Engine.{unlike, sameWords}
-use Rattle.read_back.specs.Engine.{readsTo}
+use Rattle.same_words.specs.Engine.{sameWords}
+use Rattle.judge.proofs.Told.{same-words-says, says-same-words}
+use Rattle.judge.specs.Engine.{readsTo}
 use Rattle.writer.specs.Worked.{ReadsTo}
 
 -- ---- channels that the words speak of
@@ -191,32 +193,14 @@ module _ (bw : ℕ) (a b : List ℕ) (e : outcome11 bw a b ≡ Pass) where
   pub candidate-words : wordsOf bw (candidate bw w 1) (candidate bw w 2) ≡ w
   candidate-words = sym (words-same nine candidate-agrees)
 
--- ---- the test of equal words
-
-and-both : (s t : Bool) → (s && t) ≡ true → (s ≡ true) × (t ≡ true)
-and-both true t e = (refl, e)
-and-both false t e = absurd (let z : _≡_ {A = ℕ} 0 1 = cc in omega arith)
-
-pub same-words-says : (v u : List ℕ) → sameWords v u ≡ true → v ≡ u
-unfolding sameWords unlike
-same-words-says v u e =
-    let p = and-both (eqb (length v) (length u)) (eqb (least (unlike v u) (length v)) (length v)) e in
-    let n = least-all (unlike v u) (length v) (eqb-true _ _ (p .1)) in
-    ext-getD 0 v u (eqb-true _ _ (p .0)) (λ i l. eqb-true (at v i) (at u i) (not-false (eqb (at v i) (at u i)) (n i l)))
-
-pub says-same-words : (v u : List ℕ) → v ≡ u → sameWords v u ≡ true
-unfolding sameWords unlike
-says-same-words v u e =
-    let l = least-none (unlike v u) (length v) (λ i m. ap not (eq-eqb (at v i) (at u i) (ap (λ (t : List ℕ). at t i) e))) in
-    rw (eq-eqb (length v) (length u) (ap length e), eq-eqb (least (unlike v u) (length v)) (length v) l)
-
 -- ---- 13's question
 
 pub reads-to-says : (bw : ℕ) (a b w : List ℕ) → readsTo bw a b w ≡ true → ReadsTo bw a b w
 unfolding readsTo
 reads-to-says bw a b w e =
-    let p = and-both (passes (outcome11 bw a b)) (sameWords (wordsOf bw a b) w) e in
-    record { accepted = passes-true (outcome11 bw a b) (p .0); the-words = same-words-says (wordsOf bw a b) w (p .1) }
+    let p = passes (outcome11 bw a b) in
+    let q = sameWords (wordsOf bw a b) w in
+    record { accepted = passes-true (outcome11 bw a b) (both-left p q e); the-words = same-words-says (wordsOf bw a b) w (both-right p q e) }
 
 pub says-reads-to : (bw : ℕ) (a b w : List ℕ) → ReadsTo bw a b w → readsTo bw a b w ≡ true
 unfolding readsTo

@@ -18,7 +18,7 @@ use Rattle.halves.specs.Table.{check1}
 use Rattle.candidate.specs.Engine.{needed, candidate}
 use Rattle.writer.specs.Worked.{someRead}
 use Rattle.writer.specs.Result.{check13, check14, writeOutcome, writeAnswer, writeNumbers, writeChecks}
-use Rattle.read_back.specs.Room.{noChannelRoom}
+use Rattle.writer.specs.Room.{noChannelRoom}
 
 pub writeChecks-first : (bw : ℕ) (w : List ℕ) (n m : ℕ) → firstOf (writeChecks bw w n m) ≡ writeOutcome bw w n m
 unfolding writeOutcome

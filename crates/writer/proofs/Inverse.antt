@@ -29,7 +29,7 @@ use Rattle.reader.proofs.read.Reads as read
 use Rattle.candidate.specs.Engine.{needed, candidate}
 use Rattle.candidate.specs.Length.{bytesFor}
 use Rattle.candidate.proofs.Held.{present-length}
-use Rattle.read_back.specs.Engine.{readsTo}
+use Rattle.judge.specs.Engine.{readsTo}
 use Rattle.writer.specs.Worked.{ReadsTo, someRead}
 use Rattle.writer.specs.Result.{check13, writeOutcome, writeChecks, writeAnswer}
 use Rattle.writer.proofs.Candidate.{reads-to-says, says-reads-to, candidate-reads, accepted-known}

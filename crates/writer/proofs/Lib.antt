@@ -4,6 +4,5 @@ pub mod Inverse
 pub mod Candidate
 pub mod Worked
 pub mod Steps
-pub mod Sealed
 pub mod Reading
 pub mod Writing

@@ -2,45 +2,50 @@
 use mathlib.Core.Path.{_≡_, refl, sym, _∙_, ap}
 use mathlib.Core.Bool.{Bool, true, false, cond, _&&_}
 use mathlib.Core.List.{List, _∷_, _++_}
-use Prim.Native.Nat.{ℕ, zero, suc, _≤_}
+use Prim.Native.Nat.{ℕ, zero, suc, _≤_, _<_}
 use native.Mathlib.Omega.{arith}
 use lib.Dec.{ltb}
-use lib.ListN.{length, take, drop, replicate, length-replicate}
-use borrow.Author.Tests.{ltb-false}
+use lib.ListN.{length, getD, drop, replicate, length-replicate}
+use lib.Seq.{ext-getD}
+use borrow.Author.Tests.{lt-ltb, le-ltb, ltb-false}
 use Rattle.answer.specs.Answer as A
 use Rattle.answer.specs.Answer.{refuseIf, _or_}
 use Rattle.answer.specs.declared.Outcome.{Outcome}
-use Rattle.answer.specs.declared.Outcome.the-variants.{Pass}
-use Rattle.answer.specs.Lists.{filled, at}
+use Rattle.answer.specs.declared.Outcome.the-variants.{Pass, Refuse}
+use Rattle.answer.specs.Lists.{filled}
 use Rattle.answer.proofs.Order.{pass-left, pass-right, pass-if}
-use Rattle.answer.proofs.Lists.{build-is}
+use Rattle.answer.proofs.Lists.{filled-length, getD-filled}
 use Rattle.channel.specs.Layout.{present}
 use Rattle.channel.proofs.Laws.{present-1}
 use Rattle.halves.specs.Table.{check1}
 use Rattle.candidate.specs.Engine.{countIn, needed, bytesIn, channelIn, candidate}
 use Rattle.candidate.specs.Length.{bytesFor}
-use Rattle.candidate.proofs.Held.{present-length, absent-length}
+use Rattle.candidate.proofs.Held.{candidate-length, present-length, absent-length}
 use Rattle.writer.specs.Worked.{someRead}
-use Rattle.read_back.specs.Engine.{notRead}
+use Rattle.judge.specs.Engine.{readsTo}
 use Rattle.writer.specs.Result.{check13, check14, writeOutcome, front}
-use Rattle.read_back.specs.Room.{noChannelRoom}
-
--- a channel's bytes at the front of the lent ones, one by one
-pub front-filled : (s d : List ℕ) → filled (at s) (length s) d ≡ front s d
-unfolding front filled
-front-filled s d = ap (λ (t : List ℕ). t ++ drop (length s) d) (sym (build-is (at s) 0 s (length s) refl (λ i l. refl)))
+use Rattle.writer.specs.Room.{noChannelRoom}
 
 -- ---- the outcome
 
-pub candidate-is : (bw : ℕ) (w : List ℕ) (c : ℕ) (d r : List ℕ) → d ≡ replicate (bytesIn bw w c) 0 → r ≡ channelIn bw w c d → r ≡ candidate bw w c
-unfolding candidate
-candidate-is bw w c d r e f = rw e at f
+pub needed-is : (bw : ℕ) (w : List ℕ) (n m need : ℕ) → n ≡ countIn bw w 1 → m ≡ countIn bw w 2 → need ≡ bytesFor bw n m → need ≡ needed bw w
+unfolding needed
+needed-is bw w n m need en em e = e ∙ rw (en, em)
 
-pub writing-is : (bw : ℕ) (w : List ℕ) (n m need : ℕ) (a b : List ℕ) (o : Outcome)
-    → a ≡ candidate bw w 1 → b ≡ candidate bw w 2 → need ≡ needed bw w
-    → o ≡ (check1 bw or notRead bw a b w or noChannelRoom bw need n m) → writeOutcome bw w n m ≡ o
-unfolding writeOutcome check13 someRead notRead check14
-writing-is bw w n m need a b o ea eb en eo = sym (eo ∙ rw (ea, eb, en))
+-- an unknown bandwidth, words that are not told, and told ones, by the room alone
+pub one-outcome : (bw : ℕ) (w : List ℕ) (n m : ℕ) → 4 < bw → writeOutcome bw w n m ≡ Refuse (A.no 1 0 0)
+unfolding writeOutcome check1 _or_
+one-outcome bw w n m l = rw (lt-ltb 4 bw l) refl
+
+pub thirteen-outcome : (bw : ℕ) (w : List ℕ) (n m : ℕ) → bw ≤ 4 → readsTo bw (candidate bw w 1) (candidate bw w 2) w ≡ false
+    → writeOutcome bw w n m ≡ Refuse (A.no 13 0 0)
+unfolding writeOutcome check1 check13 someRead _or_
+thirteen-outcome bw w n m l e = rw (le-ltb 4 bw l, e) refl
+
+pub told-outcome : (bw : ℕ) (w : List ℕ) (n m need : ℕ) (o : Outcome) → bw ≤ 4 → readsTo bw (candidate bw w 1) (candidate bw w 2) w ≡ true
+    → need ≡ needed bw w → o ≡ noChannelRoom bw need n m → writeOutcome bw w n m ≡ o
+unfolding writeOutcome check1 check13 someRead check14 _or_
+told-outcome bw w n m need o l e d f = rw (le-ltb 4 bw l, e) (sym (f ∙ rw d))
 
 pub record Room (bw : ℕ) (w : List ℕ) (n m : ℕ) : Type 0 where
   pub room-1 : length (candidate bw w 1) ≤ n
@@ -62,25 +67,6 @@ writing-room bw w n m e =
     second true p g = rw (present-length bw w 2 p) (ltb-false m (needed bw w) g)
     second false p g = rw (absent-length bw w 2 p) (omega arith)
 
-pub take-zeros : (k n : ℕ) → k ≤ n → take k (replicate {A = ℕ} n 0) ≡ replicate k 0
-take-zeros zero n l = refl
-take-zeros (suc k) zero l = absurd (omega arith)
-take-zeros (suc k) (suc n) l = ap (λ (t : List ℕ). 0 ∷ t) (take-zeros k n (omega arith))
-
-zeros-length : (k n : ℕ) → k ≤ n → k ≡ length (take k (replicate {A = ℕ} n 0))
-zeros-length k n l = sym (ap length (take-zeros k n l) ∙ length-replicate {A = ℕ} k 0)
-
--- the 257 bytes that always suffice
-pub room-length : (k : ℕ) → k ≤ 257 → k ≡ length (take k (replicate {A = ℕ} 257 0))
-room-length k l = zeros-length k 257 l
-
-pub room-zeros : (k n : ℕ) → k ≤ 257 → k ≡ n → take k (replicate {A = ℕ} 257 0) ≡ replicate n 0
-room-zeros k n l e = take-zeros k 257 l ∙ ap (λ (j : ℕ). replicate {A = ℕ} j 0) e
-
-pub needed-is : (bw : ℕ) (w : List ℕ) (n m need : ℕ) → n ≡ countIn bw w 1 → m ≡ countIn bw w 2 → need ≡ bytesFor bw n m → need ≡ needed bw w
-unfolding needed
-needed-is bw w n m need en em e = e ∙ rw (en, em)
-
 pub bytes-1 : (bw : ℕ) (w : List ℕ) (need : ℕ) → need ≡ needed bw w → need ≡ bytesIn bw w 1
 unfolding bytesIn
 bytes-1 bw w need e = rw (present-1 bw) e
@@ -88,3 +74,26 @@ bytes-1 bw w need e = rw (present-1 bw) e
 pub bytes-2 : (bw : ℕ) (w : List ℕ) (need k : ℕ) → need ≡ needed bw w → k ≡ cond (present bw 2) need 0 → k ≡ bytesIn bw w 2
 unfolding bytesIn
 bytes-2 bw w need k e f = f ∙ rw e
+
+-- a channel in exactly its bytes, which were cleared
+pub candidate-is : (bw : ℕ) (w : List ℕ) (c : ℕ) (d e r : List ℕ) → length d ≡ bytesIn bw w c → e ≡ replicate (length d) 0 → r ≡ channelIn bw w c e
+    → r ≡ candidate bw w c
+unfolding candidate
+candidate-is bw w c d e r l f g = rw (f, l) at g
+
+zeros-at : (n k : ℕ) → getD (replicate {A = ℕ} n 0) k 0 ≡ 0
+zeros-at zero k = refl
+zeros-at (suc n) zero = refl
+zeros-at (suc n) (suc k) = zeros-at n k
+
+pub all-cleared : (d : List ℕ) → filled (λ i. 0) (length d) d ≡ replicate (length d) 0
+all-cleared d =
+    let n = filled-length (λ (i : ℕ). 0) (length d) d (omega arith) in
+    ext-getD 0 (filled (λ i. 0) (length d) d) (replicate (length d) 0)
+    (n ∙ sym (length-replicate {A = ℕ} (length d) 0))
+    (λ i l. getD-filled (λ (i : ℕ). 0) (length d) d i 0 (omega arith) ∙ sym (zeros-at (length d) i))
+
+-- at the front of the lent bytes
+pub front-is : (bw : ℕ) (w : List ℕ) (c need : ℕ) (d r : List ℕ) → need ≡ bytesIn bw w c → r ≡ candidate bw w c → r ++ drop need d ≡ front (candidate bw w c) d
+unfolding front
+front-is bw w c need d r e f = rw (f, e ∙ sym (candidate-length bw w c))

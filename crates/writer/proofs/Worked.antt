@@ -13,7 +13,7 @@ use Rattle.candidate.specs.Engine.{countIn, channelIn, candidate}
 use Rattle.candidate.specs.Length.{bytesFor}
 use Rattle.candidate.proofs.Built.{sealed-small}
 use Rattle.candidate.proofs.Held.{present-length, absent-length}
-use Rattle.read_back.specs.Engine.{readsTo}
+use Rattle.judge.specs.Engine.{readsTo}
 use Rattle.writer.specs.Worked.{ReadsTo, SomeRead, SameThenZero, theChannel, theBytes, someRead, Worked}
 use Rattle.writer.proofs.Candidate.{reads-to-says, says-reads-to, candidate-reads, same-1, same-2, zero-1, zero-2, needed-of}
 

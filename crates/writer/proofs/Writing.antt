@@ -22,7 +22,7 @@ use Rattle.candidate.specs.Length.{bytesFor}
 use Rattle.candidate.proofs.Held.{present-length, absent-length}
 use Rattle.writer.specs.Worked.{ReadsTo, someRead}
 use Rattle.writer.specs.Result.{check13, check14, writeOutcome, front, writeAnswer, channelAfter}
-use Rattle.read_back.specs.Room.{noChannelRoom}
+use Rattle.writer.specs.Room.{noChannelRoom}
 use Rattle.writer.proofs.Candidate.{reads-to-says, says-reads-to, candidate-reads, accepted-known}
 use Rattle.writer.proofs.Candidate.{same-1, same-2, zero-1, zero-2, reach-1, reach-2, needed-of}
 use Rattle.writer.specs.Inverse.{Given, GivenBack}

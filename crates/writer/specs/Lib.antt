@@ -1,3 +1,4 @@
 pub mod Worked
+pub mod Room
 pub mod Result
 pub mod Inverse

@@ -7,7 +7,7 @@ use Rattle.answer.specs.Answer.{no, refuseIf, _or_, answerAt, after}
 use Rattle.answer.specs.declared.Answer.{Answer}
 use Rattle.answer.specs.declared.Outcome.{Outcome}
 use Rattle.halves.specs.Table.{check1}
-use Rattle.read_back.specs.Room.{noChannelRoom}
+use Rattle.writer.specs.Room.{noChannelRoom}
 use Rattle.writer.specs.Worked.{theChannel, theBytes, someRead}
 
 -- 13: "no accepted channels read to exactly these words | 0, 0"

@@ -13,7 +13,7 @@ use Rattle.halves.specs.Table.{outcome11}
 use Rattle.frame_words.specs.Words.{wordsOf}
 use Rattle.candidate.specs.Length.{bytesFor}
 use Rattle.candidate.specs.Engine.{needed, candidate}
-use Rattle.read_back.specs.Engine.{readsTo}
+use Rattle.judge.specs.Engine.{readsTo}
 
 -- channels, of bytes a and b, that are accepted and read to exactly the words w
 pub record ReadsTo (bw : ℕ) (a b w : List ℕ) : Type 0 where

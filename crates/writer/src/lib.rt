@@ -1,25 +1,47 @@
-// The writer: words to channels, the inverse of the reader. What the words could only come from is built in room of the
-// writer's own, read back and compared (`read_back`); only then is anything written to the caller.
+// The writer: words to channels, the inverse of the reader. The words are judged as they stand (`judge`), and the room is measured; only then is
+// anything written to the caller, and straight to where it is lent.
 use answer::Answer;
 use answer::Outcome;
 ghost use mathlib.Core.Path.{_≡_};
-ghost use mathlib.Core.Bool.{cond};
+ghost use mathlib.Core.Bool.{true, cond};
+ghost use Rattle.answer.specs.Answer.{no};
 ghost use Prim.Native.Nat.{_≤_};
 ghost use lib.ListN.{length, replicate};
 ghost use Rattle.channel.specs.Layout.{present};
-ghost use Rattle.candidate.specs.Engine.{countIn, needed, bytesIn};
+ghost use Rattle.candidate.specs.Engine.{countIn, firstIn, needed, bytesIn, candidate};
+ghost use Rattle.judge.specs.Engine.{readsTo};
+ghost use Rattle.writer.specs.Room.{noChannelRoom};
 ghost use Rattle.writer.specs.Result.{front, writeAnswer, channelAfter};
 
-// A channel's bytes at the front of the lent ones.
-fn put_front(d: &mut [u8], s: &[u8])
-    requires { ⌜ length (now s) ≤ length (now d) ⌝ }
-    ensures { λ _. ⌜ now (d .exit) ≡ front (now (s .entry)) (now (d .entry)) ⌝ }
+// ---- the channels
+
+fn clear(d: &mut [u8])
+    ensures { λ _. ⌜ now (d .exit) ≡ replicate (length (now (d .entry))) 0 ⌝ }
 {
     let mut i: usize = 0;
-    while i < s.len() {
-        d[i] = s[i];
+    while i < d.len() {
+        d[i] = 0;
         i += 1;
     }
+}
+
+// Channel c of n User fields, whose words start at `first`, in exactly its bytes.
+fn build(d: &mut [u8], bw: u32, words: &[u32], c: u32, first: usize, n: usize)
+    requires { ⌜ (1 ≤ c) × (c ≤ 2) × (first ≤ 82) × (n ≤ 72) × (first ≡ firstIn bw (now words) c) × (n ≡ countIn bw (now words) c)
+        × (length (now d) ≡ bytesIn bw (now words) c) ⌝ }
+    ensures { λ _. ⌜ now (d .exit) ≡ candidate bw (now (words .entry)) c ⌝ }
+{
+    clear(d);
+    candidate::fill(d, bw, words, c, first, n);
+}
+
+// The same at the front of the lent bytes.
+fn put_channel(d: &mut [u8], need: usize, bw: u32, words: &[u32], c: u32, first: usize, n: usize)
+    requires { ⌜ (1 ≤ c) × (c ≤ 2) × (first ≤ 82) × (n ≤ 72) × (first ≡ firstIn bw (now words) c) × (n ≡ countIn bw (now words) c)
+        × (need ≡ bytesIn bw (now words) c) × (need ≤ length (now d)) ⌝ }
+    ensures { λ _. ⌜ now (d .exit) ≡ front (candidate bw (now (words .entry)) c) (now (d .entry)) ⌝ }
+{
+    build(&mut d[..need], bw, words, c, first, n);
 }
 
 // Bytes of a channel: none of one that the bandwidth lacks.
@@ -34,32 +56,44 @@ fn bytes_in(bw: u32, channel: u32, need: usize) -> usize
     }
 }
 
-// The whole, with the counts, the bytes needed and room of zeros to build in.
-fn write_in(
-    bw: u32,
-    words: &[u32],
-    cc1: &mut [u8],
-    cc2: &mut [u8],
-    a: &mut [u8],
-    b: &mut [u8],
-    n: usize,
-    m: usize,
-    need: usize,
-) -> Answer
-    requires { ⌜ (n ≤ 72) × (m ≤ 72) × (n ≡ countIn bw (now words) 1) × (m ≡ countIn bw (now words) 2) × (need ≡ needed bw (now words)) ⌝ }
-    requires { ⌜ (now a ≡ replicate (bytesIn bw (now words) 1) 0) × (now b ≡ replicate (bytesIn bw (now words) 2) 0) ⌝ }
+// ---- what is refused
+
+// 14, where so many bytes are needed and n and m lent.
+fn no_channel_room(bw: u32, need: usize, n: usize, m: usize) -> Outcome
+    ensures { λ r. ⌜ r ≡ noChannelRoom bw need n m ⌝ }
+{
+    let there = channel::is_present(bw, 2);
+    answer::or_else(
+        answer::refuse_if(n < need, 14, 1, need),
+        answer::refuse_if(there & (m < need), 14, 2, need),
+    )
+}
+
+fn refused(number: u32) -> Answer
+    ensures { λ r. ⌜ r ≡ no number 0 0 ⌝ }
+{
+    Answer {
+        number,
+        channel: 0,
+        place: 0,
+    }
+}
+
+// Words that are told, of n and m User fields: 14, or both channels.
+fn write_told(bw: u32, words: &[u32], n: usize, m: usize, cc1: &mut [u8], cc2: &mut [u8]) -> Answer
+    requires { ⌜ (bw ≤ 4) × (readsTo bw (candidate bw (now words) 1) (candidate bw (now words) 2) (now words) ≡ true)
+        × (n ≡ countIn bw (now words) 1) × (m ≡ countIn bw (now words) 2) × (n ≤ 72) × (m ≤ 72) ⌝ }
     ensures { λ r. ⌜ r ≡ writeAnswer bw (now (words .entry)) (length (now (cc1 .entry))) (length (now (cc2 .entry))) ⌝ }
     ensures { λ _. ⌜ now (cc1 .exit) ≡ channelAfter bw (now (words .entry)) (length (now (cc1 .entry))) (length (now (cc2 .entry))) 1 (now (cc1 .entry)) ⌝ }
     ensures { λ _. ⌜ now (cc2 .exit) ≡ channelAfter bw (now (words .entry)) (length (now (cc1 .entry))) (length (now (cc2 .entry))) 2 (now (cc2 .entry)) ⌝ }
 {
-    candidate::fill(a, bw, words, 1, 10, n);
-    candidate::fill(b, bw, words, 2, 10 + n, m);
-    let outcome = read_back::judge(bw, words, a, b, need, cc1.len(), cc2.len());
+    let need = candidate::bytes_for(bw, n, m);
+    let outcome = no_channel_room(bw, need, cc1.len(), cc2.len());
     if let Outcome::Refuse(x) = outcome {
         return x;
     }
-    put_front(cc1, a);
-    put_front(cc2, b);
+    put_channel(cc1, need, bw, words, 1, 10, n);
+    put_channel(cc2, bytes_in(bw, 2, need), bw, words, 2, 10 + n, m);
     Answer {
         number: 0,
         channel: 0,
@@ -76,21 +110,17 @@ pub fn write(bandwidth: u32, words: &[u32], cc1: &mut [u8], cc2: &mut [u8]) -> A
     ensures { λ _. ⌜ now (cc2 .exit)
         ≡ channelAfter bandwidth (now (words .entry)) (length (now (cc1 .entry))) (length (now (cc2 .entry))) 2 (now (cc2 .entry)) ⌝ }
 {
-    let n = candidate::count_in(bandwidth, words, 1);
-    let m = candidate::count_in(bandwidth, words, 2);
-    let need = candidate::bytes_for(bandwidth, n, m);
-    let need2 = bytes_in(bandwidth, 2, need);
-    let mut a = [0u8; 257];
-    let mut b = [0u8; 257];
-    write_in(
-        bandwidth,
-        words,
-        cc1,
-        cc2,
-        &mut a[..need],
-        &mut b[..need2],
-        n,
-        m,
-        need,
-    )
+    if 4 < bandwidth {
+        return refused(1);
+    }
+    let mut row = [0u16; 16];
+    if !judge::take_row(&mut row, bandwidth, words) {
+        return refused(13);
+    }
+    let p = channel::positions_of(bandwidth);
+    let verdict = judge::judge(bandwidth, words, &row[..p]);
+    if !verdict.told {
+        return refused(13);
+    }
+    write_told(bandwidth, words, verdict.fields1, verdict.fields2, cc1, cc2)
 }

@@ -1,51 +1,91 @@
 -- `writer::write` meets its contract.
-use Rattle.writer.proofs.Steps.{room-length, room-zeros, needed-is, bytes-1, bytes-2}
+use Prim.Native.Nat.{_≤_}
+use mathlib.Core.Path.{sym, _∙_}
 use native.Mathlib.Omega.{arith}
+use lib.ListN.{length}
+use lib.Seq.{length-take-le}
+use borrow.Author.Tests.{not-true, not-false}
+use Rattle.candidate.proofs.Held.{count-in-le}
+use Rattle.judge.specs.Engine.{Told}
+use Rattle.judge.proofs.Steps.{row-front}
+use Rattle.judge.proofs.Told.{not-told}
+use Rattle.writer.specs.Result.{writeAnswer, channelAfter}
+use Rattle.writer.proofs.Steps.{one-outcome, thirteen-outcome}
 use borrow.Author.Needs.{needs}
 use Rattle.writer.proofs.write.Statement.{statement}
 use Rattle.writer.proofs.write.Tie as tie
 
-count-in-requires : tie.Need-count-in-requires
-count-in-requires c κs = search needs
+refused-requires : tie.Need-refused-requires
+refused-requires c κs = search needs
 
-count-in-requires-2 : tie.Need-count-in-requires-2
-count-in-requires-2 c κs = search needs
+returns : tie.Need-returns
+unfolding writeAnswer channelAfter
+returns c =
+    let a = c .before .before .before .before .before .args in
+    let e = one-outcome (a .bandwidth) (a .words .now) (length (a .cc1 .now)) (length (a .cc2 .now)) (omega arith) in
+    (c .refused .ensures ∙ rw e, (rw e, rw e))
 
-bytes-for-requires : tie.Need-bytes-for-requires
-bytes-for-requires c κs = search needs
+take-row-requires : tie.Need-take-row-requires
+take-row-requires c κs = search needs
 
-bytes-in-requires : tie.Need-bytes-in-requires
-bytes-in-requires c κs = search needs
+refused-requires-2 : tie.Need-refused-requires-2
+refused-requires-2 c κs = search needs
 
-array-borrow-prefix-a : tie.Need-array-borrow-prefix-a
-array-borrow-prefix-a c = search needs
+returns-2 : tie.Need-returns-2
+unfolding writeAnswer channelAfter
+returns-2 c =
+    let a = c .before .before .before .before .before .before .before .before .args in
+    let l : a .bandwidth ≤ 4 = omega arith in
+    let r = c .before .before .take-row .ensures .0 in
+    let f = not-told (a .bandwidth) (a .words .now) l (λ t. r .no (not-true _ (c .before .if2 .taken)) (omega (arith, t .counted), t .the-header)) in
+    let e = thirteen-outcome (a .bandwidth) (a .words .now) (length (a .cc1 .now)) (length (a .cc2 .now)) l (sym f) in
+    (c .refused2 .ensures ∙ rw e, (rw e, rw e))
 
-slice-aggregate-write-in : tie.Need-slice-aggregate-write-in
-slice-aggregate-write-in c = room-length (c .before .before .before .before .bytes-for .result) (c .before .before .before .before .bytes-for .ensures .1)
+positions-of-requires : tie.Need-positions-of-requires
+positions-of-requires c κs = search needs
 
-array-borrow-prefix-b : tie.Need-array-borrow-prefix-b
-array-borrow-prefix-b c = search needs
+array-share-prefix-row : tie.Need-array-share-prefix-row
+array-share-prefix-row c = omega (arith, c .positions-of .ensures .1, c .before .before .take-row .ensures .1 .0)
 
-slice-aggregate-write-in-2 : tie.Need-slice-aggregate-write-in-2
-slice-aggregate-write-in-2 c =
-    let bytes-for = c .before .before .before .before .before .bytes-for in
-    let bytes-in = c .before .before .before .before .bytes-in in
-    room-length (bytes-in .result) (omega (arith, bytes-in .ensures .1, bytes-for .ensures .1))
+slice-aggregate-judge : tie.Need-slice-aggregate-judge
+slice-aggregate-judge c =
+    sym (length-take-le _ (c .before .before .before .take-row .last .0) (omega (arith, c .before .positions-of .ensures .1, c .before .before .before .take-row .ensures .1 .0)))
 
-write-in-requires : tie.Need-write-in-requires
-write-in-requires c κs =
-    let a = c .before .before .before .before .before .before .before .before .before .before .before .args in
-    let n = c .before .before .before .before .before .before .before .count-in in
-    let m = c .before .before .before .before .before .before .count-in2 in
-    let k = c .before .before .before .before .before .bytes-for in
-    let k2 = c .before .before .before .before .bytes-in in
-    let e = needed-is (a .bandwidth) (a .words .now) (n .result) (m .result) (k .result) (n .ensures .0) (m .ensures .0) (k .ensures .0) in (
-      (n .ensures .1, m .ensures .1, n .ensures .0, m .ensures .0, e),
-      (
-        room-zeros (k .result) _ (k .ensures .1) (bytes-1 (a .bandwidth) (a .words .now) (k .result) e),
-        room-zeros (k2 .result) _ (omega (arith, k2 .ensures .1, k .ensures .1))
-            (bytes-2 (a .bandwidth) (a .words .now) (k .result) (k2 .result) e (k2 .ensures .0)),
-      ),
+judge-requires : tie.Need-judge-requires
+judge-requires c κs =
+    let a = c .before .before .before .before .before .before .before .before .before .args in
+    let r = c .before .before .before .take-row .ensures in
+    let t = not-false _ (c .before .before .if2 .left) in
+    let h = r .0 .yes t in
+    let n = c .before .positions-of .ensures in (
+      omega arith,
+      h .0,
+      h .1,
+      row-front (a .bandwidth) (a .words .now) _ (c .before .positions-of .result) (n .0) (omega (arith, n .1, r .1 .0)) (r .1 .1 t),
+    )
+
+refused-requires-3 : tie.Need-refused-requires-3
+refused-requires-3 c κs = search needs
+
+returns-3 : tie.Need-returns-3
+unfolding writeAnswer channelAfter
+returns-3 c =
+    let a = c .before .before .before .before .before .before .before .before .before .before .before .before .before .args in
+    let e = thirteen-outcome (a .bandwidth) (a .words .now) (length (a .cc1 .now)) (length (a .cc2 .now)) (omega arith) (sym (c .before .before .before .judge .ensures .0) ∙ not-true _ (c .before .if3 .taken)) in
+    (c .refused3 .ensures ∙ rw e, (rw e, rw e))
+
+write-told-requires : tie.Need-write-told-requires
+write-told-requires c κs =
+    let a = c .before .before .before .before .before .before .before .before .before .before .before .before .before .before .args in
+    let t = not-false _ (c .before .before .if3 .left) in
+    let v = c .before .before .before .before .judge .ensures in
+    let n = v .1 t in (
+      omega arith,
+      sym (v .0) ∙ t,
+      n .0,
+      n .1,
+      rw (n .0) (count-in-le (a .bandwidth) (a .words .now) 1),
+      rw (n .1) (count-in-le (a .bandwidth) (a .words .now) 2),
     )
 
 same-length : tie.Need-same-length
@@ -54,22 +94,25 @@ same-length c = search needs
 same-length-2 : tie.Need-same-length-2
 same-length-2 c = search needs
 
-returns : tie.Need-returns
-returns c = search needs
+returns-4 : tie.Need-returns-4
+returns-4 c = c .before .before .before .before .write-told .ensures
 
 pub write-spec : {M : Type 1} → statement M
 write-spec =
     tie.close
     (tie.spec
-    count-in-requires
-    count-in-requires-2
-    bytes-for-requires
-    bytes-in-requires
-    array-borrow-prefix-a
-    slice-aggregate-write-in
-    array-borrow-prefix-b
-    slice-aggregate-write-in-2
-    write-in-requires
+    refused-requires
+    returns
+    take-row-requires
+    refused-requires-2
+    returns-2
+    positions-of-requires
+    array-share-prefix-row
+    slice-aggregate-judge
+    judge-requires
+    refused-requires-3
+    returns-3
+    write-told-requires
     same-length
     same-length-2
-    returns)
+    returns-4)

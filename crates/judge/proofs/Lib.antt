@@ -1,0 +1,7 @@
+pub mod Said
+pub mod Words
+pub mod Carried
+pub mod Sealed
+pub mod Steps
+pub mod Formats
+pub mod Told
