@@ -1,6 +1,6 @@
 -- What the code sees without a place: a frame that is lent as it may be passes 1 to 3, and one whose row has a plan passes 6. And the stages in
 -- which it asks 1 to 8.
-use mathlib.Core.Path.{_≡_, sym, _∙_, ap₂}
+use mathlib.Core.Path.{_≡_, sym, _∙_, ap₂, subst}
 use mathlib.Core.Bool.{true}
 use mathlib.Core.List.{List}
 use Prim.Native.Nat.{ℕ, _≤_}
@@ -49,6 +49,13 @@ module _ (bw : ℕ) (a b : List ℕ) (o : Outcome) where
   unfolding outcome1to8
   stopped-five x e f =
       f ∙ sym (or-refuse _ (planOutcome (row bw a b)) x (common-five bw a b ∙ or-refuse _ (check6 bw a b) x (sym e ∙ f)))
+
+-- what passes, made anew
+abbrev again : Rest → Rest
+again x = record { fields1 = x .fields1; outcome = Pass; fields2 = x .fields2; shared = x .shared }
+
+pub remade : (row kinds : List ℕ) (x : Rest) → x .outcome ≡ Pass → Tells row x kinds → Tells row (again x) kinds
+remade row kinds x e w = subst (λ (y : Rest). Tells row y kinds) (λ i. record { fields1 = x .fields1; outcome = e i; fields2 = x .fields2; shared = x .shared }) w
 
 -- of a frame that passes 1 to 5
 module _ (bw : ℕ) (a b : List ℕ) (five : outcome5 bw a b ≡ Pass) where

@@ -192,7 +192,12 @@ pub fn plan_row(
     }
     let told = tell_front(kinds, row, channel::positions_of(bw));
     if told.shared < 65536 {
-        return told;
+        return Rest {
+            fields1: told.fields1,
+            outcome: Outcome::Pass,
+            fields2: told.fields2,
+            shared: told.shared,
+        };
     }
     seek_plan(kinds, bw, a, b, row)
 }

@@ -16,8 +16,8 @@ use Rattle.answer.proofs.Every.{every-at, all-every, every-cong}
 use Rattle.resource.specs.Values.{fieldsOf}
 use Rattle.kinds.specs.Fields.{fieldsTo}
 use Rattle.plan.specs.declared.Plan.{Plan}
-use Rattle.plan.specs.Engine.{planOutcome, planOf}
-use Rattle.plan.proofs.Value.{shared-bit}
+use Rattle.plan.specs.Engine.{planOutcome, planOf, passedPlan}
+use Rattle.plan.proofs.Value.{shared-bit, plan-outcome, plan-passed}
 use Rattle.channel.specs.Layout.{positions, subfieldsIn, value, row, count}
 use Rattle.halves.proofs.Counts as C
 use Rattle.frame_words.specs.Words.{positionIn, before, giver, sharedAt}
@@ -42,6 +42,10 @@ every-append t n (suc m) = rw (add-suc n m) (assoc (every t n) (every (λ i. t (
     assoc : (x y z : Bool) → x && (y && z) ≡ x && y && z
     assoc true y z = refl
     assoc false y z = refl
+
+-- its outcome is 7 and 8
+pub plan-answers : (r : List ℕ) (p : Plan) → p ≡ planOf r → p .outcome ≡ planOutcome r
+plan-answers r p f = ap (λ (p : Plan). p .outcome) f ∙ plan-outcome r
 
 module _ (bw : ℕ) (w : List ℕ) (l : bw ≤ 4) where
   -- the row has each channel's values at its positions
@@ -151,28 +155,26 @@ module _ (bw : ℕ) (w : List ℕ) (l : bw ≤ 4) where
   -- ---- what the plan of the row says
 
   pub record Plan-says (r : List ℕ) (p : Plan) : Type 0 where
-    pub says-outcome : p .outcome ≡ planOutcome r
     pub says-1 : p .fields1 ≡ countIn bw w 1
     pub says-2 : p .fields2 ≡ countIn bw w 2
     pub most-1 : p .fields1 ≤ 72
     pub most-2 : p .fields2 ≤ 72
-    pub says-formats : planOutcome r ≡ Pass → Formats r (p .shared)
+    pub says-formats : Formats r (p .shared)
 
-  pub plan-says : (r : List ℕ) (p : Plan) → r ≡ rowIn bw w → p ≡ planOf r → Plan-says r p
-  unfolding planOf
-  plan-says r p e f =
+  pub plan-says : (r : List ℕ) (p : Plan) → r ≡ rowIn bw w → p ≡ planOf r → p .outcome ≡ Pass → Plan-says r p
+  unfolding passedPlan
+  plan-says r p e f o =
       let a = candidate bw w 1 in
       let b = candidate bw w 2 in
       let g : r ≡ row bw a b = e ∙ sym (row-is bw w l) in
       let n : length r ≡ positions bw = rw e (row-size bw w) in
       let h : fieldsTo 1 (at r) (length r) ≡ countIn bw w 1 = rw (n, g) (sym (C.count-1 bw a b l) ∙ count-1 bw w l) in
       let k : fieldsTo 2 (at r) (length r) ≡ countIn bw w 2 = rw (n, g) (sym (C.count-2 bw a b l) ∙ count-2 bw w l) in
-      rw f
+      rw (f ∙ plan-passed r (sym (plan-answers r p f) ∙ o))
       (record {
-        says-outcome = refl;
         says-1 = h;
         says-2 = k;
         most-1 = rw h (count-in-le bw w 1);
         most-2 = rw k (count-in-le bw w 2);
-        says-formats = λ d. record { format = λ q m. shared-bit r d q m };
+        says-formats = record { format = λ q m. shared-bit r q m };
       })

@@ -1,6 +1,5 @@
 pub mod Said
 pub mod Words
-pub mod Carried
 pub mod Sealed
 pub mod Steps
 pub mod Formats

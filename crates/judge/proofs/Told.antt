@@ -57,7 +57,7 @@ use Rattle.judge.specs.Engine.{formatted, formatIn, Formatted, stationOn
 use Rattle.judge.proofs.Said.{said-overflow, said-field, first-ten, second-ten, count-1, count-2, row-is}
 use Rattle.judge.proofs.Words.{decides, both, few-size, top-part, formatted-made, made-formatted, station-bits}
 use Rattle.judge.proofs.Steps.{value-at}
-use Rattle.judge.proofs.Carried.{laid-carried}
+use Rattle.plan.proofs.Carried.{plan-carried}
 use Rattle.judge.proofs.Sealed.{candidate-sealed}
 
 -- ---- the header, remade from its own words
@@ -288,7 +288,7 @@ module _ (bw : ℕ) (w : List ℕ) (l : bw ≤ 4) where
 
     passes-6 : check6 bw a b ≡ Pass
     unfolding allCarried
-    passes-6 = carried-passes bw a b l (all-every _ (length r) (laid-carried r laid))
+    passes-6 = carried-passes bw a b l (all-every _ (length r) (plan-carried r laid))
 
     passes-9 : check9 bw a b ≡ Pass
     unfolding check9

@@ -32,12 +32,13 @@ pub struct Plan {
     pub fields2: usize,
 }
 
-// The rest of the plan of a row, beside its kinds, which lie in room that is lent.
+// The rest of the plan of a row, beside its kinds, which lie in room that is lent. The counts stand apart, so that no load takes both at once
+// and waits for the two stores that made them.
 pub struct Rest {
-    pub outcome: Outcome,
-    pub shared: u32,
     pub fields1: usize,
+    pub outcome: Outcome,
     pub fields2: usize,
+    pub shared: u32,
 }
 
 // ---- resources wider than a segment

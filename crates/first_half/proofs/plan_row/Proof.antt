@@ -4,7 +4,7 @@ use native.Mathlib.Omega.{arith}
 use Rattle.answer.proofs.Order.{pass-not-refuse}
 use Rattle.halves.proofs.Rows.{front}
 use Rattle.halves.proofs.Stages.{five-pass}
-use Rattle.first_half.proofs.Screens.{stopped-five, plan-six, told-plans}
+use Rattle.first_half.proofs.Screens.{stopped-five, plan-six, told-plans, remade}
 use borrow.Author.Needs.{needs}
 use Rattle.first_half.proofs.plan_row.Statement.{statement}
 use Rattle.first_half.proofs.plan_row.Tie as tie
@@ -51,7 +51,8 @@ returns-2 c =
     let f = front (s .bw) (s .a .now) (s .b .now) _ _ (c .before .before .before .positions-of .ensures .0) r in
     let t = c .before .before .tell-front .ensures in
     let w = rw f at (t .1 (omega arith)) in
-    told-plans (s .bw) (s .a .now) (s .b .now) five _ _ _ (plan-six (s .bw) (s .a .now) (s .b .now) five (sym (w .answers) ∙ t .0)) r w
+    let six = plan-six (s .bw) (s .a .now) (s .b .now) five (sym (w .answers) ∙ t .0) in
+    told-plans (s .bw) (s .a .now) (s .b .now) five _ _ _ six r (remade _ _ _ (t .0) w)
 
 seek-plan-requires : tie.Need-seek-plan-requires
 seek-plan-requires c κs =

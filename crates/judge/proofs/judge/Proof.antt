@@ -9,7 +9,7 @@ use lib.ListN.{length}
 use Rattle.channel.proofs.Laws.{positions-le}
 use Rattle.judge.specs.Engine.{Told}
 use Rattle.judge.proofs.Steps.{row-size}
-use Rattle.judge.proofs.Formats.{Plan-says, plan-says}
+use Rattle.judge.proofs.Formats.{Plan-says, plan-says, plan-answers}
 use Rattle.judge.proofs.Told.{untold-says, last-says}
 use borrow.Author.Needs.{needs}
 use Rattle.judge.proofs.judge.Statement.{statement}
@@ -32,14 +32,9 @@ plan-of-requires c κs =
     let s = c .before .before .before .before in
     omega (arith, ap length (s .pre .3), row-size (s .args .bw) (s .args .words .now), positions-le (s .args .bw) (s .pre .0))
 
--- what the plan says
-says : (c : tie.After-plan-of)
-    → let s = c .before .before .before .before .before in
-    Plan-says (s .args .bw) (s .args .words .now) (s .pre .0) (s .args .row .now) (c .plan-of .result)
-says c =
-    let s = c .before .before .before .before .before in
-    let a = s .args in
-    plan-says (a .bw) (a .words .now) (s .pre .0) (a .row .now) (c .plan-of .result) (s .pre .3) (c .plan-of .ensures .0)
+-- its outcome is 7 and 8
+answers : (c : tie.After-plan-of) → let s = c .before .before .before .before .before in c .plan-of .result .outcome ≡ planOutcome (s .args .row .now)
+answers c = plan-answers _ _ (c .plan-of .ensures .0)
 
 enum-told : tie.Need-enum-told
 enum-told c = search needs
@@ -51,21 +46,31 @@ returns-2 : tie.Need-returns-2
 returns-2 c =
     let s = c .before .before .before .before .before .before .before .before in
     let a = s .args in
-    let p = says (c .before .before .before) in
-    untold-says (a .bw) (a .words .now) (s .pre .0) _ (c .untold2 .ensures) (λ t. pass-not-refuse (p .says-outcome ∙ ap planOutcome (s .pre .3) ∙ t .laid) (c .before .enum-told .given .1))
+    let p = answers (c .before .before .before) in
+    untold-says (a .bw) (a .words .now) (s .pre .0) _ (c .untold2 .ensures) (λ t. pass-not-refuse (p ∙ ap planOutcome (s .pre .3) ∙ t .laid) (c .before .enum-told .given .1))
 
 -- it passes
 laid : (c : tie.After-enum-told2) → let s = c .before .before .before .before .before .before .before in planOutcome (s .args .row .now) ≡ Pass
-laid c = sym (says (c .before .before) .says-outcome) ∙ c .enum-told2 .given .1
+laid c = sym (answers (c .before .before)) ∙ c .enum-told2 .given .1
+
+-- what the plan says
+says : (c : tie.After-enum-told2)
+    → let s = c .before .before .before .before .before .before .before in
+    Plan-says (s .args .bw) (s .args .words .now) (s .pre .0) (s .args .row .now) (c .before .before .plan-of .result)
+says c =
+    let s = c .before .before .before .before .before .before .before in
+    let a = s .args in
+    let p = c .before .before .plan-of in
+    plan-says (a .bw) (a .words .now) (s .pre .0) (a .row .now) (p .result) (s .pre .3) (p .ensures .0) (c .enum-told2 .given .1)
 
 enum-told-2 : tie.Need-enum-told-2
 enum-told-2 c = search needs
 
 add-if2 : tie.Need-add-if2
-add-if2 c = let p = says (c .before .before) in omega (arith, p .most-1, p .most-2)
+add-if2 c = let p = says c in omega (arith, p .most-1, p .most-2)
 
 add-if2-2 : tie.Need-add-if2-2
-add-if2-2 c = let p = says (c .before .before) in omega (arith, p .most-1, p .most-2)
+add-if2-2 c = let p = says c in omega (arith, p .most-1, p .most-2)
 
 untold-requires-3 : tie.Need-untold-requires-3
 untold-requires-3 c κs = search needs
@@ -74,14 +79,14 @@ returns-3 : tie.Need-returns-3
 returns-3 c =
     let s = c .before .before .before .before .before .before .before .before .before in
     let a = s .args in
-    let p = says (c .before .before .before .before) in
+    let p = says (c .before .before) in
     untold-says (a .bw) (a .words .now) (s .pre .0) _ (c .untold3 .ensures) (λ t. c .before .if2 .taken (t .counted ∙ omega (arith, p .says-1, p .says-2)))
 
 are-formatted-requires : tie.Need-are-formatted-requires
 are-formatted-requires c κs =
     let s = c .before .before .before .before .before .before .before .before in
-    let p = says (c .before .before .before) in
-    (s .pre .0, s .pre .3, p .says-formats (laid (c .before)), p .says-1, p .says-2, c .if2 .left)
+    let p = says (c .before) in
+    (s .pre .0, s .pre .3, p .says-formats, p .says-1, p .says-2, c .if2 .left)
 
 untold-requires-4 : tie.Need-untold-requires-4
 untold-requires-4 c κs = search needs
@@ -93,16 +98,16 @@ returns-4 c =
     untold-says (a .bw) (a .words .now) (s .pre .0) _ (c .untold4 .ensures) (λ t. c .before .before .are-formatted .ensures .no (not-true _ (c .before .if3 .taken)) (t .users))
 
 add-any-again : tie.Need-add-any-again
-add-any-again c = let p = says (c .before .before .before .before .before) in omega (arith, p .most-1, p .most-2)
+add-any-again c = let p = says (c .before .before .before) in omega (arith, p .most-1, p .most-2)
 
 any-again-requires : tie.Need-any-again-requires
-any-again-requires c κs = let p = says (c .before .before .before .before .before) in (omega (arith, p .most-1, p .most-2), omega arith)
+any-again-requires c κs = let p = says (c .before .before .before) in (omega (arith, p .most-1, p .most-2), omega arith)
 
 returns-5 : tie.Need-returns-5
 returns-5 c =
     let s = c .before .before .before .before .before .before .before .before .before .before .before in
     let a = s .args in
-    let p = says (c .before .before .before .before .before .before) in
+    let p = says (c .before .before .before .before) in
     let n = p .says-1 in
     let m = p .says-2 in (
       last-says (a .bw) (a .words .now) (s .pre .0) _
