@@ -8,7 +8,7 @@ ghost use Rattle.both_halves.specs.Engine.{acceptedPlan};
 pub fn plan_accepted(bw: u32, a: &[u8], b: &[u8]) -> Planned
     ensures { λ r. ⌜ r ≡ acceptedPlan bw (now (a .entry)) (now (b .entry)) ⌝ }
 {
-    let plan = first_half::plan_frame(bw, a, b, false);
+    let plan = first_half::plan_frame(bw, a, b);
     let planned = plan.outcome;
     if let Outcome::Refuse(_) = planned {
         return plan;

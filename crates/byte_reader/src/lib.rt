@@ -65,7 +65,7 @@ pub fn read(bandwidth: u32, cc1: &[u8], cc2: &[u8], words: &mut [u8]) -> Answer
 {
     let mut row = [0u16; 16];
     let mut kinds = [0u16; 16];
-    let plan = first_half::plan_row(&mut row, &mut kinds, bandwidth, cc1, cc2, false);
+    let plan = first_half::plan_row(&mut row, &mut kinds, bandwidth, cc1, cc2);
     let planned = plan.outcome;
     if let Outcome::Refuse(x) = planned {
         return x;

@@ -1,12 +1,11 @@
-// The first half of a reading: 1 to 8, and the plan of a frame that passes them. Each check is run only where the earlier ones pass; 4
-// not where the channels are known to be sealed. What each says of a frame that passes is seen without a place: from the lengths, and from the
-// common fields as numbers, each read once. A place is looked for only where there is one.
+// The first half of a reading: 1 to 8, and the plan of a frame that passes them. Each check is run only where the earlier ones pass.
+// What each says of a frame that passes is seen without a place: from the lengths, and from the common fields as numbers, each read once. A place is
+// looked for only where there is one.
 use answer::Outcome;
 use channel::Parts;
 use halves::Planned;
 use plan::Rest;
 ghost use mathlib.Core.Path.{_≡_};
-ghost use mathlib.Core.Bool.{true};
 ghost use Prim.Native.Nat.{_≤_, _<_};
 ghost use lib.ListN.{length, take, replicate};
 ghost use Rattle.answer.specs.Answer.{_or_};
@@ -15,7 +14,7 @@ ghost use Rattle.plan.specs.Engine.{Tells};
 ghost use Rattle.channel.specs.Layout.{rowIn16};
 ghost use Rattle.channel.specs.Engine.{partsOf};
 ghost use Rattle.halves.specs.Table.{check1, check2, check3, check4, check5, check6};
-ghost use Rattle.halves.specs.Engine.{AtMost512, Whole, Sealed, outcome3, outcome5, allCarried, noPlan, plannedOf, Plans};
+ghost use Rattle.halves.specs.Engine.{AtMost512, Whole, outcome3, outcome5, allCarried, noPlan, plannedOf, Plans};
 
 fn first_checks(bw: u32, a: &[u8], b: &[u8]) -> Outcome
     ensures { λ r. ⌜ r ≡ (check1 bw or check2 bw (now (a .entry)) (now (b .entry))) ⌝ }
@@ -48,13 +47,10 @@ fn first_three(bw: u32, a: &[u8], b: &[u8]) -> Outcome
 }
 
 // 4, of a frame whose common fields are these.
-fn wrong_common(bw: u32, a: &[u8], b: &[u8], parts: Parts, sealed: bool) -> Outcome
-    requires { ⌜ (sealed ≡ true → Sealed bw (now a) (now b)) × (bw ≤ 4) × (parts ≡ partsOf bw (now a) (now b)) ⌝ }
+fn wrong_common(bw: u32, a: &[u8], b: &[u8], parts: Parts) -> Outcome
+    requires { ⌜ (bw ≤ 4) × (parts ≡ partsOf bw (now a) (now b)) ⌝ }
     ensures { λ r. ⌜ r ≡ check4 bw (now (a .entry)) (now (b .entry)) ⌝ }
 {
-    if sealed {
-        return Outcome::Pass;
-    }
     wrong_blocks::wrong_parts(bw, parts)
 }
 
@@ -107,13 +103,13 @@ fn not_carried(bw: u32, a: &[u8], b: &[u8], row: &[u16; 16]) -> Outcome
 }
 
 // 4 and 5, of a frame that passes 1 to 3; and its row.
-fn next_two(row: &mut [u16; 16], bw: u32, a: &[u8], b: &[u8], sealed: bool) -> Outcome
-    requires { ⌜ (sealed ≡ true → Sealed bw (now a) (now b)) × Whole bw (now a) (now b) × (now row ≡ replicate 16 0) ⌝ }
+fn next_two(row: &mut [u16; 16], bw: u32, a: &[u8], b: &[u8]) -> Outcome
+    requires { ⌜ Whole bw (now a) (now b) × (now row ≡ replicate 16 0) ⌝ }
     ensures { λ r. ⌜ r ≡ (check4 bw (now (a .entry)) (now (b .entry)) or check5 bw (now (a .entry)) (now (b .entry))) ⌝ }
     ensures { λ r. ⌜ (r ≡ Outcome.Pass → now (row .exit) ≡ rowIn16 bw (now (a .entry)) (now (b .entry))) ⌝ }
 {
     let parts = channel::parts_of(bw, a, b);
-    let four = wrong_common(bw, a, b, parts, sealed);
+    let four = wrong_common(bw, a, b, parts);
     let five = then_overflow(four, bw, a, b, parts);
     if let Outcome::Refuse(_) = five {
         return five;
@@ -123,8 +119,8 @@ fn next_two(row: &mut [u16; 16], bw: u32, a: &[u8], b: &[u8], sealed: bool) -> O
 }
 
 // 1 to 5, and the row of a frame that passes them.
-fn first_five(row: &mut [u16; 16], bw: u32, a: &[u8], b: &[u8], sealed: bool) -> Outcome
-    requires { ⌜ (sealed ≡ true → Sealed bw (now a) (now b)) × (now row ≡ replicate 16 0) ⌝ }
+fn first_five(row: &mut [u16; 16], bw: u32, a: &[u8], b: &[u8]) -> Outcome
+    requires { ⌜ (now row ≡ replicate 16 0) ⌝ }
     ensures { λ r. ⌜ r ≡ outcome5 bw (now (a .entry)) (now (b .entry)) ⌝ }
     ensures { λ r. ⌜ (r ≡ Outcome.Pass → now (row .exit) ≡ rowIn16 bw (now (a .entry)) (now (b .entry))) ⌝ }
 {
@@ -132,7 +128,7 @@ fn first_five(row: &mut [u16; 16], bw: u32, a: &[u8], b: &[u8], sealed: bool) ->
     if let Outcome::Refuse(_) = three {
         return three;
     }
-    next_two(row, bw, a, b, sealed)
+    next_two(row, bw, a, b)
 }
 
 // A refusal, with no plan.
@@ -175,18 +171,11 @@ fn seek_plan(kinds: &mut [u16; 16], bw: u32, a: &[u8], b: &[u8], row: &[u16; 16]
 }
 
 // 1 to 8, the row, filled once, and its plan, made once. A value that has a role is carried, so that 6 is asked only where the roles do not tell.
-pub fn plan_row(
-    row: &mut [u16; 16],
-    kinds: &mut [u16; 16],
-    bw: u32,
-    a: &[u8],
-    b: &[u8],
-    sealed: bool,
-) -> Rest
-    requires { ⌜ (sealed ≡ true → Sealed bw (now a) (now b)) × (now row ≡ replicate 16 0) × (now kinds ≡ replicate 16 0) ⌝ }
+pub fn plan_row(row: &mut [u16; 16], kinds: &mut [u16; 16], bw: u32, a: &[u8], b: &[u8]) -> Rest
+    requires { ⌜ (now row ≡ replicate 16 0) × (now kinds ≡ replicate 16 0) ⌝ }
     ensures { λ r. ⌜ Plans bw (now (a .entry)) (now (b .entry)) r (now (row .exit)) (now (kinds .exit)) ⌝ }
 {
-    let five = first_five(row, bw, a, b, sealed);
+    let five = first_five(row, bw, a, b);
     if let Outcome::Refuse(_) = five {
         return stopped(five);
     }
@@ -216,13 +205,12 @@ fn refused(outcome: Outcome) -> Planned
 }
 
 // The same as a value.
-pub fn plan_frame(bw: u32, a: &[u8], b: &[u8], sealed: bool) -> Planned
-    requires { ⌜ (sealed ≡ true → Sealed bw (now a) (now b)) ⌝ }
+pub fn plan_frame(bw: u32, a: &[u8], b: &[u8]) -> Planned
     ensures { λ r. ⌜ r ≡ plannedOf bw (now (a .entry)) (now (b .entry)) ⌝ }
 {
     let mut row = [0u16; 16];
     let mut kinds = [0u16; 16];
-    let plan = plan_row(&mut row, &mut kinds, bw, a, b, sealed);
+    let plan = plan_row(&mut row, &mut kinds, bw, a, b);
     let outcome = plan.outcome;
     if let Outcome::Refuse(_) = outcome {
         return refused(outcome);

@@ -8,16 +8,11 @@ use Rattle.frame_words.specs.Words.{wordCount, wordsOf}
 use Rattle.reader.specs.Table.{readOutcome}
 use Rattle.reader.specs.Result.{readAnswer, wordsAfter}
 use Rattle.reader.proofs.read.Reads as read
-use Rattle.reader.proofs.read_sealed.Reads as read-sealed
 
 -- any two answers, and any two states of the lent words afterwards, that `read` allows for one input
 pub read-agrees : (κs : _) (a : _) (r r' : _) (s s' : _) → read.Post κs a r s → read.Post κs a r' s'
     → (r ≡ r') × (now (s .1 .1 .1 .0) ≡ now (s' .1 .1 .1 .0))
 read-agrees κs a r r' s s' p q = (p .0 ∙ sym (q .0), p .1 ∙ sym (q .1))
-
-pub read-sealed-agrees : (κs : _) (a : _) (r r' : _) (s s' : _) → read-sealed.Post κs a r s → read-sealed.Post κs a r' s'
-    → (r ≡ r') × (now (s .1 .1 .1 .0) ≡ now (s' .1 .1 .1 .0))
-read-sealed-agrees κs a r r' s s' p q = (p .0 ∙ sym (q .0), p .1 ∙ sym (q .1))
 
 -- "Every refusal writes nothing": with any number but 0 the lent words are as they were
 pub read-keeps : (κs : _) (a : _) (r : _) (s : _) → read.Post κs a r s → (r .number ≡ 0 → ⊥) → now (s .1 .1 .1 .0) ≡ now (a .1 .1 .1 .0)

@@ -2,11 +2,9 @@
 use answer::Answer;
 use answer::Outcome;
 ghost use mathlib.Core.Path.{_≡_};
-ghost use mathlib.Core.Bool.{true};
 ghost use Prim.Native.Nat.{_+_, _≤_};
 ghost use lib.ListN.{length};
 ghost use Rattle.answer.specs.Answer.{_or_};
-ghost use Rattle.halves.specs.Engine.{Sealed};
 ghost use Rattle.reader.specs.Table.{noRoom};
 ghost use Rattle.reader.specs.Result.{readAnswer, wordsAfter};
 ghost use Rattle.reader.specs.Engine.{Planned8, usersAnswer, usersAfter};
@@ -68,15 +66,14 @@ fn read_planned(
     read_users(bw, a, b, row, shared, n, m, &mut fields, words)
 }
 
-// The reading in its two halves, of channels that may be known to be sealed.
-fn read_as(bandwidth: u32, cc1: &[u8], cc2: &[u8], words: &mut [u32], sealed: bool) -> Answer
-    requires { ⌜ (sealed ≡ true → Sealed bandwidth (now cc1) (now cc2)) ⌝ }
+// Reads a frame: the answer, and on acceptance the words at the front of the lent buffer. A refusal writes nothing.
+pub fn read(bandwidth: u32, cc1: &[u8], cc2: &[u8], words: &mut [u32]) -> Answer
     ensures { λ r. ⌜ r ≡ readAnswer bandwidth (now (cc1 .entry)) (now (cc2 .entry)) (length (now (words .entry))) ⌝ }
     ensures { λ _. ⌜ now (words .exit) ≡ wordsAfter bandwidth (now (cc1 .entry)) (now (cc2 .entry)) (now (words .entry)) ⌝ }
 {
     let mut row = [0u16; 16];
     let mut kinds = [0u16; 16];
-    let plan = first_half::plan_row(&mut row, &mut kinds, bandwidth, cc1, cc2, sealed);
+    let plan = first_half::plan_row(&mut row, &mut kinds, bandwidth, cc1, cc2);
     let planned = plan.outcome;
     if let Outcome::Refuse(x) = planned {
         return x;
@@ -98,21 +95,4 @@ fn read_as(bandwidth: u32, cc1: &[u8], cc2: &[u8], words: &mut [u32], sealed: bo
         channel: x.channel,
         place: x.place,
     }
-}
-
-// Reads a frame: the answer, and on acceptance the words at the front of the lent buffer. A refusal writes nothing.
-pub fn read(bandwidth: u32, cc1: &[u8], cc2: &[u8], words: &mut [u32]) -> Answer
-    ensures { λ r. ⌜ r ≡ readAnswer bandwidth (now (cc1 .entry)) (now (cc2 .entry)) (length (now (words .entry))) ⌝ }
-    ensures { λ _. ⌜ now (words .exit) ≡ wordsAfter bandwidth (now (cc1 .entry)) (now (cc2 .entry)) (now (words .entry)) ⌝ }
-{
-    read_as(bandwidth, cc1, cc2, words, false)
-}
-
-// The same of channels that pass 4 and 10, as those that the writer has built do: the common checks are not worked out again.
-pub fn read_sealed(bandwidth: u32, cc1: &[u8], cc2: &[u8], words: &mut [u32]) -> Answer
-    requires { ⌜ Sealed bandwidth (now cc1) (now cc2) ⌝ }
-    ensures { λ r. ⌜ r ≡ readAnswer bandwidth (now (cc1 .entry)) (now (cc2 .entry)) (length (now (words .entry))) ⌝ }
-    ensures { λ _. ⌜ now (words .exit) ≡ wordsAfter bandwidth (now (cc1 .entry)) (now (cc2 .entry)) (now (words .entry)) ⌝ }
-{
-    read_as(bandwidth, cc1, cc2, words, true)
 }

@@ -1,5 +1,4 @@
 -- `both_halves::plan_accepted` meets its contract.
-use mathlib.Core.Bool.{false≢true}
 use native.Mathlib.Omega.{arith}
 use Rattle.halves.proofs.Stages.{common-pass}
 use Rattle.halves.proofs.Half.{planned-made}
@@ -9,7 +8,7 @@ use Rattle.both_halves.proofs.plan_accepted.Statement.{statement}
 use Rattle.both_halves.proofs.plan_accepted.Tie as tie
 
 plan-frame-requires : tie.Need-plan-frame-requires
-plan-frame-requires c κs = λ e. absurd (false≢true e)
+plan-frame-requires c κs = search needs
 
 enum-told : tie.Need-enum-told
 enum-told c = search needs

@@ -1,6 +1,5 @@
--- `byte_reader::read` meets its contract: none of its channels is known to be sealed.
+-- `byte_reader::read` meets its contract.
 use Prim.Native.Nat.{_/_}
-use mathlib.Core.Bool.{false≢true}
 use mathlib.Core.Path.{_≡_, refl, sym, _∙_}
 use native.Mathlib.Omega.{arith}
 use lib.ListN.{length, take}
@@ -16,7 +15,7 @@ use Rattle.byte_reader.proofs.read.Statement.{statement}
 use Rattle.byte_reader.proofs.read.Tie as tie
 
 plan-row-requires : tie.Need-plan-row-requires
-plan-row-requires c κs = (λ e. absurd (false≢true e), refl, refl)
+plan-row-requires c κs = (refl, refl)
 
 enum-known-planned : tie.Need-enum-known-planned
 enum-known-planned c = search needs

@@ -26,7 +26,7 @@ next-two-requires : tie.Need-next-two-requires
 next-two-requires c κs =
     let s = c .before .before .before .before .before .before in
     let three = c .before .before .before .first-three .ensures in
-    (s .pre .0, three-pass (s .args .bw) (s .args .a .now) (s .args .b .now) (sym three ∙ c .before .enum-told2 .given .1), s .pre .1)
+    (three-pass (s .args .bw) (s .args .a .now) (s .args .b .now) (sym three ∙ c .before .enum-told2 .given .1), s .pre)
 
 returns-2 : tie.Need-returns-2
 returns-2 c =

@@ -32,7 +32,7 @@ enum-told-2 c = search needs
 put-row-requires : tie.Need-put-row-requires
 put-row-requires c κs =
     let s = c .before .before .before .before .before .before .before .before in
-    (ap length (s .pre .2), s .pre .1 .known)
+    (ap length (s .pre .1), s .pre .0 .known)
 
 returns-2 : tie.Need-returns-2
 returns-2 c =
@@ -41,7 +41,7 @@ returns-2 c =
     let four = c .before .before .before .before .before .wrong-common .ensures in
     let five = c .before .before .before .before .then-overflow .ensures ∙ ap₂ _or_ four refl in
     let row = c .put-row .ensures in
-    (five, λ e. put-is (s .args .bw) (s .args .a .now) (s .args .b .now) _ _ _ (s .pre .1 .known) row parts (s .pre .2))
+    (five, λ e. put-is (s .args .bw) (s .args .a .now) (s .args .b .now) _ _ _ (s .pre .0 .known) row parts (s .pre .1))
 
 pub next-two-spec : {M : Type 1} → statement M
 next-two-spec =

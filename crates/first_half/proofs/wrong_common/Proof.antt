@@ -1,5 +1,5 @@
 -- `first_half::wrong_common` meets its contract.
-use mathlib.Core.Path.{sym, _∙_, ap}
+use mathlib.Core.Path.{_∙_, ap}
 use Rattle.wrong_blocks.specs.Engine.{wrongParts}
 use Rattle.wrong_blocks.proofs.Held.{parts-wrong}
 use Rattle.halves.specs.Table.{check4}
@@ -7,17 +7,14 @@ use borrow.Author.Needs.{needs}
 use Rattle.first_half.proofs.wrong_common.Statement.{statement}
 use Rattle.first_half.proofs.wrong_common.Tie as tie
 
-returns : tie.Need-returns
-returns c = sym (c .before .before .before .pre .0 (c .if1 .taken) .common-sealed)
-
 wrong-parts-requires : tie.Need-wrong-parts-requires
 wrong-parts-requires c κs = search needs
 
-returns-2 : tie.Need-returns-2
+returns : tie.Need-returns
 unfolding check4
-returns-2 c =
-    let s = c .before .before .before .before in
-    c .wrong-parts .ensures ∙ ap (wrongParts (s .args .bw)) (s .pre .2) ∙ parts-wrong (s .args .bw) (s .args .a .now) (s .args .b .now)
+returns c =
+    let s = c .before .before .before in
+    c .wrong-parts .ensures ∙ ap (wrongParts (s .args .bw)) (s .pre .1) ∙ parts-wrong (s .args .bw) (s .args .a .now) (s .args .b .now)
 
 pub wrong-common-spec : {M : Type 1} → statement M
-wrong-common-spec = tie.close (tie.spec returns wrong-parts-requires returns-2)
+wrong-common-spec = tie.close (tie.spec wrong-parts-requires returns)
