@@ -1,16 +1,19 @@
 -- What the line of a User field says, and how long its STA-ID is.
 use mathlib.Core.Path.{_≡_, refl, sym, ap, _∙_}
 use mathlib.Core.Logic.{_≢_}
-use mathlib.Core.Bool.{Bool, true, false, cond}
+use mathlib.Core.Bool.{Bool, true, false, not, cond}
 use mathlib.Core.List.{List, _++_}
-use Prim.Native.Nat.{ℕ, _≤_, _<_}
+use Prim.Native.Nat.{ℕ, _+_, _-_, _*_, _≤_, _<_}
 use native.Mathlib.Omega.{arith}
 use lib.Dec.{eqb}
 use lib.ListN.{length, getD}
 use borrow.Author.Tests.{eq-eqb, ne-eqb, eqb-true, eqb-false}
 use Rattle.text.specs.Text.{codes, dec, keyed, line}
 use Rattle.text.proofs.Laws.{dec-fit, dec-digit}
+use Rattle.stores.specs.Engine.{bytesOf, leadOf, digitsOf, endedOf}
+use Rattle.stores.proofs.Laws.{joined, lead-most, digits-bytes, ended-bytes}
 use Rattle.lines.specs.Lines.{assigned, idText, staLine}
+use Rattle.lines.specs.Engine.{idWord}
 
 -- none is as long as a number of four digits
 pub id-short : (id : ℕ) → id < 10000 → length (idText id) ≤ 4
@@ -41,3 +44,31 @@ only-none id r rest e = go (eqb id 2046) refl
         let d : getD (dec id ++ line (codes " resource=") r) 0 0 ≡ 110 =
         ap (λ (t : List ℕ). getD t 4 0) (sym (number-line id r (eqb-false id 2046 f)) ∙ e) in
         omega (arith, dec-digit id (line (codes " resource=") r))
+
+-- ---- the line in three numbers
+id-bytes : (id : ℕ) → id < 10000 → bytesOf (4 - leadOf id) (idWord id) ≡ idText id
+unfolding idWord idText leadOf
+id-bytes id l = go (eqb id 2046) refl
+  where
+    go : (t : Bool) → eqb id 2046 ≡ t
+        → bytesOf (4 - leadOf id) (cond (not t) (digitsOf id) 1701736302) ≡ cond (not t) (dec id) (codes "none")
+    go true e = rw (eqb-true id 2046 e)
+    go false e = digits-bytes id l
+
+pub sta-bytes : (id r : ℕ) → id < 10000 → r < 10000
+    → bytesOf (4 - leadOf id + 4) (1029796979 + 4294967296 * idWord id) ++ (bytesOf 8 7165919078637728288 ++ bytesOf (3 - leadOf r + 4) (15717 + 65536 * endedOf r 10))
+    ≡ staLine id r
+unfolding staLine
+sta-bytes id r l h =
+    let m = lead-most r in
+    let i : 4 - leadOf id + 4 ≡ 4 + (4 - leadOf id) = omega arith in
+    let j : 3 - leadOf r + 4 ≡ 2 + (5 - leadOf r) = omega arith in
+    rw (
+      i,
+      j,
+      joined 4 (4 - leadOf id) 1029796979 (idWord id) (omega arith),
+      id-bytes id l,
+      joined 2 (5 - leadOf r) 15717 (endedOf r 10) (omega arith),
+      ended-bytes r 10 h (omega arith),
+    )
+    refl

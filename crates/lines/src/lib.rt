@@ -1,8 +1,10 @@
 // The lines of a listing beside those of its resources, into a lent buffer.
 ghost use mathlib.Core.Path.{_≡_};
-ghost use Prim.Native.Nat.{_+_, _≤_};
+ghost use Prim.Native.Nat.{_+_, _≤_, _<_};
+ghost use lib.ListN.{length};
 ghost use Rattle.text.specs.Text.{codes, Wrote, line};
 ghost use Rattle.lines.specs.Lines.{assigned, idText, staLine, refusalText, headText};
+ghost use Rattle.lines.specs.Engine.{idWord};
 
 // Whether a STA-ID is a station's: 2046 marks a resource that nobody has.
 pub fn is_assigned(id: u32) -> bool
@@ -32,8 +34,8 @@ fn put_none(out: &mut [u8], at: usize, resource: usize) -> usize
     text::put_line(out, at, b"sta=none resource=", resource as u64)
 }
 
-// The line of a User field.
-pub fn put_sta(out: &mut [u8], at: usize, id: u32, resource: usize) -> usize
+// The same of any, into whatever room there is.
+fn put_sta_within(out: &mut [u8], at: usize, id: u32, resource: usize) -> usize
     requires { ⌜ at ≤ 80000 ⌝ }
     ensures { λ r. ⌜ Wrote (now (out .entry)) at (staLine id resource) (now (out .exit)) r ⌝ }
     ensures bounded { λ r. ⌜ r ≤ at + 55 ⌝ }
@@ -43,6 +45,48 @@ pub fn put_sta(out: &mut [u8], at: usize, id: u32, resource: usize) -> usize
         return text::put_line(out, a, b" resource=", resource as u64);
     }
     put_none(out, at, resource)
+}
+
+// A STA-ID as its line has it, in one number.
+fn id_word(id: u32) -> u64
+    requires { ⌜ id < 10000 ⌝ }
+    ensures { λ r. ⌜ (r ≡ idWord id) × (r < 4294967296) ⌝ }
+{
+    if is_assigned(id) {
+        return stores::digits_of(id);
+    }
+    1701736302 // none
+}
+
+// The same by whole stores, where there is room.
+fn put_sta_whole(out: &mut [u8], at: usize, id: u32, resource: u32) -> usize
+    requires { ⌜ (at ≤ 80000) × (id < 10000) × (resource < 10000) × (at + 23 ≤ length (now out)) ⌝ }
+    ensures { λ r. ⌜ Wrote (now (out .entry)) at (staLine id resource) (now (out .exit)) r ⌝ }
+    ensures bounded { λ r. ⌜ r ≤ at + 55 ⌝ }
+{
+    let name = 1029796979 + 4294967296 * id_word(id); // sta=
+    let a = stores::put_by_fours(out, at, name, 4 - stores::lead_of(id));
+    let b = stores::put_eight(out, a, 7165919078637728288); // " resourc"
+    let owner = 15717 + 65536 * stores::ended_of(resource, 10); // e=
+    stores::put_by_fours(out, b, owner, 3 - stores::lead_of(resource))
+}
+
+// The line of a User field.
+pub fn put_sta(out: &mut [u8], at: usize, id: u32, resource: usize) -> usize
+    requires { ⌜ at ≤ 80000 ⌝ }
+    ensures { λ r. ⌜ Wrote (now (out .entry)) at (staLine id resource) (now (out .exit)) r ⌝ }
+    ensures bounded { λ r. ⌜ r ≤ at + 55 ⌝ }
+{
+    if out.len() < at + 23 {
+        return put_sta_within(out, at, id, resource);
+    }
+    if 10000 <= id {
+        return put_sta_within(out, at, id, resource);
+    }
+    if 10000 <= resource {
+        return put_sta_within(out, at, id, resource);
+    }
+    put_sta_whole(out, at, id, resource as u32)
 }
 
 // The three lines of a refusal.

@@ -1,10 +1,12 @@
 -- Engine: the lines of resources with the subcarriers that the code finds. The contracts of the code cite it; nobody has to believe
 -- it: `listing_lines/proofs/Shown.antt`.
 use mathlib.Core.List.{List, map}
-use Prim.Native.Nat.{ℕ, _+_}
+use Prim.Native.Nat.{ℕ, _+_, _/_, _%_}
 use lib.ListN.{length, getD}
 use Rattle.answer.specs.Lists.{at}
+use Rattle.resource.specs.Index.{resourceAt}
 use Rattle.resource.specs.Engine.{spanOf, runsOf}
+use Rattle.piece_codes.specs.Engine.{pieceOf}
 use Rattle.records.specs.declared.Record.{Record}
 use Rattle.records.specs.Records.{listAt, blank}
 use Rattle.text.specs.Text.{upto}
@@ -21,3 +23,8 @@ runsLine n x =
 
 unfoldable pub runsLines : ℕ → List Record → List ℕ
 runsLines n rs = upto (λ i. runsLine n (getD rs i blank)) (length rs)
+
+-- the line of the piece of code c at position p, with u User fields, in a channel of n positions
+unfoldable pub codeLine : ℕ → ℕ → ℕ → ℕ → List ℕ
+codeLine n p c u =
+    ruLine (p / 4) (resourceAt (p % 4) (pieceOf c)) u (map (spanOf n) (runsOf n (p / 4) (resourceAt (p % 4) (pieceOf c))))

@@ -2,14 +2,18 @@
 use records::Record;
 use resource::Tones;
 ghost use mathlib.Core.Path.{_≡_};
-ghost use Prim.Native.Nat.{_+_, _*_, _%_, _≤_, _<_};
+ghost use mathlib.Core.List.{map, _++_};
+ghost use Prim.Native.Nat.{_+_, _*_, _/_, _%_, _≤_, _<_};
+ghost use lib.Dec.{T};
 ghost use lib.ListN.{length};
-ghost use Rattle.text.specs.Text.{Wrote};
-ghost use Rattle.resource.specs.Values.{ownPieces};
-ghost use Rattle.resource.specs.Engine.{pieceAt, runsOf, held};
+ghost use Rattle.text.specs.Text.{codes, Wrote};
+ghost use Rattle.resource.specs.Values.{pieceFields, ownPieces};
+ghost use Rattle.resource.specs.Engine.{spanOf, pieceAt, runsOf, held};
+ghost use Rattle.piece_codes.specs.Engine.{codeOf, isCode, runsBy};
+ghost use Rattle.resource_line.specs.ResourceLine.{tonesText};
 ghost use Rattle.kinds.specs.Kinds.{span};
 ghost use Rattle.records.specs.Records.{pieceRecord, lead, listAt};
-ghost use Rattle.position_lines.specs.Engine.{listedAt, runsLine, runsLines};
+ghost use Rattle.position_lines.specs.Engine.{listedAt, runsLine, runsLines, codeLine};
 
 fn put_record(out: &mut [u8], at: usize, n: u16, x: Record, tones: Tones) -> usize
     requires { ⌜ (at ≤ 700000) × (tones ≡ held (runsOf n (x .segment) (x .resource))) ⌝ }
@@ -32,17 +36,72 @@ pub fn put_piece(out: &mut [u8], at: usize, n: u16, v: u16, p: usize, k: u16) ->
     put_record(out, at, n, records::piece_record(v, p, x), tones)
 }
 
+// The subcarriers that a word says of a piece, from base on, and the line's end.
+fn put_word_tones(out: &mut [u8], at: usize, n: u32, base: u32, w: u32) -> usize
+    requires { ⌜ (n ≤ 16) × (base < 4096) × (1 ≤ w / 256 % 256) × (65536 ≤ w → 1 ≤ w / 65536 / 256) × (at ≤ 800000) × (at + 24 ≤ length (now out)) ⌝ }
+    ensures { λ r. ⌜ Wrote (now (out .entry)) at (tonesText (map (spanOf n) (runsBy base w)) ++ codes "\n") (now (out .exit)) r ⌝ }
+    ensures bounded { λ r. ⌜ r ≤ at + 24 ⌝ }
+{
+    let zero = 128 * n;
+    let lo = base + w % 256;
+    let hi = lo + w / 256 % 256 - 1;
+    if w < 65536 {
+        return stores::put_span(out, at, lo, hi, zero, 10);
+    }
+    let a = stores::put_span(out, at, lo, hi, zero, 44); // a comma
+    let lo2 = base + w / 65536 % 256;
+    let hi2 = lo2 + w / 65536 / 256 - 1;
+    stores::put_span(out, a, lo2, hi2, zero, 10)
+}
+
+// The line of the piece of this code at position p, in a channel of n positions, by whole stores.
+fn put_coded(out: &mut [u8], at: usize, n: u32, p: u32, c: u32, users: u32) -> usize
+    requires { ⌜ (n ≤ 16) × (p < 16) × (c < 128) × T (isCode c) × (users < 10) × (at ≤ 700000) × (at + 70 ≤ length (now out)) ⌝ }
+    ensures { λ r. ⌜ Wrote (now (out .entry)) at (codeLine n p c users) (now (out .exit)) r ⌝ }
+    ensures bounded { λ r. ⌜ r ≤ at + 70 ⌝ }
+{
+    let i = piece_codes::index_at(p % 4, c);
+    let a = resource_line::put_start(out, at, c / 16, i, p / 4, users);
+    let base = piece_codes::base_of(n, p);
+    let w = piece_codes::word_at(n, c);
+    put_word_tones(out, a, n, base, w)
+}
+
+// The line of the k-th piece of position p, whose value is v, by its code.
+fn put_coded_piece(
+    out: &mut [u8],
+    at: usize,
+    n: u16,
+    v: u16,
+    p: usize,
+    k: u16,
+    c: u32,
+    users: u32,
+) -> usize
+    requires { ⌜ (at ≤ 700000) × (n ≤ 16) × (p < 16) × (k < length (ownPieces v)) × (c ≡ codeOf (pieceAt v k)) × (users ≡ pieceFields v) ⌝ }
+    ensures { λ r. ⌜ Wrote (now (out .entry)) at (runsLine n (pieceRecord (λ q. v) p (pieceAt v k))) (now (out .exit)) r ⌝ }
+    ensures bounded { λ r. ⌜ r ≤ at + 460 ⌝ }
+{
+    if out.len() < at + 70 {
+        return put_piece(out, at, n, v, p, k);
+    }
+    put_coded(out, at, n as u32, p as u32, c, users)
+}
+
 // A line for each piece of position p, which is given to itself.
 fn put_pieces(out: &mut [u8], at: usize, n: u16, v: u16, p: usize) -> usize
-    requires { ⌜ (at ≤ 600000) × (p < 4096) ⌝ }
+    requires { ⌜ (at ≤ 600000) × (n ≤ 16) × (p < 16) ⌝ }
     ensures { λ r. ⌜ Wrote (now (out .entry)) at (runsLines n (listAt 0 (λ q. v) p)) (now (out .exit)) r ⌝ }
     ensures bounded { λ r. ⌜ r ≤ at + 460 * length (listAt 0 (λ q. v) p) ⌝ }
 {
     let here = resource::pieces_of(v);
+    let users = resource::piece_fields(v) as u32;
+    let mut left = piece_codes::codes_of(v);
     let mut e = at;
     let mut k: u16 = 0;
     while k < here {
-        e = put_piece(out, e, n, v, p, k);
+        e = put_coded_piece(out, e, n, v, p, k, (left % 128) as u32, users);
+        left /= 128;
         k += 1;
     }
     e

@@ -1,38 +1,67 @@
 -- `position_lines::put_pieces` meets its contract.
 use native.Mathlib.Omega.{arith}
 use mathlib.Core.Path.{_≡_, refl, sym, ap, _∙_}
-use Prim.Native.Nat.{_+_, _-_, _*_, _≤_}
-use lib.ListN.{length, getD}
+use Prim.Native.Nat.{ℕ, _+_, _-_, _*_, _/_, _%_, _≤_, _<_}
+use lib.ListN.{length, drop, getD}
 use Rattle.text.specs.Text.{Wrote, upto}
 use Rattle.text.proofs.Laws.{no-item, item, kept}
+use Rattle.resource.specs.Values.{ownPieces}
 use Rattle.resource.specs.Engine.{pieceAt}
 use Rattle.resource.proofs.Starts.{own-most}
+use Rattle.resource.proofs.Pieces.{own-piece}
 use Rattle.records.specs.Records.{blank, pieceRecord, listAt}
 use Rattle.records.specs.Engine.{listed}
 use Rattle.records.proofs.Listing.{list-length, list-at, own-record}
+use Rattle.piece_codes.specs.Engine.{codeOf, packed, codesOf}
+use Rattle.piece_codes.proofs.Codes.{code-back, unpack}
 use Rattle.position_lines.specs.Engine.{runsLine, runsLines}
 use borrow.Author.Needs.{needs}
 use Rattle.position_lines.proofs.put_pieces.Statement.{statement}
 use Rattle.position_lines.proofs.put_pieces.Tie as tie
 
 abbrev Inv-loop : tie.InvT-loop
-Inv-loop out₀ at n v p here e₀ k₀ out e k =
-    (k ≤ here) × Wrote out₀ at (upto (λ i. runsLine n (getD (listAt 0 (λ q. v) p) i blank)) k) out e × (e ≤ at + 460 * k)
+Inv-loop out₀ at n v p here users left₀ e₀ k₀ out left e k =
+    (k ≤ here)
+    × (left ≡ packed (drop k (ownPieces v)))
+    × Wrote out₀ at (upto (λ i. runsLine n (getD (listAt 0 (λ q. v) p) i blank)) k) out e
+    × (e ≤ at + 460 * k)
 
 abbrev μ-loop : tie.MeasureT-loop
-μ-loop out₀ at n v p here e₀ k₀ out e k = here - k
+μ-loop out₀ at n v p here users left₀ e₀ k₀ out left e k = here - k
+
+-- the k-th code, and those after it
+next : (v k : ℕ) → k < length (ownPieces v)
+    → (packed (drop k (ownPieces v)) % 128 ≡ codeOf (pieceAt v k)) × (packed (drop k (ownPieces v)) / 128 ≡ packed (drop (k + 1) (ownPieces v)))
+next v k l = let o = own-piece v k l in unpack (ownPieces v) k l (code-back (pieceAt v k) (o .0) (o .1) .1)
 
 pieces-of-requires : tie.Need-pieces-of-requires Inv-loop μ-loop
 pieces-of-requires c κs = search needs
 
-loop-holds : tie.Need-loop-holds Inv-loop μ-loop
-loop-holds c = (search needs, no-item _ _ _, omega arith)
+piece-fields-requires : tie.Need-piece-fields-requires Inv-loop μ-loop
+piece-fields-requires c κs = search needs
 
-put-piece-requires : tie.Need-put-piece-requires Inv-loop μ-loop
-put-piece-requires c κs =
-    let s = c .before .before .before .before .before in
-    let m = c .before .before .before .pieces-of .ensures in
-    (omega (arith, own-most (s .args .v)), omega (arith, s .pre .1), omega (arith, m))
+cast-users : tie.Need-cast-users Inv-loop μ-loop
+cast-users c = search needs
+
+codes-of-requires : tie.Need-codes-of-requires Inv-loop μ-loop
+codes-of-requires c κs = search needs
+
+loop-holds : tie.Need-loop-holds Inv-loop μ-loop
+unfolding codesOf
+loop-holds c = (search needs, c .codes-of .ensures, no-item _ _ _, omega arith)
+
+cast-put-coded-piece : tie.Need-cast-put-coded-piece Inv-loop μ-loop
+cast-put-coded-piece c = omega arith
+
+put-coded-piece-requires : tie.Need-put-coded-piece-requires Inv-loop μ-loop
+put-coded-piece-requires c κs =
+    let s = c .before .before .before .before .before .before .before in
+    let a = s .args in
+    let l = c .before .before .loop in
+    let m = c .before .before .before .before .before .pieces-of .ensures in
+    let h : l .k < length (ownPieces (a .v)) = omega (arith, m, c .before .loop-test .taken) in
+    let x = next (a .v) (l .k) h in
+    (omega (arith, own-most (a .v), s .pre .0, l .inv .3, h), s .pre .1, s .pre .2, h, rw (l .inv .1) (x .0), c .before .before .before .before .piece-fields .ensures)
 
 add-k : tie.Need-add-k Inv-loop μ-loop
 add-k c = search needs
@@ -43,24 +72,29 @@ loop-less c = search needs
 loop-again : tie.Need-loop-again Inv-loop μ-loop
 unfolding listed
 loop-again c =
-    let a = c .before .before .before .before .before .before .before .before .args in
+    let a = c .before .before .before .before .before .before .before .before .before .before .args in
     let l = c .before .before .before .before .before .loop in
+    let t = c .before .before .before .before .loop-test .taken in
     let m = list-length 0 (λ q. a .v) (a .p) in
+    let n = c .before .before .before .before .before .before .before .before .pieces-of .ensures in
+    let h : l .k < length (ownPieces (a .v)) = omega (arith, n, t) in
+    let x = next (a .v) (l .k) h in
     let e : getD (listAt 0 (λ q. a .v) (a .p)) (l .k) blank ≡ pieceRecord (λ q. a .v) (a .p) (pieceAt (a .v) (l .k)) =
-    list-at 0 (λ q. a .v) (a .p) (l .k) (omega (arith, m, c .before .before .before .before .before .before .pieces-of .ensures))
-    ∙ own-record 0 (λ q. a .v) (a .p) (l .k) refl in
-    (omega arith, item _ _ (l .inv .1) (rw (ap (runsLine (a .n)) (sym e)) at (c .before .before .put-piece .ensures .0)), omega arith)
+    list-at 0 (λ q. a .v) (a .p) (l .k) (omega (arith, m, n, t)) ∙ own-record 0 (λ q. a .v) (a .p) (l .k) refl in
+    let o = c .before .before .put-coded-piece .ensures in
+    (omega (arith, t), rw (l .inv .1) (x .1), item _ _ (l .inv .2) (rw (ap (runsLine (a .n)) (sym e)) at (o .0)), omega (arith, o .1, l .inv .3))
 
 same-length : tie.Need-same-length Inv-loop μ-loop
-same-length c = kept (c .before .loop .inv .1)
+same-length c = kept (c .before .loop .inv .2)
 
 returns : tie.Need-returns Inv-loop μ-loop
 unfolding runsLines listed
 returns c =
-    let a = c .before .before .before .before .args in
+    let a = c .before .before .before .before .before .before .args in
+    let n = c .before .before .before .before .pieces-of .ensures in
     let e : c .before .loop .k ≡ length (listAt 0 (λ q. a .v) (a .p)) =
-    omega (arith, c .before .before .pieces-of .ensures, list-length 0 (λ q. a .v) (a .p)) in
-    (rw e at (c .before .loop .inv .1), omega arith)
+    omega (arith, n, list-length 0 (λ q. a .v) (a .p), c .loop-test .left, c .before .loop .inv .0) in
+    (rw e at (c .before .loop .inv .2), omega (arith, e, c .before .loop .inv .3))
 
 pub put-pieces-spec : {M : Type 1} → statement M
 put-pieces-spec =
@@ -69,8 +103,12 @@ put-pieces-spec =
     Inv-loop
     μ-loop
     pieces-of-requires
+    piece-fields-requires
+    cast-users
+    codes-of-requires
     loop-holds
-    put-piece-requires
+    cast-put-coded-piece
+    put-coded-piece-requires
     add-k
     loop-less
     loop-again

@@ -1,12 +1,12 @@
--- `lines::put_sta` meets its contract.
+-- `lines::put_sta_within` meets its contract.
 use native.Mathlib.Omega.{arith}
 use mathlib.Core.Path.{_≡_, sym, _∙_}
 use mathlib.Core.Bool.{true, false}
 use Rattle.text.proofs.Laws.{after}
 use Rattle.lines.specs.Lines.{assigned, idText, staLine}
 use borrow.Author.Needs.{needs}
-use Rattle.lines.proofs.put_sta.Statement.{statement}
-use Rattle.lines.proofs.put_sta.Tie as tie
+use Rattle.lines.proofs.put_sta_within.Statement.{statement}
+use Rattle.lines.proofs.put_sta_within.Tie as tie
 
 is-assigned-requires : tie.Need-is-assigned-requires
 is-assigned-requires c κs = search needs
@@ -49,8 +49,8 @@ returns-2 c =
     let is : assigned (test .before .before .before .args .id) ≡ false = sym (test .before .is-assigned .ensures) ∙ test .if1 .left in
     (rw is (none .put-none .ensures .0), omega arith)
 
-pub put-sta-spec : {M : Type 1} → statement M
-put-sta-spec =
+pub put-sta-within-spec : {M : Type 1} → statement M
+put-sta-within-spec =
     tie.close
     (tie.spec
     is-assigned-requires

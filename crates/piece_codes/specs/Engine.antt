@@ -1,0 +1,94 @@
+-- Engine: pieces as numbers. The contracts of the code cite it; nobody has to believe it: `proofs/Codes.antt`.
+use mathlib.Core.Bool.{Bool, cond, _&&_}
+use mathlib.Core.List.{List, [], _∷_}
+use Prim.Native.Nat.{ℕ, _+_, _-_, _*_, _/_, _%_}
+use lib.Dec.{eqb}
+use lib.ListN.{getD}
+use Rattle.resource.specs.declared.Size.the-variants.{S26, S52, S106, S242, S484, S996, S2x996}
+use Rattle.resource.specs.declared.Piece.{Piece}
+use Rattle.resource.specs.declared.Piece.the-variants.{Part, With26}
+use Rattle.resource.specs.declared.Run.{Run}
+use Rattle.resource.specs.Values.{ownPieces}
+use Rattle.resource.specs.Index.{isPiece, fromPositions}
+use Rattle.resource.specs.Engine.{noPiece, runOf, offset26, offset52, offset106, narrow26, narrow52, narrow106}
+
+-- ---- codes
+abbrev pub codeOf : Piece → ℕ
+codeOf (Part S26 i) = i
+codeOf (Part S52 i) = 16 + i
+codeOf (Part S106 i) = 32 + i
+codeOf (With26 i) = 48 + i
+codeOf (Part S242 i) = 64 + i
+codeOf (Part S484 i) = 0
+codeOf (Part S996 i) = 0
+codeOf (Part S2x996 i) = 0
+
+-- seven bits each, the first lowest
+abbrev pub packed : List Piece → ℕ
+packed [] = 0
+packed (x ∷ xs) = codeOf x + 128 * packed xs
+
+unfoldable pub codesOf : ℕ → ℕ
+codesOf v = packed (ownPieces v)
+
+-- back
+unfoldable pub pieceOf : ℕ → Piece
+pieceOf c =
+    cond (eqb (c / 16) 0) (Part S26 (c % 16))
+    (cond (eqb (c / 16) 1) (Part S52 (c % 16))
+    (cond (eqb (c / 16) 2) (Part S106 (c % 16))
+    (cond (eqb (c / 16) 3) (With26 (c % 16)) (cond (eqb (c / 16) 4) (Part S242 (c % 16)) noPiece))))
+
+-- it is a piece's that lies in one position
+unfoldable pub isCode : ℕ → Bool
+isCode c = isPiece (pieceOf c) && eqb (fromPositions (pieceOf c)) 1
+
+-- ---- subcarriers
+-- n from a on; two such runs
+abbrev pub one : ℕ → ℕ → ℕ
+one a n = a + 256 * n
+
+abbrev pub two : ℕ → ℕ → ℕ → ℕ → ℕ
+two a n b m = one a n + 65536 * one b m
+
+abbrev pub wideWord : Piece → ℕ
+wideWord (Part S26 i) = one (offset26 (i - 1)) 26
+wideWord (Part S52 i) = one (offset52 (i - 1)) 52
+wideWord (Part S106 i) = one (offset106 (i - 1)) 106
+wideWord (Part S242 i) = one 0 242
+wideWord (With26 i) = cond (eqb (i - 1) 0) (two 1 106 108 26) (two 108 26 135 106)
+wideWord (Part S484 i) = 0
+wideWord (Part S996 i) = 0
+wideWord (Part S2x996 i) = 0
+
+abbrev pub narrowWord : Piece → ℕ
+narrowWord (Part S26 i) = cond (eqb (i - 1) 4) (two 112 13 132 13) (one (narrow26 (i - 1)) 26)
+narrowWord (Part S52 i) = one (narrow52 (i - 1)) 52
+narrowWord (Part S106 i) = one (narrow106 (i - 1)) 106
+narrowWord (Part S242 i) = two 6 121 130 121
+narrowWord (With26 i) = cond (eqb (i - 1) 0) (two 6 119 132 13) (two 112 13 132 119)
+narrowWord (Part S484 i) = 0
+narrowWord (Part S996 i) = 0
+narrowWord (Part S2x996 i) = 0
+
+unfoldable pub wideAt : ℕ → ℕ
+wideAt c = cond (isCode c) (wideWord (pieceOf c)) 0
+
+unfoldable pub narrowAt : ℕ → ℕ
+narrowAt c = cond (isCode c) (narrowWord (pieceOf c)) 0
+
+unfoldable pub wordAt : ℕ → ℕ → ℕ
+wordAt n c = cond (eqb n 1) (narrowAt c) (wideAt c)
+
+-- the runs that it says, from e on
+unfoldable pub runsBy : ℕ → ℕ → List Run
+runsBy e w =
+    runOf (e + w % 256) (w / 256 % 256)
+    ∷ cond (eqb (w / 65536) 0) [] (runOf (e + w / 65536 % 256) (w / 65536 / 256) ∷ [])
+
+-- ---- the index
+unfoldable pub eachOf : ℕ → ℕ
+eachOf k = getD (9 ∷ 4 ∷ 2 ∷ 2 ∷ 1 ∷ []) k 0
+
+unfoldable pub indexAt : ℕ → ℕ → ℕ
+indexAt q c = eachOf (c / 16) * q + c % 16 + cond (eqb (c / 16) 0) (q / 2) 0

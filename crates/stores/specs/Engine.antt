@@ -1,0 +1,31 @@
+-- Engine: short texts as numbers, so that they are stored whole. The contracts of the code cite it; nobody has to believe it: what is
+-- written is text again by `proofs/Laws.antt`.
+use mathlib.Core.Bool.{cond}
+use mathlib.Core.List.{List, [], _∷_}
+use Prim.Native.Nat.{ℕ, zero, suc, _+_, _-_, _*_, _/_, _%_, _^_}
+use lib.Dec.{ltb}
+
+-- the k lowest bytes of w, the lowest first
+abbrev pub bytesOf : ℕ → ℕ → List ℕ
+bytesOf zero w = []
+bytesOf (suc k) w = (w % 256) ∷ bytesOf k (w / 256)
+
+-- the four digits of a number below 10,000, zeros in front, the first lowest: each place from the quotients of two neighbours
+unfoldable pub fourOf : ℕ → ℕ
+fourOf n = n * 16777216 + 808464432 - 167706624 * (n / 10) - 655104 * (n / 100) - 2559 * (n / 1000)
+
+-- how many of the four are zeros in front
+unfoldable pub leadOf : ℕ → ℕ
+leadOf n = cond (ltb n 10) 1 0 + cond (ltb n 100) 1 0 + cond (ltb n 1000) 1 0
+
+-- the number's own digits
+unfoldable pub digitsOf : ℕ → ℕ
+digitsOf n = fourOf n / 2 ^ (8 * leadOf n)
+
+-- with a byte after them
+unfoldable pub endedOf : ℕ → ℕ → ℕ
+endedOf n c = (fourOf n + c * 4294967296) / 2 ^ (8 * leadOf n)
+
+-- a number below 100 with a space after it
+unfoldable pub spacedOf : ℕ → ℕ
+spacedOf n = (2109488 + n / 10 + 256 * (n % 10)) / 2 ^ (8 * cond (ltb n 10) 1 0)

@@ -1,0 +1,197 @@
+// Texts of at most eight bytes as one number, the first byte the lowest, written by whole stores where the buffer reaches.
+ghost use mathlib.Core.Path.{_≡_};
+ghost use mathlib.Core.Bool.{cond};
+ghost use mathlib.Core.List.{[], _∷_, _++_};
+ghost use Prim.Native.Nat.{_+_, _-_, _*_, _/_, _≤_, _<_, _^_};
+ghost use lib.Dec.{ltb};
+ghost use lib.ListN.{length};
+ghost use lib.IntN.{pos, _-ℤ_};
+ghost use Rattle.text.specs.Text.{Wrote, codes, dec, signed};
+ghost use Rattle.stores.specs.Engine.{bytesOf, fourOf, leadOf, digitsOf, endedOf};
+
+// Two bytes, in one store.
+fn put_two(out: &mut [u8], at: usize, w: u64) -> usize
+    requires { ⌜ (at + 2 ≤ length (now out)) × (at ≤ 1040000) ⌝ }
+    ensures { λ r. ⌜ Wrote (now (out .entry)) at (bytesOf 2 w) (now (out .exit)) r ⌝ }
+{
+    let w1 = w / 256;
+    out[at] = (w % 256) as u8;
+    out[at + 1] = (w1 % 256) as u8;
+    at + 2
+}
+
+// Four, in one.
+fn put_four(out: &mut [u8], at: usize, w: u64) -> usize
+    requires { ⌜ (at + 4 ≤ length (now out)) × (at ≤ 1040000) ⌝ }
+    ensures { λ r. ⌜ Wrote (now (out .entry)) at (bytesOf 4 w) (now (out .exit)) r ⌝ }
+{
+    let w1 = w / 256;
+    let w2 = w1 / 256;
+    let w3 = w2 / 256;
+    out[at] = (w % 256) as u8;
+    out[at + 1] = (w1 % 256) as u8;
+    out[at + 2] = (w2 % 256) as u8;
+    out[at + 3] = (w3 % 256) as u8;
+    at + 4
+}
+
+// Eight, in one.
+pub fn put_eight(out: &mut [u8], at: usize, w: u64) -> usize
+    requires { ⌜ (at + 8 ≤ length (now out)) × (at ≤ 1030000) ⌝ }
+    ensures { λ r. ⌜ Wrote (now (out .entry)) at (bytesOf 8 w) (now (out .exit)) r ⌝ }
+    ensures bounded { λ r. ⌜ r ≡ at + 8 ⌝ }
+{
+    let a = put_four(out, at, w);
+    put_four(out, a, w / 4294967296)
+}
+
+// Two and j more, j at most 2: the second store begins in the first.
+pub fn put_by_twos(out: &mut [u8], at: usize, w: u64, j: usize) -> usize
+    requires { ⌜ (j ≤ 2) × (at + (j + 2) ≤ length (now out)) × (at ≤ 1030000) ⌝ }
+    ensures { λ r. ⌜ Wrote (now (out .entry)) at (bytesOf (j + 2) w) (now (out .exit)) r ⌝ }
+    ensures bounded { λ r. ⌜ r ≡ at + (j + 2) ⌝ }
+{
+    put_two(out, at, w);
+    put_two(out, at + j, w >> (8 * j))
+}
+
+// Four and j more, j at most 4.
+pub fn put_by_fours(out: &mut [u8], at: usize, w: u64, j: usize) -> usize
+    requires { ⌜ (j ≤ 4) × (at + (j + 4) ≤ length (now out)) × (at ≤ 1030000) ⌝ }
+    ensures { λ r. ⌜ Wrote (now (out .entry)) at (bytesOf (j + 4) w) (now (out .exit)) r ⌝ }
+    ensures bounded { λ r. ⌜ r ≡ at + (j + 4) ⌝ }
+{
+    put_four(out, at, w);
+    put_four(out, at + j, w >> (8 * j))
+}
+
+// Two to eight bytes.
+pub fn put_short(out: &mut [u8], at: usize, w: u64, k: usize) -> usize
+    requires { ⌜ (2 ≤ k) × (k ≤ 8) × (at + k ≤ length (now out)) × (at ≤ 1030000) ⌝ }
+    ensures { λ r. ⌜ Wrote (now (out .entry)) at (bytesOf k w) (now (out .exit)) r ⌝ }
+    ensures bounded { λ r. ⌜ r ≡ at + k ⌝ }
+{
+    if k < 4 {
+        return put_by_twos(out, at, w, k - 2);
+    }
+    put_by_fours(out, at, w, k - 4)
+}
+
+// The four digits of a number, zeros in front, by three quotients that wait for nothing but the number.
+fn four_of(n: u32) -> u64
+    requires { ⌜ n < 10000 ⌝ }
+    ensures { λ r. ⌜ (r ≡ fourOf n) × (r < 4294967296) ⌝ }
+{
+    let tenth = (n / 10) as u64;
+    let hundredth = (n / 100) as u64;
+    let thousandth = (n / 1000) as u64;
+    n as u64 * 16777216 + 808464432 - 167706624 * tenth - 655104 * hundredth - 2559 * thousandth
+}
+
+fn one_if(t: bool) -> usize
+    ensures { λ r. ⌜ r ≡ cond t 1 0 ⌝ }
+    ensures bounded { λ r. ⌜ r ≤ 1 ⌝ }
+{
+    t as usize
+}
+
+// How many of the four digits are zeros in front.
+pub fn lead_of(n: u32) -> usize
+    ensures { λ r. ⌜ (r ≡ leadOf n) × (r ≤ 3) ⌝ }
+{
+    one_if(n < 10) + one_if(n < 100) + one_if(n < 1000)
+}
+
+// The digits of a number.
+pub fn digits_of(n: u32) -> u64
+    requires { ⌜ n < 10000 ⌝ }
+    ensures { λ r. ⌜ (r ≡ digitsOf n) × (r < 4294967296) ⌝ }
+{
+    four_of(n) >> (8 * lead_of(n))
+}
+
+// With a byte after them.
+pub fn ended_of(n: u32, c: u64) -> u64
+    requires { ⌜ (n < 10000) × (c < 256) ⌝ }
+    ensures { λ r. ⌜ (r ≡ endedOf n c) × (r < 1099511627776) ⌝ }
+{
+    (four_of(n) + c * 4294967296) >> (8 * lead_of(n))
+}
+
+// The integer u - zero in decimal, and a byte after it.
+pub fn put_ended(out: &mut [u8], at: usize, u: u32, zero: u32, c: u64) -> usize
+    requires { ⌜ (u < 10000) × (zero < 10000) × (c < 256) × (at + 6 ≤ length (now out)) × (at ≤ 1030000) ⌝ }
+    ensures { λ r. ⌜ Wrote (now (out .entry)) at (signed (pos u -ℤ pos zero) ++ (c ∷ [])) (now (out .exit)) r ⌝ }
+    ensures bounded { λ r. ⌜ r ≤ at + 6 ⌝ }
+{
+    if u < zero {
+        let n = zero - u;
+        return put_short(out, at, 45 + 256 * ended_of(n, c), 6 - lead_of(n));
+    }
+    let n = u - zero;
+    put_short(out, at, ended_of(n, c), 5 - lead_of(n))
+}
+
+// Two such integers with a colon between, and a byte after them.
+pub fn put_span(out: &mut [u8], at: usize, lo: u32, hi: u32, zero: u32, c: u64) -> usize
+    requires { ⌜ (lo < 10000) × (hi < 10000) × (zero < 10000) × (c < 256) × (at + 12 ≤ length (now out)) × (at ≤ 1020000) ⌝ }
+    ensures { λ r. ⌜ Wrote (now (out .entry)) at ((signed (pos lo -ℤ pos zero) ++ codes ":") ++ (signed (pos hi -ℤ pos zero) ++ (c ∷ []))) (now (out .exit)) r ⌝ }
+    ensures bounded { λ r. ⌜ r ≤ at + 12 ⌝ }
+{
+    let a = put_ended(out, at, lo, zero, 58);
+    put_ended(out, a, hi, zero, c)
+}
+
+// A number below 100, and a space after it.
+pub fn put_spaced(out: &mut [u8], at: usize, n: u32) -> usize
+    requires { ⌜ (n < 100) × (at + 3 ≤ length (now out)) × (at ≤ 1030000) ⌝ }
+    ensures { λ r. ⌜ Wrote (now (out .entry)) at (dec n ++ codes " ") (now (out .exit)) r ⌝ }
+    ensures bounded { λ r. ⌜ r ≤ at + 3 ⌝ }
+{
+    let lead = one_if(n < 10);
+    let two = 2109488 + (n / 10) as u64 + 256 * (n % 10) as u64; // 00 and a space
+    put_by_twos(out, at, two >> (8 * lead), 1 - lead)
+}
+
+// A number of at most four digits.
+fn put_digits(out: &mut [u8], at: usize, n: u32) -> usize
+    requires { ⌜ (n < 10000) × (at + 4 ≤ length (now out)) × (at ≤ 1030000) ⌝ }
+    ensures { λ r. ⌜ Wrote (now (out .entry)) at (dec n) (now (out .exit)) r ⌝ }
+    ensures bounded { λ r. ⌜ r ≤ at + 4 ⌝ }
+{
+    if n < 10 {
+        return text::put(out, at, 48 + n as u8);
+    }
+    put_short(out, at, digits_of(n), 4 - lead_of(n))
+}
+
+// The integer u - zero in decimal.
+fn put_signed_whole(out: &mut [u8], at: usize, u: u32, zero: u32) -> usize
+    requires { ⌜ (u < 10000) × (zero < 10000) × (at + 5 ≤ length (now out)) × (at ≤ 1030000) ⌝ }
+    ensures { λ r. ⌜ Wrote (now (out .entry)) at (signed (pos u -ℤ pos zero)) (now (out .exit)) r ⌝ }
+    ensures bounded { λ r. ⌜ r ≤ at + 5 ⌝ }
+{
+    if u < zero {
+        let n = zero - u;
+        return put_short(out, at, 45 + 256 * digits_of(n), 5 - lead_of(n));
+    }
+    put_digits(out, at, u - zero)
+}
+
+// The same of any integer, into whatever room there is.
+pub fn put_signed(out: &mut [u8], at: usize, u: u64, zero: u64) -> usize
+    requires { ⌜ at ≤ 1000000 ⌝ }
+    ensures { λ r. ⌜ Wrote (now (out .entry)) at (signed (pos u -ℤ pos zero)) (now (out .exit)) r ⌝ }
+    ensures bounded { λ r. ⌜ r ≤ at + 21 ⌝ }
+{
+    if out.len() < at + 5 {
+        return text::put_signed(out, at, u, zero);
+    }
+    if 10000 <= u {
+        return text::put_signed(out, at, u, zero);
+    }
+    if 10000 <= zero {
+        return text::put_signed(out, at, u, zero);
+    }
+    put_signed_whole(out, at, u as u32, zero as u32)
+}
