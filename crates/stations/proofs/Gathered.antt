@@ -177,3 +177,11 @@ unfolding stationTwice stationIn
 twice-held bw a b fields n m h =
     ap (λ (j : ℕ). refuseIf (ltb j (n + m)) (stationPlace bw n j))
     (repeat-cong (stationIn fields) (stationOf bw a b n) (n + m) (λ k l. ap (λ (x : ℕ). x % 2048) (h .front k l) ∙ station-is bw a b n k))
+
+-- ---- of few: one more before it
+pub met-more : (id : ℕ → ℕ) (j x : ℕ) (a b : Bool) → a ≡ among id j x → b ≡ eqb (id j) x → a || b ≡ among id (j + 1) x
+met-more id j x a b e f = rw (e, f) (or-cond (among id j x) (eqb (id j) x) ∙ sym (among-next (λ i. eqb (id i) x) j))
+  where
+    or-cond : (p q : Bool) → p || q ≡ cond p true q
+    or-cond true q = refl
+    or-cond false q = refl

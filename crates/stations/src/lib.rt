@@ -8,7 +8,7 @@ ghost use lib.Bits.{bitOr};
 ghost use lib.Dec.{eqb, ltb, leb};
 ghost use lib.ListN.{length, replicate};
 ghost use Rattle.answer.specs.Lists.{filled};
-ghost use Rattle.stations.specs.Stations.{stationPlace, firstRepeated, twice};
+ghost use Rattle.stations.specs.Stations.{repeated, stationPlace, firstRepeated, twice};
 ghost use Rattle.stations.specs.Engine.{stationIn, anyRepeated};
 
 // "room for 144 STA-IDs is set aside at once, empty": those of the first t User fields.
@@ -58,6 +58,37 @@ fn any_again(ids: &[u16; 144], t: usize) -> bool
     again
 }
 
+// ---- the same of few, each by those before it: no room is cleared for them
+
+// Whether the j-th may not stand again and does.
+fn stands_again(fields: &[u32], j: usize) -> bool
+    requires { ⌜ j < length (now fields) ⌝ }
+    ensures { λ r. ⌜ r ≡ repeated (stationIn (now (fields .entry))) j ⌝ }
+{
+    let id = fields[j] % 2048;
+    let mut met = false;
+    let mut i = 0;
+    while i < j {
+        met = met | (fields[i] % 2048 == id);
+        i += 1;
+    }
+    (0 < id) & (id <= 2006) & met
+}
+
+// Whether any of t does.
+fn any_of_few(fields: &[u32], t: usize) -> bool
+    requires { ⌜ t ≤ length (now fields) ⌝ }
+    ensures { λ r. ⌜ r ≡ anyRepeated (stationIn (now (fields .entry))) t ⌝ }
+{
+    let mut again = false;
+    let mut j = 0;
+    while j < t {
+        again = again | stands_again(fields, j);
+        j += 1;
+    }
+    again
+}
+
 // ---- which: asked only where one does
 
 // The first of t that may not stand again and does.
@@ -87,6 +118,11 @@ fn first_repeated(fields: &[u32], t: usize) -> usize
 {
     if t < 2 {
         return t; // one station repeats none
+    }
+    if t <= 8 {
+        if !any_of_few(fields, t) {
+            return t;
+        }
     }
     let ids = stations_of(fields, t);
     if !any_again(&ids, t) {

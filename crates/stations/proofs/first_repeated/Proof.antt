@@ -18,29 +18,37 @@ returns c =
     let a = c .before .before .args in
     (omega arith, sym (repeat-none (stationIn (a .fields .now)) (a .t) (omega arith)))
 
+any-of-few-requires : tie.Need-any-of-few-requires
+any-of-few-requires c κs = search needs
+
+returns-2 : tie.Need-returns-2
+returns-2 c =
+    let a = c .before .before .before .before .before .args in
+    (omega arith, sym (none-again (stationIn (a .fields .now)) (a .t) (sym (c .before .any-of-few .ensures) ∙ not-true _ (c .if3 .taken))))
+
 stations-of-requires : tie.Need-stations-of-requires
 stations-of-requires c κs = search needs
 
 any-again-requires : tie.Need-any-again-requires
 any-again-requires c κs = search needs
 
-returns-2 : tie.Need-returns-2
-returns-2 c =
-    let a = c .before .before .before .before .before .before .args in
+returns-3 : tie.Need-returns-3
+returns-3 c =
+    let a = c .before .before .before .before .before .before .before .args in
     let e = c .before .before .before .stations-of .ensures in (
       omega arith,
       sym
           (sym (repeat-held (a .fields .now) (replicate 144 0) (a .t))
           ∙ ap (λ (ids : List ℕ). firstRepeated (stationIn ids) (a .t)) (sym e)
-          ∙ none-again _ (a .t) (sym (c .before .any-again .ensures) ∙ not-true _ (c .if2 .taken))),
+          ∙ none-again _ (a .t) (sym (c .before .any-again .ensures) ∙ not-true _ (c .if4 .taken))),
     )
 
 first-again-requires : tie.Need-first-again-requires
 first-again-requires c κs = search needs
 
-returns-3 : tie.Need-returns-3
-returns-3 c =
-    let a = c .before .before .before .before .before .before .before .before .args in
+returns-4 : tie.Need-returns-4
+returns-4 c =
+    let a = c .before .before .before .before .before .before .before .before .before .args in
     let e = c .before .before .before .before .before .stations-of .ensures in (
       c .first-again .ensures .0,
       c .first-again .ensures .1
@@ -53,8 +61,10 @@ first-repeated-spec =
     tie.close
     (tie.spec
     returns
+    any-of-few-requires
+    returns-2
     stations-of-requires
     any-again-requires
-    returns-2
+    returns-3
     first-again-requires
-    returns-3)
+    returns-4)
