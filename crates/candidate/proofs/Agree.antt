@@ -2,15 +2,19 @@
 use mathlib.Core.Path.{_≡_, sym, _∙_}
 use denote.Ref.{now}
 use Rattle.answer.proofs.Agree.{Agrees}
-use Rattle.candidate.proofs.count_in.Reads as count-in
+use Rattle.candidate.proofs.first_of.Reads as first-of
+use Rattle.candidate.proofs.second_of.Reads as second-of
 use Rattle.candidate.proofs.bytes_for.Reads as bytes-for
-use Rattle.candidate.proofs.fill.Reads as fill
+use Rattle.candidate.proofs.build.Reads as build
 
-pub count-in-agrees : Agrees count-in.Post
-count-in-agrees κs a r r' s s' p q = p .0 ∙ sym (q .0)
+pub first-of-agrees : Agrees first-of.Post
+first-of-agrees κs a r r' s s' p q = p .1 ∙ sym (q .1)
+
+pub second-of-agrees : Agrees second-of.Post
+second-of-agrees κs a r r' s s' p q = p .1 ∙ sym (q .1)
 
 pub bytes-for-agrees : Agrees bytes-for.Post
 bytes-for-agrees κs a r r' s s' p q = p .0 ∙ sym (q .0)
 
-pub fill-agrees : (κs : _) (a : _) (r r' : _) (s s' : _) → fill.Post κs a r s → fill.Post κs a r' s' → now (s .0) ≡ now (s' .0)
-fill-agrees κs a r r' s s' p q = p ∙ sym q
+pub build-agrees : (κs : _) (a : _) (r r' : _) (s s' : _) → build.Post κs a r s → build.Post κs a r' s' → now (s .0) ≡ now (s' .0)
+build-agrees κs a r r' s s' p q = p ∙ sym q

@@ -3,6 +3,8 @@ pub mod Contents
 pub mod Built
 pub mod Held
 pub mod Numbers
-pub mod Steps
+pub mod Said
+pub mod Joined
+pub mod Parts
 pub mod Puts
 pub mod Seals

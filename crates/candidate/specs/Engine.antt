@@ -3,15 +3,18 @@
 --
 -- Every bit of a channel up to its end is in the words, or is a check or a tail (01, "Bandwidth and channels"); so the
 -- words give the channels, whatever words they are, and whether these read back to the words is 13's question.
-use mathlib.Core.Bool.{cond}
+use mathlib.Core.Path.{_≡_}
+use mathlib.Core.Bool.{true, cond}
 use mathlib.Core.List.{List}
-use Prim.Native.Nat.{ℕ, zero, suc, _+_, _*_, _%_, _^_}
+use Prim.Native.Nat.{ℕ, zero, suc, _+_, _*_, _/_, _%_, _^_, _≤_, _<_}
 use lib.Dec.{eqb}
-use lib.ListN.{replicate}
-use Rattle.bits.specs.Bits.{put}
+use lib.ListN.{length, replicate}
+use Rattle.bits.specs.Bits.{bit, field, put}
+use Rattle.register.specs.Engine.{checkFrom}
 use Rattle.block.specs.Check.{check}
 use Rattle.resource.specs.Values.{fieldsOf}
-use Rattle.channel.specs.Layout.{present, firsts, seconds, firstBits, secondAt, secondBits, hasSecond, subfieldsIn, valueAt, total, userAt, blockAt, blocks, covered}
+use Rattle.channel.specs.Layout.{present, firsts, seconds, firstBits, secondAt, secondBits, hasSecond, subfieldsIn, valueAt, total, userAt, blockAt, blocks}
+use Rattle.channel.specs.Layout.{covered}
 use Rattle.answer.specs.Lists.{at}
 use Rattle.words.specs.Engine.{overflowOf, valueOf, userField}
 use Rattle.frame_words.specs.Words.{positionIn}
@@ -94,3 +97,42 @@ channelIn bw w c d =
 
 unfoldable pub candidate : ℕ → List ℕ → ℕ → List ℕ
 candidate bw w c = channelIn bw w c (replicate (bytesIn bw w c) 0)
+
+-- ---- a channel built from its start, bits after bits
+
+-- x after the bits that are held of the byte in which bit i lies
+unfoldable pub joined : ℕ → ℕ → ℕ → ℕ
+joined i held x = held + x * 2 ^ (i % 8)
+
+-- a block of n bits with its check; its tail is zero
+unfoldable pub sealedOf : ℕ → ℕ → ℕ
+sealedOf x n = x + checkFrom 255 x n * 2 ^ n
+
+-- d has the first i bits of the channel s, and zeros up to the end of the byte; of this byte's bits those before i are held in a number too
+pub record Built (s : List ℕ) (i held : ℕ) (d : List ℕ) : Type 0 where
+  pub as-long : length d ≡ length s
+  pub lower : (j : ℕ) → j < i → bit d j ≡ bit s j
+  pub rest : (j : ℕ) → i ≤ j → j < 8 * ((i + 7) / 8) → bit d j ≡ 0
+  pub held-is : held ≡ field s (8 * (i / 8)) (i % 8)
+
+-- e is d with zeros from byte k on
+pub record ClearedFrom (d : List ℕ) (k : ℕ) (e : List ℕ) : Type 0 where
+  pub same-length : length e ≡ length d
+  pub before : (i : ℕ) → i < k → at e i ≡ at d i
+  pub past : (i : ℕ) → k ≤ i → at e i ≡ 0
+
+-- what is lent for channel c: a bandwidth that has it, words with its row, and its bytes
+pub record Lent (bw : ℕ) (w row : List ℕ) (c : ℕ) (d : List ℕ) : Type 0 where
+  pub known : bw ≤ 4
+  pub first-or-second : (1 ≤ c) × (c ≤ 2)
+  pub there : present bw c ≡ true
+  pub the-row : (k : ℕ) → k < subfieldsIn bw c → (positionIn c k < length row) × (at row (positionIn c k) ≡ valueIn w c k)
+  pub the-bytes : length d ≡ bytesIn bw w c
+
+-- its n User fields have their words from `first` on
+pub record Users (bw : ℕ) (w : List ℕ) (c first n : ℕ) : Type 0 where
+  pub counted : n ≡ countIn bw w c
+  pub starts : first ≡ firstIn bw w c
+  pub few : n ≤ 72
+  pub early : first ≤ 82
+  pub inside : first + n ≤ length w

@@ -1,47 +1,14 @@
 // The only channels that given words can come from.
 ghost use mathlib.Core.Path.{_≡_};
-ghost use Prim.Native.Nat.{_+_, _*_, _^_, _<_, _≤_};
+ghost use Prim.Native.Nat.{_+_, _*_, _/_, _%_, _^_, _<_, _≤_};
 ghost use lib.ListN.{length};
-ghost use Rattle.channel.specs.Layout.{firsts, subfields, subfieldsIn, valueAt, userAt, blocks};
 ghost use Rattle.answer.specs.Lists.{at};
+ghost use Rattle.bits.specs.Bits.{put};
+ghost use Rattle.channel.specs.Layout.{firsts, secondAt, common, subfields, blockAt, endOf};
 ghost use Rattle.words.specs.Engine.{userField};
 ghost use Rattle.frame_words.specs.Words.{positionIn};
-ghost use Rattle.candidate.specs.Engine.{gathered, firstOf, secondOf};
-ghost use Rattle.candidate.specs.Engine.{puts, seal, sealSecond, sealBlocks, valueIn, countIn, firstIn, channelIn};
+ghost use Rattle.candidate.specs.Engine.{gathered, firstOf, secondOf, joined, sealedOf, Built, ClearedFrom, Lent, Users, candidate};
 ghost use Rattle.candidate.specs.Length.{bytesFor};
-
-// ---- what the words say
-
-// Word i, and 0 past the end.
-fn word_at(words: &[u32], i: usize) -> u32
-    ensures { λ r. ⌜ r ≡ at (now (words .entry)) i ⌝ }
-{
-    if i < words.len() { words[i] } else { 0 }
-}
-
-// The k-th RU Allocation value of a channel.
-fn value_in(words: &[u32], channel: u32, k: usize) -> u16
-    requires { ⌜ (1 ≤ channel) × (channel ≤ 2) × (k ≤ 8) ⌝ }
-    ensures { λ r. ⌜ r ≡ valueIn (now (words .entry)) channel k ⌝ }
-{
-    words::value_of(words, 2 * k + (channel as usize - 1)) as u16
-}
-
-// How many User fields a channel has.
-pub fn count_in(bw: u32, words: &[u32], channel: u32) -> usize
-    requires { ⌜ (1 ≤ channel) × (channel ≤ 2) ⌝ }
-    ensures { λ r. ⌜ r ≡ countIn bw (now (words .entry)) channel ⌝ }
-    ensures { λ r. ⌜ r ≤ 72 ⌝ }
-{
-    let n = channel::subfields_of(bw, channel);
-    let mut sum: usize = 0;
-    let mut k: usize = 0;
-    while k < n {
-        sum += resource::fields_of(value_in(words, channel, k)) as usize;
-        k += 1;
-    }
-    sum
-}
 
 // ---- a common field as numbers
 
@@ -79,89 +46,122 @@ pub fn second_of(bw: u32, row: &[u16], c: usize) -> u64
     )
 }
 
-// ---- a channel from what it carries
+// ---- a channel built from its start, bits after bits
 
-fn put_values(d: &mut [u8], bw: u32, words: &[u32], channel: u32)
-    requires { ⌜ (1 ≤ channel) × (channel ≤ 2) ⌝ }
-    ensures { λ _. ⌜ now (d .exit) ≡ puts (valueAt bw) 9 (valueIn (now (words .entry)) channel) (subfieldsIn bw channel) (now (d .entry)) ⌝ }
+// A block of n bits with its check; its tail is zero.
+fn sealed(x: u64, n: usize) -> u64
+    requires { ⌜ (n ≤ 54) × (x < 2 ^ n) ⌝ }
+    ensures { λ r. ⌜ (r < 2 ^ 58) × (r ≡ sealedOf x n) ⌝ }
 {
-    let n = channel::subfields_of(bw, channel);
-    let mut k: usize = 0;
-    while k < n {
-        put_bits::put_field(
-            d,
-            channel::value_bit(bw, k),
-            9,
-            value_in(words, channel, k) as u32,
-        );
+    x + ((register::check_of(255, x, n) as u64) << n)
+}
+
+// w bits more, those of x, after the first `i`; what is held of the last byte before, and then.
+fn push(d: &mut [u8], i: usize, held: u64, x: u64, w: usize) -> u64
+    requires { ⌜ (25 ≤ w) × (w ≤ 54) × (i + w ≤ 8 * length (now d)) × (length (now d) ≤ 512) × (held < 2 ^ (i % 8)) × (x < 2 ^ w) ⌝ }
+    ensures { λ r. ⌜ r ≡ joined i held x / 2 ^ (8 * ((i % 8 + w) / 8)) ⌝ }
+    ensures { λ _. ⌜ now (d .exit) ≡ put (now (d .entry)) (8 * (i / 8)) 64 (joined i held x) ⌝ }
+{
+    let y = held + (x << (i % 8));
+    put_bits::put_eight(d, i / 8, y);
+    y >> (8 * ((i % 8 + w) / 8))
+}
+
+// The second part of the common field, which 160 and 320 MHz have; at 320 in two halves.
+fn put_second(d: &mut [u8], bw: u32, words: &[u32], row: &[u16], c: u32, held: u64) -> u64
+    requires { ⌜ Lent bw (now words) (now row) c (now d) × Built (candidate bw (now words) c) (secondAt bw) held (now d) ⌝ }
+    ensures { λ r. ⌜ Built (candidate bw (now (words .entry)) c) (common bw) r (now (d .exit)) ⌝ }
+{
+    let i = channel::second_at(bw);
+    if bw == 3 {
+        let x = sealed(second_of(bw, row, c as usize), 18);
+        return push(d, i, held, x, 28);
+    }
+    if bw == 4 {
+        let x = sealed(second_of(bw, row, c as usize), 54);
+        let half = push(d, i, held, x % 4294967296, 32);
+        return push(d, i + 32, half, x / 4294967296, 32);
+    }
+    held
+}
+
+// Two User fields, of the words from j on.
+fn pair_of(words: &[u32], j: usize) -> u64
+    requires { ⌜ j + 1 < length (now words) ⌝ }
+    ensures { λ r. ⌜ (r < 2 ^ 44) × (r ≡ userField (at (now (words .entry)) j) + userField (at (now (words .entry)) (j + 1)) * 2 ^ 22) ⌝ }
+{
+    words::user_field(words[j]) as u64 + ((words::user_field(words[j + 1]) as u64) << 22)
+}
+
+// The User blocks of two fields, of n fields whose words start at `first`.
+fn put_pairs(
+    d: &mut [u8],
+    bw: u32,
+    words: &[u32],
+    row: &[u16],
+    c: u32,
+    first: usize,
+    n: usize,
+    held: u64,
+) -> u64
+    requires { ⌜ Lent bw (now words) (now row) c (now d) × Users bw (now words) c first n × Built (candidate bw (now words) c) (common bw) held (now d) ⌝ }
+    ensures { λ r. ⌜ Built (candidate bw (now (words .entry)) c) (blockAt bw (n / 2)) r (now (d .exit)) ⌝ }
+{
+    let m = n / 2;
+    let mut h = held;
+    let mut b: usize = 0;
+    while b < m {
+        let x = sealed(pair_of(words, first + 2 * b), 44);
+        h = push(d, channel::block_bit(bw, b), h, x, 54);
+        b += 1;
+    }
+    h
+}
+
+// All User blocks: the last may have one field.
+fn put_blocks(
+    d: &mut [u8],
+    bw: u32,
+    words: &[u32],
+    row: &[u16],
+    c: u32,
+    first: usize,
+    n: usize,
+    held: u64,
+) -> u64
+    requires { ⌜ Lent bw (now words) (now row) c (now d) × Users bw (now words) c first n × Built (candidate bw (now words) c) (common bw) held (now d) ⌝ }
+    ensures { λ r. ⌜ Built (candidate bw (now (words .entry)) c) (endOf bw n) r (now (d .exit)) ⌝ }
+{
+    let h = put_pairs(d, bw, words, row, c, first, n, held);
+    if n % 2 == 0 {
+        return h;
+    }
+    let x = sealed(words::user_field(words[first + n - 1]) as u64, 22);
+    push(d, channel::block_bit(bw, n / 2), h, x, 32)
+}
+
+fn clear_from(d: &mut [u8], from: usize)
+    requires { ⌜ from ≤ length (now d) ⌝ }
+    ensures { λ _. ⌜ ClearedFrom (now (d .entry)) from (now (d .exit)) ⌝ }
+{
+    let mut k = from;
+    while k < d.len() {
+        d[k] = 0;
         k += 1;
     }
 }
 
-// n User fields, of the words from `first` on.
-fn put_users(d: &mut [u8], bw: u32, words: &[u32], first: usize, n: usize)
-    requires { ⌜ (first ≤ 82) × (n ≤ 72) ⌝ }
-    ensures { λ _. ⌜ now (d .exit) ≡ puts (userAt bw) 22 (λ i. userField (at (now (words .entry)) (first + i))) n (now (d .entry)) ⌝ }
+// Channel c of n User fields, whose words start at `first`, in exactly its bytes: the common field, the User blocks, and padding of zeros.
+pub fn build(d: &mut [u8], bw: u32, words: &[u32], row: &[u16], c: u32, first: usize, n: usize)
+    requires { ⌜ Lent bw (now words) (now row) c (now d) × Users bw (now words) c first n ⌝ }
+    ensures { λ _. ⌜ now (d .exit) ≡ candidate bw (now (words .entry)) c ⌝ }
 {
-    let mut i: usize = 0;
-    while i < n {
-        let f = words::user_field(word_at(words, first + i));
-        put_bits::put_field(d, channel::user_bit(bw, i), 22, f);
-        i += 1;
-    }
-}
-
-// The check of the n bits from `at`, after them.
-fn put_check(d: &mut [u8], at: usize, n: usize)
-    requires { ⌜ (at ≤ 2053) × (n ≤ 54) ⌝ }
-    ensures { λ _. ⌜ now (d .exit) ≡ seal at n (now (d .entry)) ⌝ }
-{
-    let c = block::check_at(d, at, n);
-    put_bits::put_field(d, at + n, 4, c);
-}
-
-fn put_second_check(d: &mut [u8], bw: u32)
-    ensures { λ _. ⌜ now (d .exit) ≡ sealSecond bw (now (d .entry)) ⌝ }
-{
-    if channel::has_second(bw) {
-        put_check(d, channel::second_at(bw), channel::second_bits(bw));
-    }
-}
-
-fn put_block_checks(d: &mut [u8], bw: u32, n: usize)
-    requires { ⌜ n ≤ 72 ⌝ }
-    ensures { λ _. ⌜ now (d .exit) ≡ sealBlocks bw n (blocks n) (now (d .entry)) ⌝ }
-{
-    let m = (n + 1) / 2;
-    let mut b: usize = 0;
-    while b < m {
-        put_check(d, channel::block_bit(bw, b), channel::covered_bits(n, b));
-        b += 1;
-    }
-}
-
-// A channel that has n User fields, whose words start at `first`.
-fn fill_bytes(d: &mut [u8], bw: u32, words: &[u32], channel: u32, first: usize, n: usize)
-    requires { ⌜ (1 ≤ channel) × (channel ≤ 2) × (first ≤ 82) × (n ≤ 72) × (first ≡ firstIn bw (now words) channel) × (n ≡ countIn bw (now words) channel) ⌝ }
-    ensures { λ _. ⌜ now (d .exit) ≡ channelIn bw (now (words .entry)) channel (now (d .entry)) ⌝ }
-{
-    put_bits::put_field(d, 0, 17, words::overflow_of(word_at(words, 1)));
-    put_values(d, bw, words, channel);
-    put_users(d, bw, words, first, n);
-    put_check(d, 0, channel::first_bits(bw));
-    put_second_check(d, bw);
-    put_block_checks(d, bw, n);
-}
-
-// The same, with no work for the channel that the bandwidth lacks: it has no bytes.
-pub fn fill(d: &mut [u8], bw: u32, words: &[u32], channel: u32, first: usize, n: usize)
-    requires { ⌜ (1 ≤ channel) × (channel ≤ 2) × (first ≤ 82) × (n ≤ 72) × (first ≡ firstIn bw (now words) channel) × (n ≡ countIn bw (now words) channel) ⌝ }
-    ensures { λ _. ⌜ now (d .exit) ≡ channelIn bw (now (words .entry)) channel (now (d .entry)) ⌝ }
-{
-    if d.len() == 0 {
-        return;
-    }
-    fill_bytes(d, bw, words, channel, first, n);
+    let v = words::overflow_of(words[1]);
+    let x = sealed(first_of(bw, v, row, c as usize), channel::first_bits(bw));
+    let first_held = push(d, 0, 0, x, channel::second_at(bw));
+    let second_held = put_second(d, bw, words, row, c, first_held);
+    put_blocks(d, bw, words, row, c, first, n, second_held);
+    clear_from(d, (channel::end_bit(bw, n) + 7) / 8);
 }
 
 // Bytes for the longer channel, of n and m User fields.

@@ -1,4 +1,5 @@
 pub mod Said
+pub mod Agree
 pub mod Words
 pub mod Sealed
 pub mod Steps

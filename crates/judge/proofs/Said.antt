@@ -31,69 +31,14 @@ use Rattle.words.specs.Engine as W
 use Rattle.frame_words.specs.Words.{positionIn}
 use Rattle.candidate.specs.Engine.{firstOf, secondOf, overflowIn, valueIn, countIn, fieldIn, firstIn, candidate}
 use Rattle.candidate.proofs.Held.{Holds, all-subfields, candidate-carries, holds-1, holds-2}
-use Rattle.candidate.proofs.Numbers.{field-gathered}
+use Rattle.candidate.proofs.Said.{said-value, first-part, second-part}
 use Rattle.judge.specs.Engine.{rowIn, firstCheck, secondCheck}
-
--- ---- the overflow fits its 17 bits
-
-pub gi-ltf-lt : (g s : ℕ) → giLtf g s < 4
-gi-ltf-lt g s = go (eqb s 3) (eqb g 2)
-  where
-    go : (t u : Bool) → cond t (cond u 3 2) (g % 2) < 4
-    go true true = omega arith
-    go true false = omega arith
-    go false u = omega arith
-
-pub overflow-of-lt : (x : ℕ) → overflowOf x < 2 ^ 17
-unfolding overflowOf
-overflow-of-lt x =
-    let u = unpack-fit data0Widths x in
-    let vs = unpack data0Widths x in
-    pack-lt overflowWidths (W.overflowIn vs)
-    (u .1 .0, (gi-ltf-lt (at vs 2) (at vs 3), (u .1 .1 .1 .1 .0, (u .1 .1 .1 .1 .1 .0, (u .1 .1 .1 .1 .1 .1 .0, (u .1 .1 .1 .1 .1 .1 .1 .0, (u .1 .1 .1 .1 .1 .1 .1 .1 .0, tt)))))))
 
 -- ---- one channel that is there
 
 module _ (bw : ℕ) (w : List ℕ) (c : ℕ) (h : Holds bw w c) where
   abbrev s : List ℕ
   s = candidate bw w c
-
-  pub said-overflow : overflow s ≡ overflowIn w
-  unfolding overflowIn
-  said-overflow = candidate-carries bw w c h .the-overflow ∙ mod-eq-of-lt (overflow-of-lt (at w 1))
-
-  pub said-value : (k : ℕ) → k < subfieldsIn bw c → value bw s k ≡ valueIn w c k
-  unfolding valueIn
-  said-value k l =
-      candidate-carries bw w c h .the-value k (rw (all-subfields bw w c h) at l) ∙ mod-eq-of-lt (value-of-lt w (positionIn c k))
-
-  pub said-field : (i : ℕ) → i < countIn bw w c → user bw s i ≡ fieldIn bw w c i
-  unfolding fieldIn
-  said-field i l = candidate-carries bw w c h .the-field i l ∙ mod-eq-of-lt (user-field-lt (at w (firstIn bw w c + i)))
-
-  -- its parts as numbers
-  value-is : (k : ℕ) → k < subfields bw → field s (valueAt bw k) 9 ≡ valueIn w c k
-  unfolding value
-  value-is k l = said-value k (rw (all-subfields bw w c h) l)
-
-  pub first-part : field s 0 (firstBits bw) ≡ firstOf bw (overflowIn w) (valueIn w c)
-  unfolding firstBits firstOf subfields
-  first-part =
-      field-split s 0 17 (9 * firsts bw)
-      ∙ ap₂ (λ (x y : ℕ). x + y * 2 ^ 17)
-      (candidate-carries bw w c h .the-overflow)
-      (field-gathered s 17 (valueIn w c) (firsts bw)
-      (λ k l. ap (λ (i : ℕ). field s i 9) (sym (value-first bw k l .0)) ∙ value-is k (omega arith)))
-
-  pub second-part : field s (secondAt bw) (secondBits bw) ≡ secondOf bw (valueIn w c)
-  unfolding secondBits secondOf subfields
-  second-part =
-      field-gathered s (secondAt bw) (λ k. valueIn w c (firsts bw + k)) (seconds bw)
-      (λ k l.
-      let d : firsts bw + k - firsts bw ≡ k = omega arith in
-      let g : valueAt bw (firsts bw + k) ≡ secondAt bw + 9 * k =
-      value-second bw (firsts bw + k) (omega arith) (omega arith) .0 ∙ ap (λ (j : ℕ). secondAt bw + 9 * j) d in
-      ap (λ (i : ℕ). field s i 9) (sym g) ∙ value-is (firsts bw + k) (omega arith))
 
   -- check and tail of a block together: the check of its number
   ten : (i n x : ℕ) → Right s i n → field s i n ≡ x → field s (i + n) 10 ≡ checkFrom 255 x n
@@ -109,10 +54,10 @@ module _ (bw : ℕ) (w : List ℕ) (c : ℕ) (h : Holds bw w c) where
   pub first-ten : field s (firstBits bw) 10 ≡ checkFrom 255 (firstOf bw (overflowIn w) (valueIn w c)) (firstBits bw)
   first-ten =
       let z : 0 + firstBits bw ≡ firstBits bw = omega arith in
-      rw z at (ten 0 (firstBits bw) (firstOf bw (overflowIn w) (valueIn w c)) (candidate-carries bw w c h .common-right .first-right) first-part)
+      rw z at (ten 0 (firstBits bw) (firstOf bw (overflowIn w) (valueIn w c)) (candidate-carries bw w c h .common-right .first-right) (first-part bw w c h))
 
   pub second-ten : hasSecond bw ≡ true → field s (secondAt bw + secondBits bw) 10 ≡ checkFrom 255 (secondOf bw (valueIn w c)) (secondBits bw)
-  second-ten e = ten (secondAt bw) (secondBits bw) (secondOf bw (valueIn w c)) (candidate-carries bw w c h .common-right .second-right e) second-part
+  second-ten e = ten (secondAt bw) (secondBits bw) (secondOf bw (valueIn w c)) (candidate-carries bw w c h .common-right .second-right e) (second-part bw w c h)
 
 -- ---- both channels
 

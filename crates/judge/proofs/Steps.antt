@@ -66,7 +66,11 @@ header-decides bw n w k h pa pb pc pd pe pf pg =
     (λ q. (
       (
         (
-          (((((q .known-word ∙ sym h, q .overflow-word), q .first-word), q .three-word 0 (omega arith)), q .three-word 1 (omega arith)), q .three-word 2 (omega arith)),
+          (
+            ((((q .known-word ∙ sym h, q .overflow-word), q .first-word), q .three-word 0 (omega arith)), q .three-word 1 (omega arith)),
+            q .three-word 2
+                (omega arith),
+          ),
           q .three-word 3 (omega arith),
         ),
         q .three-word 4 (omega arith),

@@ -30,7 +30,8 @@ use Rattle.bits.proofs.Windows.{field-low}
 use Rattle.register.specs.Engine.{checkFrom}
 use Rattle.plan.specs.Engine.{planOutcome}
 use Rattle.channel.specs.Fields.{overflowWidths}
-use Rattle.channel.specs.Layout.{positions, present, firsts, seconds, firstBits, secondAt, secondBits, hasSecond, common, overflow, ltfSymbols, row, count, userAt, user, endOf}
+use Rattle.channel.specs.Layout.{positions, present, firsts, seconds, firstBits, secondAt, secondBits, hasSecond, common, overflow, ltfSymbols, row, count}
+use Rattle.channel.specs.Layout.{userAt, user, endOf}
 use Rattle.channel.proofs.Laws.{present-1, row-length}
 use Rattle.channel.proofs.Blocks.{end-after}
 use Rattle.faults.specs.Checks.{tooLong, cutCommon, cutUsers}
@@ -54,7 +55,8 @@ use Rattle.candidate.proofs.Held.{needed-1, needed-2, needed-le, present-length
 use Rattle.same_words.specs.Engine.{unlike, sameWords}
 use Rattle.judge.specs.Engine.{readsTo, Overflow, slotOf, firstFrom, threeFrom, Header, rowIn, firstCheck, secondCheck, Checked}
 use Rattle.judge.specs.Engine.{formatted, formatIn, Formatted, stationOn, Told}
-use Rattle.judge.proofs.Said.{said-overflow, said-field, first-ten, second-ten, count-1, count-2, row-is}
+use Rattle.candidate.proofs.Said.{said-overflow, said-field}
+use Rattle.judge.proofs.Said.{first-ten, second-ten, count-1, count-2, row-is}
 use Rattle.judge.proofs.Words.{decides, both, few-size, top-part, formatted-made, made-formatted, station-bits}
 use Rattle.judge.proofs.Steps.{value-at}
 use Rattle.plan.proofs.Carried.{plan-carried}

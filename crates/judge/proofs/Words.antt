@@ -21,7 +21,7 @@ use Rattle.words.specs.Engine.{giLtf, overflowOf, valueOf, aloneIn, sharedIn, f
 use Rattle.words.specs.Engine as W
 use Rattle.words.proofs.Laws.{user-word-lt, shared-parts, alone-parts, value-of-lt}
 use Rattle.judge.specs.Engine.{Overflow, slotOf, firstFrom, threeFrom, formatted}
-use Rattle.judge.proofs.Said.{gi-ltf-lt}
+use Rattle.candidate.proofs.Said.{gi-ltf-lt}
 
 -- a test that is true exactly where a fact holds
 pub decides : {A : Type 0} (t : Bool) → (t ≡ true → A) → (A → t ≡ true) → Decides t A
@@ -103,8 +103,13 @@ module _ (x : ℕ) where
   unfolding overflowOf
   overflow-parts =
       let u = unpack-fit data0Widths x in
-      unpack-pack overflowWidths (W.overflowIn parts)
-      (u .1 .0, (gi-ltf-lt (at parts 2) (at parts 3), (u .1 .1 .1 .1 .0, (u .1 .1 .1 .1 .1 .0, (u .1 .1 .1 .1 .1 .1 .0, (u .1 .1 .1 .1 .1 .1 .1 .0, (u .1 .1 .1 .1 .1 .1 .1 .1 .0, tt)))))))
+      unpack-pack overflowWidths (W.overflowIn parts) (
+        u .1 .0,
+        (
+          gi-ltf-lt (at parts 2) (at parts 3),
+          (u .1 .1 .1 .1 .0, (u .1 .1 .1 .1 .1 .0, (u .1 .1 .1 .1 .1 .1 .0, (u .1 .1 .1 .1 .1 .1 .1 .0, (u .1 .1 .1 .1 .1 .1 .1 .1 .0, tt))))),
+        ),
+      )
 
   pub symbols-are : overflowOf x / 2 ^ 6 % 2 ^ 3 ≡ x / 2048 % 8
   symbols-are =

@@ -168,7 +168,8 @@ fn run_formatted(words: &[u32], j: usize, m: usize, shared: bool) -> bool
 fn channel_formatted(words: &[u32], first: usize, bw: u32, c: u32, row: &[u16], shared: u32) -> bool
     requires { ⌜ (bw ≤ 4) × (1 ≤ c) × (c ≤ 2) × (now row ≡ rowIn bw (now words)) × Formats (now row) shared
         × (first ≤ 82) × (first + countIn bw (now words) c ≤ length (now words)) ⌝ }
-    ensures { λ r. ⌜ r ≡ every (λ j. formatted (formatIn bw (now (words .entry)) c j) (at (now (words .entry)) (first + j))) (countIn bw (now (words .entry)) c) ⌝ }
+    ensures { λ r. ⌜ r
+        ≡ every (λ j. formatted (formatIn bw (now (words .entry)) c j) (at (now (words .entry)) (first + j))) (countIn bw (now (words .entry)) c) ⌝ }
 {
     let n = channel::subfields_of(bw, c);
     let mut all = true;

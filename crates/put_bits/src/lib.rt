@@ -57,6 +57,24 @@ fn put_window(d: &mut [u8], i: usize, w: u32)
     d[i + 3] = (w / 16777216 % 256) as u8;
 }
 
+// Where the second half of eight bytes from byte i on is put, of n bytes: after the first, or so that it ends with them.
+fn half_at(i: usize, n: usize) -> usize
+    requires { ⌜ (i + 3 < n) × (n < 2 ^ 63) ⌝ }
+    ensures { λ r. ⌜ (i ≤ r) × (r ≤ i + 4) × (r + 3 < n) × (r < i + 4 → r + 4 ≡ n) ⌝ }
+{
+    if i + 8 <= n { i + 4 } else { n - 4 }
+}
+
+// The 64 bits from the start of byte i made those of x: two stores.
+pub fn put_eight(d: &mut [u8], i: usize, x: u64)
+    requires { ⌜ (i + 3 < length (now d)) × (length (now d) < 2 ^ 63) ⌝ }
+    ensures { λ _. ⌜ now (d .exit) ≡ put (now (d .entry)) (8 * i) 64 x ⌝ }
+{
+    let j = half_at(i, d.len());
+    put_window(d, i, (x % 4294967296) as u32);
+    put_window(d, j, ((x >> (8 * (j - i))) % 4294967296) as u32);
+}
+
 // The n bits from `at` made those of v: through one window where its four bytes are there, as `field_at` reads them.
 pub fn put_field(d: &mut [u8], at: usize, n: usize, v: u32)
     requires { ⌜ (n ≤ 32) × (at + n < 2 ^ 64) ⌝ }

@@ -29,11 +29,11 @@ use Rattle.reader.proofs.read.Reads as read
 use Rattle.candidate.specs.Engine.{needed, candidate}
 use Rattle.candidate.specs.Length.{bytesFor}
 use Rattle.candidate.proofs.Held.{present-length}
+use Rattle.candidate.proofs.Parts.{candidate-small}
 use Rattle.judge.specs.Engine.{readsTo}
 use Rattle.writer.specs.Worked.{ReadsTo, someRead}
 use Rattle.writer.specs.Result.{check13, writeOutcome, writeChecks, writeAnswer}
 use Rattle.writer.proofs.Candidate.{reads-to-says, says-reads-to, candidate-reads, accepted-known}
-use Rattle.writer.proofs.Worked.{candidate-small}
 use Rattle.writer.proofs.Exactly as W
 use Rattle.writer.proofs.write.Reads as write
 use Rattle.writer.specs.Inverse.{Accepts, GivenBack}

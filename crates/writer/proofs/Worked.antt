@@ -9,17 +9,12 @@ use Rattle.bits.specs.Bits.{Small}
 use Rattle.answer.specs.Decides.{Decides}
 use Rattle.channel.specs.Layout.{present, count}
 use Rattle.frame_words.specs.Words.{wordsOf}
-use Rattle.candidate.specs.Engine.{countIn, channelIn, candidate}
 use Rattle.candidate.specs.Length.{bytesFor}
-use Rattle.candidate.proofs.Built.{sealed-small}
+use Rattle.candidate.proofs.Parts.{candidate-small}
 use Rattle.candidate.proofs.Held.{present-length, absent-length}
 use Rattle.judge.specs.Engine.{readsTo}
 use Rattle.writer.specs.Worked.{ReadsTo, SomeRead, SameThenZero, theChannel, theBytes, someRead, Worked}
 use Rattle.writer.proofs.Candidate.{reads-to-says, says-reads-to, candidate-reads, same-1, same-2, zero-1, zero-2, needed-of}
-
-pub candidate-small : (bw : ℕ) (w : List ℕ) (c : ℕ) → Small (candidate bw w c)
-unfolding candidate channelIn
-candidate-small bw w c = sealed-small bw (countIn bw w c) _
 
 module _ (bw : ℕ) (w : List ℕ) where
   decided : Decides (someRead bw w) (SomeRead bw w)

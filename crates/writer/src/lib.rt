@@ -3,56 +3,44 @@
 use answer::Answer;
 use answer::Outcome;
 ghost use mathlib.Core.Path.{_≡_};
-ghost use mathlib.Core.Bool.{true, cond};
+ghost use mathlib.Core.Bool.{true};
 ghost use Rattle.answer.specs.Answer.{no};
 ghost use Prim.Native.Nat.{_≤_};
-ghost use lib.ListN.{length, replicate};
+ghost use lib.ListN.{length};
 ghost use Rattle.channel.specs.Layout.{present};
-ghost use Rattle.candidate.specs.Engine.{countIn, firstIn, needed, bytesIn, candidate};
-ghost use Rattle.judge.specs.Engine.{readsTo};
+ghost use Rattle.candidate.specs.Engine.{Users, countIn, bytesIn, candidate};
+ghost use Rattle.judge.specs.Engine.{readsTo, rowIn};
 ghost use Rattle.writer.specs.Room.{noChannelRoom};
 ghost use Rattle.writer.specs.Result.{front, writeAnswer, channelAfter};
 
 // ---- the channels
 
-fn clear(d: &mut [u8])
-    ensures { λ _. ⌜ now (d .exit) ≡ replicate (length (now (d .entry))) 0 ⌝ }
-{
-    let mut i: usize = 0;
-    while i < d.len() {
-        d[i] = 0;
-        i += 1;
-    }
-}
-
-// Channel c of n User fields, whose words start at `first`, in exactly its bytes.
-fn build(d: &mut [u8], bw: u32, words: &[u32], c: u32, first: usize, n: usize)
-    requires { ⌜ (1 ≤ c) × (c ≤ 2) × (first ≤ 82) × (n ≤ 72) × (first ≡ firstIn bw (now words) c) × (n ≡ countIn bw (now words) c)
-        × (length (now d) ≡ bytesIn bw (now words) c) ⌝ }
-    ensures { λ _. ⌜ now (d .exit) ≡ candidate bw (now (words .entry)) c ⌝ }
-{
-    clear(d);
-    candidate::fill(d, bw, words, c, first, n);
-}
-
-// The same at the front of the lent bytes.
-fn put_channel(d: &mut [u8], need: usize, bw: u32, words: &[u32], c: u32, first: usize, n: usize)
-    requires { ⌜ (1 ≤ c) × (c ≤ 2) × (first ≤ 82) × (n ≤ 72) × (first ≡ firstIn bw (now words) c) × (n ≡ countIn bw (now words) c)
+// Channel c of n User fields, whose words start at `first`, at the front of the lent bytes.
+fn put_channel(
+    d: &mut [u8],
+    need: usize,
+    bw: u32,
+    words: &[u32],
+    row: &[u16],
+    c: u32,
+    first: usize,
+    n: usize,
+)
+    requires { ⌜ (bw ≤ 4) × (1 ≤ c) × (c ≤ 2) × (present bw c ≡ true) × (now row ≡ rowIn bw (now words)) × Users bw (now words) c first n
         × (need ≡ bytesIn bw (now words) c) × (need ≤ length (now d)) ⌝ }
     ensures { λ _. ⌜ now (d .exit) ≡ front (candidate bw (now (words .entry)) c) (now (d .entry)) ⌝ }
 {
-    build(&mut d[..need], bw, words, c, first, n);
+    candidate::build(&mut d[..need], bw, words, row, c, first, n);
 }
 
-// Bytes of a channel: none of one that the bandwidth lacks.
-fn bytes_in(bw: u32, channel: u32, need: usize) -> usize
-    ensures { λ r. ⌜ r ≡ cond (present bw channel) need 0 ⌝ }
-    ensures { λ r. ⌜ r ≤ need ⌝ }
+// Channel 2 of n User fields, which 20 MHz lacks.
+fn put_other(d: &mut [u8], need: usize, bw: u32, words: &[u32], row: &[u16], first: usize, n: usize)
+    requires { ⌜ (bw ≤ 4) × (now row ≡ rowIn bw (now words)) × Users bw (now words) 2 first n
+        × (present bw 2 ≡ true → (need ≡ bytesIn bw (now words) 2) × (need ≤ length (now d))) ⌝ }
+    ensures { λ _. ⌜ now (d .exit) ≡ front (candidate bw (now (words .entry)) 2) (now (d .entry)) ⌝ }
 {
-    if channel::is_present(bw, channel) {
-        need
-    } else {
-        0
+    if channel::is_present(bw, 2) {
+        put_channel(d, need, bw, words, row, 2, first, n);
     }
 }
 
@@ -80,9 +68,17 @@ fn refused(number: u32) -> Answer
 }
 
 // Words that are told, of n and m User fields: 14, or both channels.
-fn write_told(bw: u32, words: &[u32], n: usize, m: usize, cc1: &mut [u8], cc2: &mut [u8]) -> Answer
-    requires { ⌜ (bw ≤ 4) × (readsTo bw (candidate bw (now words) 1) (candidate bw (now words) 2) (now words) ≡ true)
-        × (n ≡ countIn bw (now words) 1) × (m ≡ countIn bw (now words) 2) × (n ≤ 72) × (m ≤ 72) ⌝ }
+fn write_told(
+    bw: u32,
+    words: &[u32],
+    row: &[u16],
+    n: usize,
+    m: usize,
+    cc1: &mut [u8],
+    cc2: &mut [u8],
+) -> Answer
+    requires { ⌜ (bw ≤ 4) × (now row ≡ rowIn bw (now words)) × (readsTo bw (candidate bw (now words) 1) (candidate bw (now words) 2) (now words) ≡ true)
+        × (n ≡ countIn bw (now words) 1) × (m ≡ countIn bw (now words) 2) ⌝ }
     ensures { λ r. ⌜ r ≡ writeAnswer bw (now (words .entry)) (length (now (cc1 .entry))) (length (now (cc2 .entry))) ⌝ }
     ensures { λ _. ⌜ now (cc1 .exit) ≡ channelAfter bw (now (words .entry)) (length (now (cc1 .entry))) (length (now (cc2 .entry))) 1 (now (cc1 .entry)) ⌝ }
     ensures { λ _. ⌜ now (cc2 .exit) ≡ channelAfter bw (now (words .entry)) (length (now (cc1 .entry))) (length (now (cc2 .entry))) 2 (now (cc2 .entry)) ⌝ }
@@ -92,8 +88,8 @@ fn write_told(bw: u32, words: &[u32], n: usize, m: usize, cc1: &mut [u8], cc2: &
     if let Outcome::Refuse(x) = outcome {
         return x;
     }
-    put_channel(cc1, need, bw, words, 1, 10, n);
-    put_channel(cc2, bytes_in(bw, 2, need), bw, words, 2, 10 + n, m);
+    put_channel(cc1, need, bw, words, row, 1, 10, n);
+    put_other(cc2, need, bw, words, row, 10 + n, m);
     Answer {
         number: 0,
         channel: 0,
@@ -122,5 +118,13 @@ pub fn write(bandwidth: u32, words: &[u32], cc1: &mut [u8], cc2: &mut [u8]) -> A
     if !verdict.told {
         return refused(13);
     }
-    write_told(bandwidth, words, verdict.fields1, verdict.fields2, cc1, cc2)
+    write_told(
+        bandwidth,
+        words,
+        &row[..p],
+        verdict.fields1,
+        verdict.fields2,
+        cc1,
+        cc2,
+    )
 }

@@ -47,7 +47,8 @@ returns c =
     c .before .before .before .before .before .first-of .ensures .1
     ∙ ap (λ (o : ℕ). firstOf (s .args .bw) o (λ k. at (s .args .row .now) (positionIn 1 k))) v
     ∙ first-on-row (s .args .bw) w (s .args .row .now) (overflowIn w) (s .pre .0) (s .pre .2) in
-    checked-decides (s .args .bw) w _ _ (c .before .before .before .check-of .ensures ∙ first-check (s .args .bw) w _ _ x (c .before .before .before .before .first-bits .ensures .0))
+    checked-decides (s .args .bw) w _ _
+    (c .before .before .before .check-of .ensures ∙ first-check (s .args .bw) w _ _ x (c .before .before .before .before .first-bits .ensures .0))
     (c .before .before .second-word .ensures)
 
 pub are-checked-spec : {M : Type 1} → statement M

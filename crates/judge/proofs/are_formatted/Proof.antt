@@ -20,7 +20,8 @@ returns c =
     let s = c .before .before .before .before in
     let a = s .args in
     rw (c .run-formatted .ensures)
-    (lone-decides (a .bw) (a .words .now) (s .pre .0) (a .row .now) (a .n) (a .m) (s .pre .1) (rw (← c .before .if1 .taken) (s .pre .2)) (s .pre .3) (s .pre .4))
+    (lone-decides (a .bw) (a .words .now) (s .pre .0) (a .row .now) (a .n) (a .m) (s .pre .1) (rw (← c .before .if1 .taken) (s .pre .2)) (s .pre .3)
+    (s .pre .4))
 
 channel-formatted-requires : tie.Need-channel-formatted-requires
 channel-formatted-requires c κs =
@@ -57,7 +58,8 @@ returns-3 c =
     let s = c .before .before .before .before .before .before in
     let a = s .args in
     rw (c .channel-formatted2 .ensures)
-    (second-decides (a .bw) (a .words .now) (s .pre .0) (a .n) (s .pre .3) (sym (c .before .before .channel-formatted .ensures) ∙ not-false _ (c .before .if2 .left)))
+    (second-decides (a .bw) (a .words .now) (s .pre .0) (a .n) (s .pre .3)
+    (sym (c .before .before .channel-formatted .ensures) ∙ not-false _ (c .before .if2 .left)))
 
 pub are-formatted-spec : {M : Type 1} → statement M
 are-formatted-spec =

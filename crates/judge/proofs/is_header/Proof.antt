@@ -57,9 +57,15 @@ shared-slice-read-result-2 c = search needs
 
 returns : tie.Need-returns
 returns c =
-    let s = c .before .before .before .before .before .before .before .before .before .before .before .before .before .before .before .before .before .before .args in
-    header-decides (s .bw) (s .n) (s .words .now) (c .before .before .before .before .before .before .before .before .before .before .before .before .before .before .before .known-word .result) (c .before .before .before .before .before .before .before .before .before .before .before .before .before .before .before .known-word .ensures)
-    (c .before .before .before .before .before .before .before .before .before .before .before .before .before .is-overflow .ensures) (c .before .before .before .before .before .before .before .before .before .before .before .is-first .ensures) (c .before .before .before .before .before .before .before .before .before .is-three .ensures) (c .before .before .before .before .before .before .before .is-three2 .ensures)
+    let s =
+    c .before .before .before .before .before .before .before .before .before .before .before .before .before .before .before .before .before .before .args in
+    header-decides (s .bw) (s .n) (s .words .now)
+    (c .before .before .before .before .before .before .before .before .before .before .before .before .before .before .before .known-word .result)
+    (c .before .before .before .before .before .before .before .before .before .before .before .before .before .before .before .known-word .ensures)
+    (c .before .before .before .before .before .before .before .before .before .before .before .before .before .is-overflow .ensures)
+    (c .before .before .before .before .before .before .before .before .before .before .before .is-first .ensures)
+    (c .before .before .before .before .before .before .before .before .before .is-three .ensures)
+    (c .before .before .before .before .before .before .before .is-three2 .ensures)
     (c .before .before .before .before .before .is-three3 .ensures) (c .before .before .before .is-three4 .ensures) (c .before .is-three5 .ensures)
 
 pub is-header-spec : {M : Type 1} → statement M

@@ -25,7 +25,8 @@ returns : tie.Need-returns
 returns c =
     let s = c .before .before .before .before .before in
     let a = s .args in
-    untold-says (a .bw) (a .words .now) (s .pre .0) _ (c .untold .ensures) (λ t. c .before .before .are-checked .ensures .no (not-true _ (c .before .if1 .taken)) (t .checked))
+    untold-says (a .bw) (a .words .now) (s .pre .0) _ (c .untold .ensures)
+    (λ t. c .before .before .are-checked .ensures .no (not-true _ (c .before .if1 .taken)) (t .checked))
 
 plan-of-requires : tie.Need-plan-of-requires
 plan-of-requires c κs =
@@ -47,7 +48,8 @@ returns-2 c =
     let s = c .before .before .before .before .before .before .before .before in
     let a = s .args in
     let p = answers (c .before .before .before) in
-    untold-says (a .bw) (a .words .now) (s .pre .0) _ (c .untold2 .ensures) (λ t. pass-not-refuse (p ∙ ap planOutcome (s .pre .3) ∙ t .laid) (c .before .enum-told .given .1))
+    untold-says (a .bw) (a .words .now) (s .pre .0) _ (c .untold2 .ensures)
+    (λ t. pass-not-refuse (p ∙ ap planOutcome (s .pre .3) ∙ t .laid) (c .before .enum-told .given .1))
 
 -- it passes
 laid : (c : tie.After-enum-told2) → let s = c .before .before .before .before .before .before .before in planOutcome (s .args .row .now) ≡ Pass
@@ -95,7 +97,8 @@ returns-4 : tie.Need-returns-4
 returns-4 c =
     let s = c .before .before .before .before .before .before .before .before .before .before .before in
     let a = s .args in
-    untold-says (a .bw) (a .words .now) (s .pre .0) _ (c .untold4 .ensures) (λ t. c .before .before .are-formatted .ensures .no (not-true _ (c .before .if3 .taken)) (t .users))
+    untold-says (a .bw) (a .words .now) (s .pre .0) _ (c .untold4 .ensures)
+    (λ t. c .before .before .are-formatted .ensures .no (not-true _ (c .before .if3 .taken)) (t .users))
 
 add-any-again : tie.Need-add-any-again
 add-any-again c = let p = says (c .before .before .before) in omega (arith, p .most-1, p .most-2)
@@ -115,7 +118,8 @@ returns-5 c =
           (λ e. record {
             counted = c .before .before .before .if2 .left ∙ rw (n, m);
             the-header = s .pre .2;
-            checked = c .before .before .before .before .before .before .before .before .are-checked .ensures .yes (not-false _ (c .before .before .before .before .before .before .before .if1 .left));
+            checked = c .before .before .before .before .before .before .before .before .are-checked .ensures .yes
+                (not-false _ (c .before .before .before .before .before .before .before .if1 .left));
             laid = ap planOutcome (sym (s .pre .3)) ∙ laid (c .before .before .before .before);
             users = c .before .before .are-formatted .ensures .yes (not-false _ (c .before .if3 .left));
             once = sym (c .any-again .ensures ∙ rw (n, m)) ∙ e;

@@ -26,7 +26,9 @@ element-write-row : tie.Need-element-write-row Inv-loop μ-loop
 element-write-row c = search needs
 
 loop-holds : tie.Need-loop-holds Inv-loop μ-loop
-loop-holds c = let a = c .before .args in (omega arith, simp length-set (c .before .pre .0), front-first (a .words .now) (a .row .now) _ (omega (arith, c .before .pre .0)) refl)
+loop-holds c =
+    let a =
+    c .before .args in (omega arith, simp length-set (c .before .pre .0), front-first (a .words .now) (a .row .now) _ (omega (arith, c .before .pre .0)) refl)
 
 mul-loop : tie.Need-mul-loop Inv-loop μ-loop
 mul-loop c = search needs

@@ -14,7 +14,8 @@ unfolding secondWord
 returns c = rw (lt-ltb _ _ (c .if1 .taken))
 
 second-of-requires : tie.Need-second-of-requires
-second-of-requires c κs = let s = c .before .before .before in (omega arith, omega arith, room-for (s .args .bw) (s .args .words .now) (s .args .row .now) (s .pre .0) (s .pre .1))
+second-of-requires c κs =
+    let s = c .before .before .before in (omega arith, omega arith, room-for (s .args .bw) (s .args .words .now) (s .args .row .now) (s .pre .0) (s .pre .1))
 
 second-bits-requires : tie.Need-second-bits-requires
 second-bits-requires c κs = search needs

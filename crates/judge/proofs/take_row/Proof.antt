@@ -23,8 +23,10 @@ returns-2 : tie.Need-returns-2
 returns-2 c =
     let s = c .before .before .before .before .before in
     let n = c .before .before .before .positions-of .ensures .0 in
-    let h = c .before .is-header .ensures in
-    (record { yes = λ e. absurd (true≢false (sym e)); no = λ e g. h .no (not-true _ (c .if2 .taken)) (rw n (g .1)) }, (s .pre .1, λ e. absurd (true≢false (sym e))))
+    let h = c .before .is-header .ensures in (
+      record { yes = λ e. absurd (true≢false (sym e)); no = λ e g. h .no (not-true _ (c .if2 .taken)) (rw n (g .1)) },
+      (s .pre .1, λ e. absurd (true≢false (sym e))),
+    )
 
 put-row-requires : tie.Need-put-row-requires
 put-row-requires c κs = (c .before .before .before .before .before .before .pre .1, c .before .before .before .before .positions-of .ensures .1, omega arith)
@@ -33,7 +35,8 @@ returns-3 : tie.Need-returns-3
 returns-3 c =
     let s = c .before .before .before .before .before .before .before in
     let n = c .before .before .before .before .before .positions-of .ensures .0 in
-    let h : Header (s .args .bw) (positions (s .args .bw)) (s .args .words .now) = rw (← n) (c .before .before .before .is-header .ensures .yes (not-false _ (c .before .before .if2 .left))) in
+    let h : Header (s .args .bw) (positions (s .args .bw)) (s .args .words .now) =
+    rw (← n) (c .before .before .before .is-header .ensures .yes (not-false _ (c .before .before .if2 .left))) in
     let p = c .put-row .ensures in
     (record { yes = λ e. (omega arith, h); no = λ e d. true≢false e }, (p .0, λ e. rw (← n) (p .1)))
 

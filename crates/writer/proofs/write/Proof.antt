@@ -5,7 +5,6 @@ use native.Mathlib.Omega.{arith}
 use lib.ListN.{length}
 use lib.Seq.{length-take-le}
 use borrow.Author.Tests.{not-true, not-false}
-use Rattle.candidate.proofs.Held.{count-in-le}
 use Rattle.judge.specs.Engine.{Told}
 use Rattle.judge.proofs.Steps.{row-front}
 use Rattle.judge.proofs.Told.{not-told}
@@ -49,7 +48,9 @@ array-share-prefix-row c = omega (arith, c .positions-of .ensures .1, c .before 
 
 slice-aggregate-judge : tie.Need-slice-aggregate-judge
 slice-aggregate-judge c =
-    sym (length-take-le _ (c .before .before .before .take-row .last .0) (omega (arith, c .before .positions-of .ensures .1, c .before .before .before .take-row .ensures .1 .0)))
+    sym
+    (length-take-le _ (c .before .before .before .take-row .last .0)
+    (omega (arith, c .before .positions-of .ensures .1, c .before .before .before .take-row .ensures .1 .0)))
 
 judge-requires : tie.Need-judge-requires
 judge-requires c κs =
@@ -71,21 +72,34 @@ returns-3 : tie.Need-returns-3
 unfolding writeAnswer channelAfter
 returns-3 c =
     let a = c .before .before .before .before .before .before .before .before .before .before .before .before .before .args in
-    let e = thirteen-outcome (a .bandwidth) (a .words .now) (length (a .cc1 .now)) (length (a .cc2 .now)) (omega arith) (sym (c .before .before .before .judge .ensures .0) ∙ not-true _ (c .before .if3 .taken)) in
+    let e =
+    thirteen-outcome (a .bandwidth) (a .words .now) (length (a .cc1 .now)) (length (a .cc2 .now)) (omega arith)
+    (sym (c .before .before .before .judge .ensures .0) ∙ not-true _ (c .before .if3 .taken)) in
     (c .refused3 .ensures ∙ rw e, (rw e, rw e))
+
+array-share-prefix-row-2 : tie.Need-array-share-prefix-row-2
+array-share-prefix-row-2 c =
+    omega (arith, c .before .before .before .before .positions-of .ensures .1, c .before .before .before .before .before .before .take-row .ensures .1 .0)
+
+slice-aggregate-write-told : tie.Need-slice-aggregate-write-told
+slice-aggregate-write-told c =
+    let r = c .before .before .before .before .before .before .before .take-row in
+    sym (length-take-le _ (r .last .0) (omega (arith, c .before .before .before .before .before .positions-of .ensures .1, r .ensures .1 .0)))
 
 write-told-requires : tie.Need-write-told-requires
 write-told-requires c κs =
-    let a = c .before .before .before .before .before .before .before .before .before .before .before .before .before .before .args in
-    let t = not-false _ (c .before .before .if3 .left) in
-    let v = c .before .before .before .before .judge .ensures in
-    let n = v .1 t in (
+    let a = c .before .before .before .before .before .before .before .before .before .before .before .before .before .before .before .args in
+    let t = not-false _ (c .before .before .before .if3 .left) in
+    let v = c .before .before .before .before .before .judge .ensures in
+    let n = v .1 t in
+    let r = c .before .before .before .before .before .before .before .before .before .take-row .ensures in
+    let p = c .before .before .before .before .before .before .before .positions-of .ensures in (
       omega arith,
+      row-front (a .bandwidth) (a .words .now) _ (c .before .before .before .before .before .before .before .positions-of .result) (p .0)
+          (omega (arith, p .1, r .1 .0)) (r .1 .1 (not-false _ (c .before .before .before .before .before .before .before .before .if2 .left))),
       sym (v .0) ∙ t,
       n .0,
       n .1,
-      rw (n .0) (count-in-le (a .bandwidth) (a .words .now) 1),
-      rw (n .1) (count-in-le (a .bandwidth) (a .words .now) 2),
     )
 
 same-length : tie.Need-same-length
@@ -112,6 +126,8 @@ write-spec =
     judge-requires
     refused-requires-3
     returns-3
+    array-share-prefix-row-2
+    slice-aggregate-write-told
     write-told-requires
     same-length
     same-length-2
