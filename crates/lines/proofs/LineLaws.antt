@@ -2,7 +2,7 @@
 use mathlib.Core.Path.{_≡_, refl, sym, ap, _∙_}
 use mathlib.Core.Logic.{_≢_}
 use mathlib.Core.Bool.{Bool, true, false, not, cond}
-use mathlib.Core.List.{List, _++_}
+use mathlib.Core.List.{List, _++_, append-assoc}
 use Prim.Native.Nat.{ℕ, _+_, _-_, _*_, _≤_, _<_}
 use native.Mathlib.Omega.{arith}
 use lib.Dec.{eqb}
@@ -11,9 +11,10 @@ use borrow.Author.Tests.{eq-eqb, ne-eqb, eqb-true, eqb-false}
 use Rattle.text.specs.Text.{codes, dec, keyed, line}
 use Rattle.text.proofs.Laws.{dec-fit, dec-digit}
 use Rattle.stores.specs.Engine.{bytesOf, leadOf, digitsOf, endedOf}
-use Rattle.stores.proofs.Laws.{joined, lead-most, digits-bytes, ended-bytes}
-use Rattle.lines.specs.Lines.{assigned, idText, staLine}
-use Rattle.lines.specs.Engine.{idWord}
+use Rattle.stores.proofs.Laws.{joined, lead-most, digits-bytes, ended-bytes, same, same-equal}
+use Rattle.resource.proofs.Test.{every-below}
+use Rattle.lines.specs.Lines.{assigned, idText, staLine, headText}
+use Rattle.lines.specs.Engine.{idWord, countsText}
 
 -- none is as long as a number of four digits
 pub id-short : (id : ℕ) → id < 10000 → length (idText id) ≤ 4
@@ -56,7 +57,8 @@ id-bytes id l = go (eqb id 2046) refl
     go false e = digits-bytes id l
 
 pub sta-bytes : (id r : ℕ) → id < 10000 → r < 10000
-    → bytesOf (4 - leadOf id + 4) (1029796979 + 4294967296 * idWord id) ++ (bytesOf 8 7165919078637728288 ++ bytesOf (3 - leadOf r + 4) (15717 + 65536 * endedOf r 10))
+    → bytesOf (4 - leadOf id + 4) (1029796979 + 4294967296 * idWord id)
+    ++ (bytesOf 8 7165919078637728288 ++ bytesOf (3 - leadOf r + 4) (15717 + 65536 * endedOf r 10))
     ≡ staLine id r
 unfolding staLine
 sta-bytes id r l h =
@@ -72,3 +74,31 @@ sta-bytes id r l h =
       ended-bytes r 10 h (omega arith),
     )
     refl
+
+-- ---- the lines before the resources, in numbers of eight bytes
+bw-test : ℕ → Bool
+bw-test bw = same (bytesOf 8 (7309916347481678346 + 4294967296 * bw)) (codes "\nbw=" ++ (dec bw ++ codes "\nre"))
+
+bw-bytes : (bw : ℕ) → bw < 10 → bytesOf 8 (7309916347481678346 + 4294967296 * bw) ≡ codes "\nbw=" ++ (dec bw ++ codes "\nre")
+unfolding bw-test dec
+bw-bytes bw l = same-equal _ _ (every-below bw-test 10 tt bw l)
+
+nested : (a l b w e o r f u g v s q t : List ℕ)
+    → a ++ (((l ++ b) ++ (w ++ (l ++ e))) ++ (o ++ ((r ++ l) ++ (f ++ ((u ++ l) ++ (g ++ ((v ++ l) ++ (s ++ (q ++ (t ++ l))))))))))
+    ≡ (((((a ++ l) ++ ((b ++ w) ++ l)) ++ (((e ++ o) ++ r) ++ l)) ++ ((f ++ u) ++ l)) ++ ((g ++ v) ++ l)) ++ (((s ++ q) ++ t) ++ l)
+nested a l b w e o r f u g v s q t = simp append-assoc refl
+
+zero-text : dec 0 ≡ codes "0"
+unfolding dec
+zero-text = refl
+
+pub head-bytes : (bw r m k s : ℕ) → bw < 10
+    → bytesOf 8 3476060267521207905
+    ++ (bytesOf 8 (7309916347481678346 + 4294967296 * bw) ++ (bytesOf 8 4427994336431796083 ++ ((dec r ++ codes "\n") ++ countsText m k s)))
+    ≡ headText bw r m k s
+unfolding headText countsText
+head-bytes bw r m k s l =
+    ap (λ (t : List ℕ). codes "answer=0" ++ (t ++ (codes "sources=" ++ ((dec r ++ codes "\n") ++ countsText m k s)))) (bw-bytes bw l)
+    ∙ nested (codes "answer=0") (codes "\n") (codes "bw=") (dec bw) (codes "re") (codes "sources=") (dec r) (codes "fields1=") (dec m)
+    (codes "fields2=") (dec k) (codes "stations") (codes "=") (dec s)
+    ∙ rw zero-text refl

@@ -11,7 +11,7 @@ use borrow.Author.Tests.{eq-eqb}
 use Rattle.resource.specs.declared.Size.the-variants.{S26, S52, S106, S242, S484, S996, S2x996}
 use Rattle.resource.specs.declared.Piece.{Piece}
 use Rattle.resource.specs.declared.Piece.the-variants.{Part, With26}
-use Rattle.resource.specs.Values.{ownPieces}
+use Rattle.resource.specs.Values.{between, ownPieces}
 use Rattle.resource.specs.Index.{isPiece, fromPositions, indexOf, resourceAt}
 use Rattle.resource.specs.Names.{numberOf}
 use Rattle.resource.specs.Engine.{runsOf, edge, noPiece, wide, wideWith26, narrow, narrowWith26}
@@ -23,6 +23,10 @@ use Rattle.piece_codes.specs.Engine.{codeOf, packed, codesOf, pieceOf, i
 use Rattle.piece_codes.specs.Engine.{eachOf, indexAt}
 
 -- ---- subcarriers
+-- a place past the last
+many : {A : Type 0} (m i : ℕ) → T (between 1 m i) → m < i → A
+many m i t l = absurd (omega (arith, leb→le i m (both-right (leb 1 i) (leb i m) t), l))
+
 wide-runs : (p : ℕ) (x : Piece) → T (isPiece x) → fromPositions x ≡ 1 → runsAt 2 p x ≡ runsBy (edge p) (wideWord x)
 unfolding isPiece fromPositions runsBy wide wideWith26 offset26 offset52 offset106
 wide-runs p (Part S26 zero) t f = absurd t
@@ -35,17 +39,20 @@ wide-runs p (Part S26 (suc (suc (suc (suc (suc (suc zero))))))) t f = refl
 wide-runs p (Part S26 (suc (suc (suc (suc (suc (suc (suc zero)))))))) t f = refl
 wide-runs p (Part S26 (suc (suc (suc (suc (suc (suc (suc (suc zero))))))))) t f = refl
 wide-runs p (Part S26 (suc (suc (suc (suc (suc (suc (suc (suc (suc zero)))))))))) t f = refl
-wide-runs p (Part S26 (suc (suc (suc (suc (suc (suc (suc (suc (suc (suc i))))))))))) t f = absurd (omega (arith, leb→le (suc (suc (suc (suc (suc (suc (suc (suc (suc (suc i)))))))))) 9 (both-right (leb 1 (suc (suc (suc (suc (suc (suc (suc (suc (suc (suc i))))))))))) _ t)))
+wide-runs p (Part S26 (suc (suc (suc (suc (suc (suc (suc (suc (suc (suc i))))))))))) t f =
+    many 9 (suc (suc (suc (suc (suc (suc (suc (suc (suc (suc i)))))))))) t (omega arith)
 wide-runs p (Part S52 zero) t f = absurd t
 wide-runs p (Part S52 (suc zero)) t f = refl
 wide-runs p (Part S52 (suc (suc zero))) t f = refl
 wide-runs p (Part S52 (suc (suc (suc zero)))) t f = refl
 wide-runs p (Part S52 (suc (suc (suc (suc zero))))) t f = refl
-wide-runs p (Part S52 (suc (suc (suc (suc (suc i)))))) t f = absurd (omega (arith, leb→le (suc (suc (suc (suc (suc i))))) 4 (both-right (leb 1 (suc (suc (suc (suc (suc i)))))) _ t)))
+wide-runs p (Part S52 (suc (suc (suc (suc (suc i)))))) t f =
+    many 4 (suc (suc (suc (suc (suc i))))) t (omega arith)
 wide-runs p (Part S106 zero) t f = absurd t
 wide-runs p (Part S106 (suc zero)) t f = refl
 wide-runs p (Part S106 (suc (suc zero))) t f = refl
-wide-runs p (Part S106 (suc (suc (suc i)))) t f = absurd (omega (arith, leb→le (suc (suc (suc i))) 2 (both-right (leb 1 (suc (suc (suc i)))) _ t)))
+wide-runs p (Part S106 (suc (suc (suc i)))) t f =
+    many 2 (suc (suc (suc i))) t (omega arith)
 wide-runs p (Part S242 i) t f = own-place p ∙ rw (add-zero)
 wide-runs p (Part S484 i) t f = absurd (omega (arith, f))
 wide-runs p (Part S996 i) t f = absurd (omega (arith, f))
@@ -53,7 +60,8 @@ wide-runs p (Part S2x996 i) t f = absurd (omega (arith, f))
 wide-runs p (With26 zero) t f = absurd t
 wide-runs p (With26 (suc zero)) t f = refl
 wide-runs p (With26 (suc (suc zero))) t f = refl
-wide-runs p (With26 (suc (suc (suc i)))) t f = absurd (omega (arith, leb→le (suc (suc (suc i))) 2 (both-right (leb 1 (suc (suc (suc i)))) _ t)))
+wide-runs p (With26 (suc (suc (suc i)))) t f =
+    many 2 (suc (suc (suc i))) t (omega arith)
 
 narrow-runs : (x : Piece) → T (isPiece x) → fromPositions x ≡ 1 → runsAt 1 0 x ≡ runsBy 0 (narrowWord x)
 unfolding isPiece fromPositions runsBy narrow narrowWith26 narrow26 narrow52 narrow106
@@ -67,17 +75,20 @@ narrow-runs (Part S26 (suc (suc (suc (suc (suc (suc zero))))))) t f = refl
 narrow-runs (Part S26 (suc (suc (suc (suc (suc (suc (suc zero)))))))) t f = refl
 narrow-runs (Part S26 (suc (suc (suc (suc (suc (suc (suc (suc zero))))))))) t f = refl
 narrow-runs (Part S26 (suc (suc (suc (suc (suc (suc (suc (suc (suc zero)))))))))) t f = refl
-narrow-runs (Part S26 (suc (suc (suc (suc (suc (suc (suc (suc (suc (suc i))))))))))) t f = absurd (omega (arith, leb→le (suc (suc (suc (suc (suc (suc (suc (suc (suc (suc i)))))))))) 9 (both-right (leb 1 (suc (suc (suc (suc (suc (suc (suc (suc (suc (suc i))))))))))) _ t)))
+narrow-runs (Part S26 (suc (suc (suc (suc (suc (suc (suc (suc (suc (suc i))))))))))) t f =
+    many 9 (suc (suc (suc (suc (suc (suc (suc (suc (suc (suc i)))))))))) t (omega arith)
 narrow-runs (Part S52 zero) t f = absurd t
 narrow-runs (Part S52 (suc zero)) t f = refl
 narrow-runs (Part S52 (suc (suc zero))) t f = refl
 narrow-runs (Part S52 (suc (suc (suc zero)))) t f = refl
 narrow-runs (Part S52 (suc (suc (suc (suc zero))))) t f = refl
-narrow-runs (Part S52 (suc (suc (suc (suc (suc i)))))) t f = absurd (omega (arith, leb→le (suc (suc (suc (suc (suc i))))) 4 (both-right (leb 1 (suc (suc (suc (suc (suc i)))))) _ t)))
+narrow-runs (Part S52 (suc (suc (suc (suc (suc i)))))) t f =
+    many 4 (suc (suc (suc (suc (suc i))))) t (omega arith)
 narrow-runs (Part S106 zero) t f = absurd t
 narrow-runs (Part S106 (suc zero)) t f = refl
 narrow-runs (Part S106 (suc (suc zero))) t f = refl
-narrow-runs (Part S106 (suc (suc (suc i)))) t f = absurd (omega (arith, leb→le (suc (suc (suc i))) 2 (both-right (leb 1 (suc (suc (suc i)))) _ t)))
+narrow-runs (Part S106 (suc (suc (suc i)))) t f =
+    many 2 (suc (suc (suc i))) t (omega arith)
 narrow-runs (Part S242 i) t f = refl
 narrow-runs (Part S484 i) t f = absurd (omega (arith, f))
 narrow-runs (Part S996 i) t f = absurd (omega (arith, f))
@@ -85,7 +96,8 @@ narrow-runs (Part S2x996 i) t f = absurd (omega (arith, f))
 narrow-runs (With26 zero) t f = absurd t
 narrow-runs (With26 (suc zero)) t f = refl
 narrow-runs (With26 (suc (suc zero))) t f = refl
-narrow-runs (With26 (suc (suc (suc i)))) t f = absurd (omega (arith, leb→le (suc (suc (suc i))) 2 (both-right (leb 1 (suc (suc (suc i)))) _ t)))
+narrow-runs (With26 (suc (suc (suc i)))) t f =
+    many 2 (suc (suc (suc i))) t (omega arith)
 
 either : (n p : ℕ) (x : Piece) (t : Bool) → eqb n 1 ≡ t → runsAt n p x ≡ cond t (runsAt 1 0 x) (runsAt 2 p x)
 either n p (Part s i) true e = rw e

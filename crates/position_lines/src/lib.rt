@@ -107,8 +107,8 @@ fn put_pieces(out: &mut [u8], at: usize, n: u16, v: u16, p: usize) -> usize
     e
 }
 
-// The line of the larger resource of this kind, of which p is the lowest position.
-pub fn put_larger(out: &mut [u8], at: usize, row: &[u16], kind: u16, p: usize) -> usize
+// The line of the larger resource of this kind, of which p is the lowest position, into whatever room there is.
+fn put_larger_within(out: &mut [u8], at: usize, row: &[u16], kind: u16, p: usize) -> usize
     requires { ⌜ (at ≤ 600000) × (length (now row) ≤ 16) × (p < length (now row)) × (kind < 36) × (kind ≡ 0 → ⊥) × (p % span kind ≡ lead kind) ⌝ }
     ensures { λ r. ⌜ Wrote (now (out .entry)) at (runsLines (length (now (row .entry))) (listedAt (now (row .entry)) kind p)) (now (out .exit)) r ⌝ }
     ensures bounded { λ r. ⌜ r ≤ at + 460 * length (listedAt (now (row .entry)) kind p) ⌝ }
@@ -116,6 +116,22 @@ pub fn put_larger(out: &mut [u8], at: usize, row: &[u16], kind: u16, p: usize) -
     let n = row.len() as u16;
     let tones = records::larger_tones(kind, p);
     put_record(out, at, n, records::larger_record(kind, row, p), tones)
+}
+
+// The same, by whole stores where there is room.
+pub fn put_larger(out: &mut [u8], at: usize, row: &[u16], kind: u16, p: usize) -> usize
+    requires { ⌜ (at ≤ 600000) × (length (now row) ≤ 16) × (p < length (now row)) × (kind < 36) × (kind ≡ 0 → ⊥) × (p % span kind ≡ lead kind) ⌝ }
+    ensures { λ r. ⌜ Wrote (now (out .entry)) at (runsLines (length (now (row .entry))) (listedAt (now (row .entry)) kind p)) (now (out .exit)) r ⌝ }
+    ensures bounded { λ r. ⌜ r ≤ at + 460 * length (listedAt (now (row .entry)) kind p) ⌝ }
+{
+    if out.len() < at + 240 {
+        return put_larger_within(out, at, row, kind, p);
+    }
+    let users = kinds::total_of(kind, row, p);
+    if 10 <= users {
+        return put_larger_within(out, at, row, kind, p);
+    }
+    larger_line::put_line(out, at, row.len() as u32, kind, p as u32, users as u32)
 }
 
 // A line for each of the resources whose lowest position is p, which is given to this kind.

@@ -1,4 +1,5 @@
--- Engine: the subcarriers that the code is handed with a resource, and the start of its line in numbers. The contracts of the code cite it; nobody has to believe it:
+-- Engine: the subcarriers that the code is handed with a resource, and the start of its line in numbers. The contracts of the code cite it;
+-- nobody has to believe it:
 -- `proofs/Held.antt`,
 -- `proofs/Whole.antt`.
 use mathlib.Core.List.{List, [], _∷_, _++_, map}

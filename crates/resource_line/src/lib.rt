@@ -11,7 +11,8 @@ ghost use mathlib.Core.List.{_++_};
 ghost use Rattle.text.specs.Text.{codes, Wrote};
 ghost use Rattle.resource.specs.Engine.{spanOf};
 ghost use Rattle.resource_line.specs.ResourceLine.{sizeText, pairingText, nameText, comma, spanText, tonesText, ruName, ruHead, ruLine};
-ghost use Rattle.resource_line.specs.Engine.{heldSpans, sizeClass, pairingClass, classOf, keyOf, firstOf, lastOf, lastPlace, middleOf, countsText, startText};
+ghost use Rattle.resource_line.specs.Engine.{heldSpans, sizeClass, pairingClass, classOf, keyOf, countsText, startText};
+ghost use Rattle.resource_line.specs.Engine.{firstOf, lastOf, lastPlace, middleOf};
 
 fn put_size(out: &mut [u8], at: usize, size: Size) -> usize
     requires { ⌜ at ≤ 1000000 ⌝ }

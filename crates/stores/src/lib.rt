@@ -135,7 +135,8 @@ pub fn put_ended(out: &mut [u8], at: usize, u: u32, zero: u32, c: u64) -> usize
 // Two such integers with a colon between, and a byte after them.
 pub fn put_span(out: &mut [u8], at: usize, lo: u32, hi: u32, zero: u32, c: u64) -> usize
     requires { ⌜ (lo < 10000) × (hi < 10000) × (zero < 10000) × (c < 256) × (at + 12 ≤ length (now out)) × (at ≤ 1020000) ⌝ }
-    ensures { λ r. ⌜ Wrote (now (out .entry)) at ((signed (pos lo -ℤ pos zero) ++ codes ":") ++ (signed (pos hi -ℤ pos zero) ++ (c ∷ []))) (now (out .exit)) r ⌝ }
+    ensures { λ r. ⌜ Wrote (now (out .entry)) at ((signed (pos lo -ℤ pos zero) ++ codes ":") ++ (signed (pos hi -ℤ pos zero) ++ (c ∷ [])))
+        (now (out .exit)) r ⌝ }
     ensures bounded { λ r. ⌜ r ≤ at + 12 ⌝ }
 {
     let a = put_ended(out, at, lo, zero, 58);

@@ -21,7 +21,9 @@ add-result c = search needs
 
 -- src/lib.rt:125:9
 returns-2 : tie.Need-returns-2
-returns-2 c = (rw (ne-eqb (c .before .before .args .n) 1 (c .before .if1 .left), eq-eqb (c .before .before .args .p % 2) 0 (c .if2 .taken)), omega (arith, c .before .before .pre))
+returns-2 c =
+    let a = c .before .before .args in
+    (rw (ne-eqb (a .n) 1 (c .before .if1 .left), eq-eqb (a .p % 2) 0 (c .if2 .taken)), omega (arith, c .before .before .pre))
 
 -- src/lib.rt:127:5
 mul-result-2 : tie.Need-mul-result-2
@@ -33,7 +35,9 @@ add-result-2 c = search needs
 
 -- src/lib.rt:117:1
 returns-3 : tie.Need-returns-3
-returns-3 c = (rw (ne-eqb (c .before .before .args .n) 1 (c .before .if1 .left), ne-eqb (c .before .before .args .p % 2) 0 (c .if2 .left)), omega (arith, c .before .before .pre))
+returns-3 c =
+    let a = c .before .before .args in
+    (rw (ne-eqb (a .n) 1 (c .before .if1 .left), ne-eqb (a .p % 2) 0 (c .if2 .left)), omega (arith, c .before .before .pre))
 
 pub base-of-spec : {M : Type 1} → statement M
 base-of-spec =

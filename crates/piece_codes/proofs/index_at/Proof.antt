@@ -32,19 +32,29 @@ add-all c = omega (arith, few (c .each-of .result) (c .before .args .q) (c .each
 
 -- src/lib.rt:152:16
 add-result : tie.Need-add-result
-add-result c = omega (arith, few (c .before .each-of .result) (c .before .before .args .q) (c .before .each-of .ensures .1) (c .before .before .pre .0), c .before .before .pre .0)
+add-result c =
+    let e = c .before .each-of in
+    let s = c .before .before in
+    let f = few (e .result) (s .args .q) (e .ensures .1) (s .pre .0) in
+    omega (arith, f, s .pre .0)
 
 -- src/lib.rt:152:9
 returns : tie.Need-returns
 unfolding indexAt
 returns c =
-    (rw (c .before .each-of .ensures .0, eq-eqb (c .before .before .args .c / 16) 0 (c .if1 .taken)), omega (arith, few (c .before .each-of .result) (c .before .before .args .q) (c .before .each-of .ensures .1) (c .before .before .pre .0), c .before .before .pre .0))
+    let e = c .before .each-of in
+    let s = c .before .before in
+    let f = few (e .result) (s .args .q) (e .ensures .1) (s .pre .0) in
+    (rw (e .ensures .0, eq-eqb (s .args .c / 16) 0 (c .if1 .taken)), omega (arith, f, s .pre .0))
 
 -- src/lib.rt:145:1
 returns-2 : tie.Need-returns-2
 unfolding indexAt
 returns-2 c =
-    (rw (c .before .each-of .ensures .0, ne-eqb (c .before .before .args .c / 16) 0 (c .if1 .left), add-zero), omega (arith, few (c .before .each-of .result) (c .before .before .args .q) (c .before .each-of .ensures .1) (c .before .before .pre .0), c .before .before .pre .0))
+    let e = c .before .each-of in
+    let s = c .before .before in
+    let f = few (e .result) (s .args .q) (e .ensures .1) (s .pre .0) in
+    (rw (e .ensures .0, ne-eqb (s .args .c / 16) 0 (c .if1 .left), add-zero), omega (arith, f, s .pre .0))
 
 pub index-at-spec : {M : Type 1} → statement M
 index-at-spec = tie.close (tie.spec each-of-requires mul-all add-all add-result returns returns-2)

@@ -40,11 +40,14 @@ word-at-requires c κs = search needs
 -- src/lib.rt:67:5
 put-word-tones-requires : tie.Need-put-word-tones-requires
 put-word-tones-requires c κs =
-    let s = c .before .before .before .before .before .before .before .before .before in
+    let up = c .before .before .before .before in
+    let far = up .before .before .before .before in
+    let s = far .before in
     let w = c .before .word-at in
     let g = word-good (s .args .n) (s .args .c) (s .pre .2) (s .pre .3) in
-    let o = c .before .before .before .before .before .put-start .ensures .1 in
-    (s .pre .0, c .before .before .base-of .ensures .1, rw (w .ensures) (g .0), rw (w .ensures) (g .1), omega (arith, o, s .pre .5), omega (arith, o, s .pre .6))
+    let o = up .before .put-start .ensures .1 in
+    let b = c .before .before .base-of .ensures .1 in
+    (s .pre .0, b, rw (w .ensures) (g .0), rw (w .ensures) (g .1), omega (arith, o, s .pre .5), omega (arith, o, s .pre .6))
 
 -- src/lib.rt:58:1
 same-length : tie.Need-same-length
@@ -54,16 +57,19 @@ same-length c = search needs
 returns : tie.Need-returns
 unfolding codeLine ruLine
 returns c =
-    let s = c .before .before .before .before .before .before .before .before .before .before .before .before in
+    let up = c .before .before .before .before in
+    let far = up .before .before .before .before in
+    let top = far .before .before .before .before in
+    let s = top in
     let a = s .args in
     let r = resourceAt (a .p % 4) (pieceOf (a .c)) in
     let q : a .p % 4 < 4 = omega arith in
     let k = code-class (a .p % 4) (a .c) q (s .pre .2) (s .pre .3) in
     let i = code-index (a .p % 4) (a .c) q (s .pre .2) (s .pre .3) in
-    let o = c .before .before .before .before .before .before .before .before .put-start .ensures in
+    let o = far .put-start .ensures in
     let t = c .before .before .put-word-tones .ensures in
-    let head = rw (c .before .before .before .before .before .before .before .before .before .before .index-at .ensures .0, sym i, sym k, start-text (a .p / 4) (a .users) r) at (o .0) in
-    let runs = rw (c .before .before .before .before .before .base-of .ensures .0, c .before .before .before .before .word-at .ensures, sym (code-runs (a .n) (a .p) (a .c) (s .pre .3))) at (t .0) in
+    let head = rw (far .before .before .index-at .ensures .0, sym i, sym k, start-text (a .p / 4) (a .users) r) at (o .0) in
+    let runs = rw (up .before .base-of .ensures .0, up .word-at .ensures, sym (code-runs (a .n) (a .p) (a .c) (s .pre .3))) at (t .0) in
     (rw append-assoc (after head runs), omega (arith, o .1, t .1))
 
 pub put-coded-spec : {M : Type 1} → statement M

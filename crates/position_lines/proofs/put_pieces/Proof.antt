@@ -55,13 +55,14 @@ cast-put-coded-piece c = omega arith
 
 put-coded-piece-requires : tie.Need-put-coded-piece-requires Inv-loop μ-loop
 put-coded-piece-requires c κs =
-    let s = c .before .before .before .before .before .before .before in
+    let up = c .before .before .before .before in
+    let s = up .before .before .before in
     let a = s .args in
     let l = c .before .before .loop in
-    let m = c .before .before .before .before .before .pieces-of .ensures in
+    let m = up .before .pieces-of .ensures in
     let h : l .k < length (ownPieces (a .v)) = omega (arith, m, c .before .loop-test .taken) in
     let x = next (a .v) (l .k) h in
-    (omega (arith, own-most (a .v), s .pre .0, l .inv .3, h), s .pre .1, s .pre .2, h, rw (l .inv .1) (x .0), c .before .before .before .before .piece-fields .ensures)
+    (omega (arith, own-most (a .v), s .pre .0, l .inv .3, h), s .pre .1, s .pre .2, h, rw (l .inv .1) (x .0), up .piece-fields .ensures)
 
 add-k : tie.Need-add-k Inv-loop μ-loop
 add-k c = search needs

@@ -67,10 +67,12 @@ same-length-2 c = search needs
 -- src/lib.rt:40:1
 returns-2 : tie.Need-returns-2
 returns-2 c =
-    let a = c .before .before .before .before .before .before .before .before .before .before .args in
-    let o = c .before .before .before .before .before .before .put-span2 .ensures in
+    let up = c .before .before .before .before in
+    let far = up .before .before .before .before in
+    let a = far .before .before .args in
+    let o = up .before .before .put-span2 .ensures in
     let q = c .before .before .put-span3 .ensures in
-    (rw (sym (two-runs (a .n) (a .base) (a .w) (c .before .before .before .before .before .before .before .before .if1 .left))) at (after (o .0) (q .0)), omega (arith, o .1, q .1))
+    (rw (sym (two-runs (a .n) (a .base) (a .w) (far .if1 .left))) at (after (o .0) (q .0)), omega (arith, o .1, q .1))
 
 pub put-word-tones-spec : {M : Type 1} → statement M
 put-word-tones-spec =

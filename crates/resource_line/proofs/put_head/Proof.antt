@@ -89,9 +89,11 @@ same-length-5 c = search needs
 -- src/lib.rt:305:1
 returns-5 : tie.Need-returns-5
 returns-5 c =
-    let a = c .before .before .before .before .before .before .before .before .before .before .before .args in
+    let up = c .before .before .before .before in
+    let far = up .before .before .before .before in
+    let a = far .before .before .before .args in
     let o = c .before .before .put-start .ensures in
-    (rw (c .before .before .before .class-of .ensures .0, c .before .before .before .before .before .before .before .before .before .number-of .ensures, start-text (a .g) (a .users) (a .r)) at (o .0), omega (arith, o .1))
+    (rw (c .before .before .before .class-of .ensures .0, far .before .number-of .ensures, start-text (a .g) (a .users) (a .r)) at (o .0), omega (arith, o .1))
 
 pub put-head-spec : {M : Type 1} → statement M
 put-head-spec =

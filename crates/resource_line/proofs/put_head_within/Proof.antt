@@ -26,7 +26,10 @@ same-length c = search needs
 
 -- src/lib.rt:295:1
 returns : tie.Need-returns
-returns c = (after (c .before .before .before .before .before .before .before .put-ru-head .ensures .0) (c .before .before .put-all .ensures), omega (arith, c .before .before .put-all .ensures .next))
+returns c =
+    let up = c .before .before .before .before in
+    let all = c .before .before .put-all .ensures in
+    (after (up .before .before .before .put-ru-head .ensures .0) all, omega (arith, all .next))
 
 pub put-head-within-spec : {M : Type 1} → statement M
 put-head-within-spec =

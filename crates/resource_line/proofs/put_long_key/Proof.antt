@@ -53,14 +53,18 @@ same-length c = search needs
 -- src/lib.rt:248:1
 returns : tie.Need-returns
 returns c =
-    let s = c .before .before .before .before .before .before .before .before .before .before .before .before .before .before .before .before .before in
-    let j = c .before .before .before .before .before .before .before .before .before .before .before .before .before .before .before .last-place in
-    let a = after (c .before .before .before .before .before .before .before .before .before .before .before .before .put-eight .ensures .0) (c .before .before .before .before .before .before .before .put-eight2 .ensures .0) in
+    let up = c .before .before .before .before in
+    let far = up .before .before .before .before in
+    let top = far .before .before .before .before in
+    let s = top .before .before .before .before .before in
+    let j = top .before .before .before .last-place in
+    let a = after (top .put-eight .ensures .0) (up .before .before .before .put-eight2 .ensures .0) in
     let b = c .before .before .put-eight3 .ensures in
     let m : 8 ≤ j .result = rw (j .ensures .0) (long-place (s .args .k) (s .pre .0) (s .pre .1)) in
     let w = over _ _ (j .result) (omega (arith, j .ensures .1)) (omega (arith, m)) a (b .0) in
     let t = long-key (s .args .k) (s .pre .0) (s .pre .1) in
-    (rw (j .ensures .0, c .before .before .before .before .before .before .before .before .before .before .before .before .before .first-of .ensures, c .before .before .before .before .before .before .before .before .middle-of .ensures, c .before .before .before .last-of .ensures, t) at w, omega (arith, b .1, j .ensures .1))
+    let l = c .before .before .before .last-of .ensures in
+    (rw (j .ensures .0, top .before .first-of .ensures, far .middle-of .ensures, l, t) at w, omega (arith, b .1, j .ensures .1))
 
 pub put-long-key-spec : {M : Type 1} → statement M
 put-long-key-spec =

@@ -43,13 +43,16 @@ same-length c = search needs
 -- src/lib.rt:237:1
 returns : tie.Need-returns
 returns c =
-    let s = c .before .before .before .before .before .before .before .before .before .before .before .before in
-    let j = c .before .before .before .before .before .before .before .before .before .before .last-place in
-    let a = c .before .before .before .before .before .before .before .put-eight .ensures in
+    let up = c .before .before .before .before in
+    let far = up .before .before .before .before in
+    let top = far .before .before .before .before in
+    let s = top in
+    let j = far .before .before .last-place in
+    let a = up .before .before .before .put-eight .ensures in
     let b = c .before .before .put-eight2 .ensures in
     let m : j .result ≤ 8 = rw (j .ensures .0) (short-place (s .args .k) (s .pre .0)) in
     let w = over _ _ (j .result) m (omega arith) (a .0) (b .0) in
-    (rw (j .ensures .0, c .before .before .before .before .before .before .before .before .first-of .ensures, c .before .before .before .last-of .ensures, short-key (s .args .k) (s .pre .0)) at w, omega (arith, b .1, m))
+    (rw (j .ensures .0, far .first-of .ensures, c .before .before .before .last-of .ensures, short-key (s .args .k) (s .pre .0)) at w, omega (arith, b .1, m))
 
 pub put-short-key-spec : {M : Type 1} → statement M
 put-short-key-spec =

@@ -30,7 +30,11 @@ add-result-2 c = search needs
 -- src/lib.rt:95:1
 returns : tie.Need-returns
 unfolding leadOf
-returns c = (rw (c .before .before .one-if .ensures .0, c .before .one-if2 .ensures .0, c .one-if3 .ensures .0), omega (arith, c .before .before .one-if .ensures .1, c .before .one-if2 .ensures .1, c .one-if3 .ensures .1))
+returns c =
+    let a = c .before .before .one-if .ensures in
+    let b = c .before .one-if2 .ensures in
+    let d = c .one-if3 .ensures in
+    (rw (a .0, b .0, d .0), omega (arith, a .1, b .1, d .1))
 
 pub lead-of-spec : {M : Type 1} → statement M
 lead-of-spec =

@@ -29,7 +29,9 @@ same-length c = search needs
 
 -- src/lib.rt:153:9
 returns : tie.Need-returns
-returns c = (one-digit _ (c .before .before .before .before .if1 .taken) (c .before .before .put .ensures), omega (arith, c .before .before .put .ensures .next))
+returns c =
+    let up = c .before .before .before .before in
+    (one-digit _ (up .if1 .taken) (c .before .before .put .ensures), omega (arith, c .before .before .put .ensures .next))
 
 -- src/lib.rt:155:24
 digits-of-requires : tie.Need-digits-of-requires
@@ -57,9 +59,11 @@ same-length-2 c = search needs
 -- src/lib.rt:147:1
 returns-2 : tie.Need-returns-2
 returns-2 c =
-    let s = c .before .before .before .before .before .before .before .before in
+    let up = c .before .before .before .before in
+    let far = up .before .before .before .before in
+    let s = far in
     let o = c .before .before .put-short .ensures in
-    (rw (c .before .before .before .lead-of .ensures .0, c .before .before .before .before .digits-of .ensures .0, digits-bytes (s .args .n) (s .pre .0)) at (o .0), omega (arith, o .1))
+    (rw (c .before .before .before .lead-of .ensures .0, up .digits-of .ensures .0, digits-bytes (s .args .n) (s .pre .0)) at (o .0), omega (arith, o .1))
 
 pub put-digits-spec : {M : Type 1} → statement M
 put-digits-spec =

@@ -21,7 +21,9 @@ same-length c = search needs
 -- src/lib.rt:39:1
 returns : tie.Need-returns
 returns c =
-    let w = eight-stored (c .before .before .before .before .before .before .before .before .before .args .w) (c .before .before .before .before .before .before .put-four .ensures) (c .before .before .put-four2 .ensures) in
+    let up = c .before .before .before .before in
+    let far = up .before .before .before .before in
+    let w = eight-stored (far .before .args .w) (up .before .before .put-four .ensures) (c .before .before .put-four2 .ensures) in
     (w, w .next)
 
 pub put-eight-spec : {M : Type 1} → statement M

@@ -45,11 +45,14 @@ same-length c = search needs
 -- src/lib.rt:125:9
 returns : tie.Need-returns
 returns c =
-    let s = c .before .before .before .before .before .before .before .before in
+    let up = c .before .before .before .before in
+    let far = up .before .before .before .before in
+    let s = far in
     let l = c .before .before .before .lead-of in
     let w = c .before .before .put-short .ensures .0 in
-    let t = ended-low (s .args .u) (s .args .zero) (s .args .c) (c .before .before .before .before .before .before .if1 .taken) (s .pre .1) (s .pre .2) in
-    (rw (l .ensures .0, c .before .before .before .before .ended-of .ensures .0, t) at w, omega (arith, w .next, l .ensures .1, bytes-length (6 - l .result) (45 + 256 * c .before .before .before .before .ended-of .result)))
+    let t = ended-low (s .args .u) (s .args .zero) (s .args .c) (up .before .before .if1 .taken) (s .pre .1) (s .pre .2) in
+    let n = bytes-length (6 - l .result) (45 + 256 * up .ended-of .result) in
+    (rw (l .ensures .0, up .ended-of .ensures .0, t) at w, omega (arith, w .next, l .ensures .1, n))
 
 -- src/lib.rt:128:24
 ended-of-requires-2 : tie.Need-ended-of-requires-2
@@ -74,11 +77,13 @@ same-length-2 c = search needs
 -- src/lib.rt:118:1
 returns-2 : tie.Need-returns-2
 returns-2 c =
-    let s = c .before .before .before .before .before .before .before .before in
+    let up = c .before .before .before .before in
+    let far = up .before .before .before .before in
+    let s = far in
     let l = c .before .before .before .lead-of2 in
     let w = c .before .before .put-short2 .ensures .0 in
-    let t = ended-high (s .args .u) (s .args .zero) (s .args .c) (c .before .before .before .before .before .before .if1 .left) (s .pre .0) (s .pre .2) in
-    (rw (l .ensures .0, c .before .before .before .before .ended-of2 .ensures .0, t) at w, omega (arith, w .next, l .ensures .1, bytes-length (5 - l .result) (c .before .before .before .before .ended-of2 .result)))
+    let t = ended-high (s .args .u) (s .args .zero) (s .args .c) (up .before .before .if1 .left) (s .pre .0) (s .pre .2) in
+    (rw (l .ensures .0, up .ended-of2 .ensures .0, t) at w, omega (arith, w .next, l .ensures .1, bytes-length (5 - l .result) (up .ended-of2 .result)))
 
 pub put-ended-spec : {M : Type 1} → statement M
 put-ended-spec =

@@ -1,10 +1,10 @@
--- `lines::put_head` meets its contract.
+-- `lines::put_head_within` meets its contract.
 use native.Mathlib.Omega.{arith}
 use Rattle.text.proofs.Laws.{after}
 use Rattle.lines.specs.Lines.{headText}
 use borrow.Author.Needs.{needs}
-use Rattle.lines.proofs.put_head.Statement.{statement}
-use Rattle.lines.proofs.put_head.Tie as tie
+use Rattle.lines.proofs.put_head_within.Statement.{statement}
+use Rattle.lines.proofs.put_head_within.Tie as tie
 
 slice-aggregate-put-line : tie.Need-slice-aggregate-put-line
 slice-aggregate-put-line c = search needs
@@ -57,8 +57,8 @@ returns c =
     let three = after (after (line1 .put-line .ensures .0) (line2 .put-line2 .ensures .0)) (line3 .put-line3 .ensures .0) in
     (after (after (after three (line4 .put-line4 .ensures .0)) (line5 .put-line5 .ensures .0)) (line6 .put-line6 .ensures .0), omega arith)
 
-pub put-head-spec : {M : Type 1} → statement M
-put-head-spec =
+pub put-head-within-spec : {M : Type 1} → statement M
+put-head-within-spec =
     tie.close
     (tie.spec
     slice-aggregate-put-line
