@@ -17,7 +17,7 @@ use Rattle.frame_words.specs.Words.{wordsOf}
 use Rattle.frame_words.proofs.Determine.{words-length}
 use Rattle.frame_words.proofs.Counted.{word-count-le}
 use Rattle.candidate.specs.Engine.{candidate}
-use Rattle.same_words.specs.Engine.{sameWords}
+use Rattle.judge.specs.Engine.{sameWords}
 use Rattle.judge.specs.Engine.{readsTo}
 use Rattle.writer.specs.Worked.{someRead}
 use Rattle.writer.specs.Result.{check13, check14, writeOutcome}

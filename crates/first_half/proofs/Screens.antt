@@ -54,8 +54,11 @@ module _ (bw : ℕ) (a b : List ℕ) (o : Outcome) where
 abbrev again : Rest → Rest
 again x = record { fields1 = x .fields1; outcome = Pass; fields2 = x .fields2; shared = x .shared }
 
+same : (x : Rest) → x .outcome ≡ Pass → x ≡ again x
+same x e = λ i. record { fields1 = x .fields1; outcome = e i; fields2 = x .fields2; shared = x .shared }
+
 pub remade : (row kinds : List ℕ) (x : Rest) → x .outcome ≡ Pass → Tells row x kinds → Tells row (again x) kinds
-remade row kinds x e w = subst (λ (y : Rest). Tells row y kinds) (λ i. record { fields1 = x .fields1; outcome = e i; fields2 = x .fields2; shared = x .shared }) w
+remade row kinds x e w = subst (λ (y : Rest). Tells row y kinds) (same x e) w
 
 -- of a frame that passes 1 to 5
 module _ (bw : ℕ) (a b : List ℕ) (five : outcome5 bw a b ≡ Pass) where

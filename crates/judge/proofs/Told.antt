@@ -52,7 +52,7 @@ use Rattle.frame_words.specs.Words.{positionIn, giver, sharedAt, userWordAt, us
 use Rattle.frame_words.proofs.Determine.{words-length, word-1, word-2}
 use Rattle.candidate.specs.Engine.{secondOf, overflowIn, valueIn, countIn, firstIn, fieldIn, needed, candidate}
 use Rattle.candidate.proofs.Held.{needed-1, needed-2, needed-le, present-length, absent-length, holds-1, holds-2}
-use Rattle.same_words.specs.Engine.{unlike, sameWords}
+use Rattle.judge.specs.Engine.{unlike, sameWords}
 use Rattle.judge.specs.Engine.{readsTo, Overflow, slotOf, firstFrom, threeFrom, Header, rowIn, firstCheck, secondCheck, Checked}
 use Rattle.judge.specs.Engine.{formatted, formatIn, Formatted, stationOn, Told}
 use Rattle.candidate.proofs.Said.{said-overflow, said-field}

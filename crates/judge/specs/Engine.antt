@@ -2,13 +2,14 @@
 -- nobody has to believe it: `writer/proofs/Candidate.antt` (`reads-to-says`, `says-reads-to`), `writer/proofs/Worked.antt`, and for the words
 -- `proofs/Told.antt` (`told-reads`, `reads-told`).
 use mathlib.Core.Path.{_≡_}
-use mathlib.Core.Bool.{Bool, true, false, cond, _&&_}
+use mathlib.Core.Bool.{Bool, true, false, cond, not, _&&_}
 use mathlib.Core.List.{List}
 use Prim.Native.Nat.{ℕ, _+_, _*_, _/_, _%_, _^_, _≤_, _<_}
 use lib.Dec.{eqb, ltb}
 use lib.ListN.{length}
 use Rattle.answer.specs.Answer.{passes}
 use Rattle.answer.specs.declared.Outcome.the-variants.{Pass}
+use Rattle.answer.specs.Least.{least}
 use Rattle.answer.specs.Lists.{build, at}
 use Rattle.register.specs.Engine.{checkFrom}
 use Rattle.plan.specs.Engine.{planOutcome}
@@ -20,7 +21,13 @@ use Rattle.words.specs.Engine.{overflowOf, valueOf}
 use Rattle.halves.specs.Table.{outcome11}
 use Rattle.frame_words.specs.Words.{positionIn, giver, sharedAt, wordsOf}
 use Rattle.candidate.specs.Engine.{firstOf, secondOf, overflowIn, valueIn, countIn, candidate}
-use Rattle.same_words.specs.Engine.{sameWords}
+
+-- whether two lists of words are the same: as long, and different nowhere
+unfoldable pub unlike : List ℕ → List ℕ → ℕ → Bool
+unlike v w i = not (eqb (at v i) (at w i))
+
+unfoldable pub sameWords : List ℕ → List ℕ → Bool
+sameWords v w = eqb (length v) (length w) && eqb (least (unlike v w) (length v)) (length v)
 
 -- whether channels are accepted and read to exactly these words
 unfoldable pub readsTo : ℕ → List ℕ → List ℕ → List ℕ → Bool

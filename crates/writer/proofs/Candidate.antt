@@ -37,7 +37,7 @@ use Rattle.candidate.specs.Length.{bytesFor}
 use Rattle.candidate.proofs.Contents.{determined}
 use Rattle.candidate.proofs.Held.{needed-1, needed-2, needed-le, present-length, absent-length, Holds, ContentsSaid}
 use Rattle.candidate.proofs.Held.{all-subfields, candidate-carries, candidate-zero, holds-1, holds-2}
-use Rattle.same_words.specs.Engine.{sameWords}
+use Rattle.judge.specs.Engine.{sameWords}
 use Rattle.judge.proofs.Told.{same-words-says, says-same-words}
 use Rattle.judge.specs.Engine.{readsTo}
 use Rattle.writer.specs.Worked.{ReadsTo}
