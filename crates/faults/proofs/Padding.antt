@@ -61,7 +61,8 @@ wrongCommon-same bw c s t h =
     (λ p q. ap not (right-in s t (common bw) (secondAt bw) (secondBits bw) (h .alike p) (omega (arith, second-inside bw q)))) in
     rw (f, g)
 
-present-of : (bw c k : ℕ) → k < subfieldsIn bw c → present bw c ≡ true
+-- a channel that has a subfield is there
+pub present-of : (bw c k : ℕ) → k < subfieldsIn bw c → present bw c ≡ true
 unfolding subfieldsIn
 present-of bw c k l = go (present bw c) l
   where

@@ -32,6 +32,7 @@ use Rattle.frame_words.specs.Words.{positionIn}
 use Rattle.candidate.specs.Engine.{firstOf, secondOf, overflowIn, valueIn, countIn, fieldIn, firstIn, candidate}
 use Rattle.candidate.proofs.Held.{Holds, all-subfields, candidate-carries, holds-1, holds-2}
 use Rattle.candidate.proofs.Said.{said-value, first-part, second-part}
+use Rattle.faults.proofs.Padding.{present-of}
 use Rattle.judge.specs.Engine.{rowIn, firstCheck, secondCheck}
 
 -- ---- one channel that is there
@@ -60,14 +61,6 @@ module _ (bw : ℕ) (w : List ℕ) (c : ℕ) (h : Holds bw w c) where
   second-ten e = ten (secondAt bw) (secondBits bw) (secondOf bw (valueIn w c)) (candidate-carries bw w c h .common-right .second-right e) (second-part bw w c h)
 
 -- ---- both channels
-
-present-of : (bw c k : ℕ) → k < subfieldsIn bw c → present bw c ≡ true
-unfolding subfieldsIn
-present-of bw c k l = go (present bw c) l
-  where
-    go : (t : Bool) → k < cond t (subfields bw) 0 → t ≡ true
-    go true m = refl
-    go false m = absurd (omega arith)
 
 -- a channel that the bandwidth lacks has no field
 count-absent : (bw c : ℕ) (w : List ℕ) → present bw c ≡ false → count bw c (candidate bw w c) ≡ countIn bw w c

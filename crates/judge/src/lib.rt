@@ -4,9 +4,8 @@
 use answer::Outcome;
 ghost use mathlib.Core.Path.{_≡_};
 ghost use mathlib.Core.Bool.{true, false, cond, _&&_};
-ghost use Prim.Native.Nat.{_+_, _/_, _%_, _^_, _≤_, _<_};
-ghost use lib.Bits.{bitOr};
-ghost use lib.Dec.{eqb, ltb, leb};
+ghost use Prim.Native.Nat.{_+_, _%_, _^_, _≤_, _<_};
+ghost use lib.Dec.{eqb, ltb};
 ghost use lib.ListN.{length, replicate};
 ghost use Rattle.answer.specs.Decides.{Decides};
 ghost use Rattle.answer.specs.Every.{every};
@@ -202,18 +201,6 @@ fn are_formatted(words: &[u32], bw: u32, row: &[u16], shared: u32, n: usize, m: 
 
 // ---- whether a STA-ID stands again (01, 11): a bit for each, in words of 64, and one answer gathered over all
 
-fn is_marked(w: u64, id: u32) -> bool
-    ensures { λ r. ⌜ r ≡ ((ltb 0 id && leb id 2006) && eqb (w / 2 ^ (id % 64) % 2) 1) ⌝ }
-{
-    (0 < id) & (id <= 2006) & ((w >> (id % 64)) % 2 == 1)
-}
-
-fn with_mark(w: u64, id: u32) -> u64
-    ensures { λ r. ⌜ r ≡ bitOr w (2 ^ (id % 64)) ⌝ }
-{
-    w | (1 << (id % 64))
-}
-
 // Of t User words any has a STA-ID that may not stand again and does.
 fn any_again(words: &[u32], t: usize) -> bool
     requires { ⌜ (t ≤ 144) × (10 + t ≤ length (now words)) ⌝ }
@@ -226,11 +213,11 @@ fn any_again(words: &[u32], t: usize) -> bool
     let mut again = false;
     let mut j: usize = 0;
     while j < t {
-        let id = words[10 + j] / 256 % 2048;
+        let id = (words[10 + j] / 256 % 2048) as u16;
         let k = id as usize / 64;
         let w = marks[k];
-        again = again | is_marked(w, id);
-        marks[k] = with_mark(w, id);
+        again = again | stations::is_marked(w, id);
+        marks[k] = stations::with_mark(w, id);
         j += 1;
     }
     again

@@ -40,6 +40,9 @@ mul-id c = search needs
 shared-slice-read-id : tie.Need-shared-slice-read-id Inv-loop μ-loop
 shared-slice-read-id c = search needs
 
+cast-id : tie.Need-cast-id Inv-loop μ-loop
+cast-id c = search needs
+
 cast-k : tie.Need-cast-k Inv-loop μ-loop
 cast-k c = search needs
 
@@ -98,6 +101,7 @@ any-again-spec =
     add-id
     mul-id
     shared-slice-read-id
+    cast-id
     cast-k
     mul-w
     array-read-w
