@@ -32,7 +32,7 @@ pub fn put_piece(out: &mut [u8], at: usize, n: u16, v: u16, p: usize, k: u16) ->
     ensures bounded { λ r. ⌜ r ≤ at + 460 ⌝ }
 {
     let x = resource::piece_at(v, k);
-    let tones = resource::piece_tones(n, p as u16, x);
+    let tones = subcarriers::piece_tones(n, p as u16, x);
     put_record(out, at, n, records::piece_record(v, p, x), tones)
 }
 

@@ -123,9 +123,9 @@ pub fn larger_tones(kind: u16, p: usize) -> Tones
     let from = kinds::start_of(kind, p);
     let mask = kinds::mask_of(kind);
     if kind < 7 {
-        return resource::places_tones((4 * (p / 4)) as u32, mask << (from % 4));
+        return subcarriers::places_tones((4 * (p / 4)) as u32, mask << (from % 4));
     }
-    resource::spread_tones(from as u32, mask as u32, (kinds::span_of(kind) / 4) as u16)
+    subcarriers::spread_tones(from as u32, mask as u32, (kinds::span_of(kind) / 4) as u16)
 }
 
 fn one_if(t: bool) -> u16

@@ -132,7 +132,7 @@ fn print_piece(n: u16, v: u16, p: usize, k: u16)
     requires { ⌜ (p < 16) × (k < length (ownPieces v)) ⌝ }
 {
     let x = resource::piece_at(v, k);
-    let t = resource::piece_tones(n, p as u16, x);
+    let t = subcarriers::piece_tones(n, p as u16, x);
     print_record(records::piece_record(v, p, x), t, n);
 }
 
