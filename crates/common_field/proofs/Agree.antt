@@ -1,13 +1,9 @@
 -- Any two results that a public function's contract allows for one input agree: each contract is an equation.
 use mathlib.Core.Path.{sym, _∙_}
 use Rattle.answer.proofs.Agree.{Agrees}
-use Rattle.common_field.proofs.is_shared.Reads as is-shared
 use Rattle.common_field.proofs.first_diff.Reads as first-diff
 use Rattle.common_field.proofs.overflow_differs.Reads as overflow-differs
 use Rattle.common_field.proofs.not_carried.Reads as not-carried
-
-pub is-shared-agrees : Agrees is-shared.Post
-is-shared-agrees κs a r r' s s' p q = p ∙ sym q
 
 pub first-diff-agrees : Agrees first-diff.Post
 first-diff-agrees κs a r r' s s' p q = p ∙ sym q

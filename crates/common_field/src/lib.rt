@@ -5,19 +5,8 @@ ghost use mathlib.Core.Path.{_≡_};
 ghost use Prim.Native.Nat.{_+_, _^_, _≤_, _<_};
 ghost use Rattle.answer.specs.Least.{least};
 ghost use Rattle.bits.specs.Bits.{differs};
-ghost use Rattle.faults.specs.Checks.{overflowDiffers, uncarried, firstUncarried, notCarried};
-ghost use Rattle.common_field.specs.Engine.{sharedIn};
-
-// Whether channel 1 has LTF symbols that may be and the channels share their overflow, of a frame whose common fields are these.
-pub fn is_shared(bw: u32, parts: Parts) -> bool
-    ensures { λ r. ⌜ r ≡ sharedIn bw parts ⌝ }
-{
-    let few = (parts.first1 >> 6) % 8 <= 4;
-    if bw == 0 {
-        return few;
-    }
-    few & (parts.first1 % 131072 == parts.first2 % 131072)
-}
+ghost use Rattle.faults.specs.Checks.{uncarried, firstUncarried, notCarried};
+ghost use Rattle.common_field.specs.Engine.{differIn, overflowIn};
 
 // The lowest k below n for which s and t differ in bit at + k; n where there is none.
 pub fn first_diff(s: &[u8], t: &[u8], at: usize, n: usize) -> usize
@@ -34,16 +23,24 @@ pub fn first_diff(s: &[u8], t: &[u8], at: usize, n: usize) -> usize
     k
 }
 
-// Answer 5.
-pub fn overflow_differs(bw: u32, a: &[u8], b: &[u8]) -> Outcome
-    ensures { λ r. ⌜ r ≡ overflowDiffers bw (now (a .entry)) (now (b .entry)) ⌝ }
+// The refusal of overflows that differ in the ones of x, of which the lowest tells the bit.
+fn refuse_diff(x: u64) -> Outcome
+    ensures { λ r. ⌜ r ≡ differIn x ⌝ }
 {
-    let first = answer::refuse_if(4 < bits::field_at(a, 6, 3), 5, 1, 6);
-    if !channel::is_present(bw, 2) {
-        return first;
+    answer::refuse_if(0 < x, 5, 2, u64::trailing_zeros(x) as usize)
+}
+
+// Answer 5, of a frame whose common fields are these.
+pub fn overflow_differs(bw: u32, parts: Parts) -> Outcome
+    ensures { λ r. ⌜ r ≡ overflowIn bw parts ⌝ }
+{
+    if 4 < (parts.first1 >> 6) % 8 {
+        return answer::refuse_if(true, 5, 1, 6);
     }
-    let k = first_diff(a, b, 0, 17);
-    answer::or_else(first, answer::refuse_if(k < 17, 5, 2, k))
+    if bw == 0 {
+        return Outcome::Pass;
+    }
+    refuse_diff((parts.first1 ^ parts.first2) % 131072)
 }
 
 fn is_uncarried(bw: u32, s: &[u8], k: usize) -> bool

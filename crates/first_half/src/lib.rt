@@ -61,10 +61,7 @@ fn then_overflow(prev: Outcome, bw: u32, a: &[u8], b: &[u8], parts: Parts) -> Ou
     if let Outcome::Refuse(_) = prev {
         return prev;
     }
-    if common_field::is_shared(bw, parts) {
-        return prev;
-    }
-    common_field::overflow_differs(bw, a, b)
+    common_field::overflow_differs(bw, parts)
 }
 
 // Whether a value is carried, as a sum of comparisons: eight values are tested at once.

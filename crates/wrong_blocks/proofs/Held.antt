@@ -10,7 +10,6 @@ use borrow.Author.Tests.{lt-ltb, le-ltb, eq-eqb, ne-eqb}
 use Rattle.answer.specs.Answer as A
 use Rattle.answer.specs.Answer.{refuseIf, _or_}
 use Rattle.answer.specs.declared.Outcome.the-variants.{Pass, Refuse}
-use Rattle.answer.proofs.Order.{or-pass, or-next, or-refuse, or-end}
 use Rattle.register.specs.Engine.{rightOf}
 use Rattle.block.specs.Check.{Right, right}
 use Rattle.block.proofs.Checks.{right-says}
@@ -22,7 +21,7 @@ use Rattle.channel.proofs.Laws.{present-1, present-wide, absent-2}
 use Rattle.channel.proofs.Held.{first-low, second-low}
 use Rattle.faults.specs.Checks.{wrongFirst, wrongSecond, wrongCommon}
 use Rattle.faults.proofs.Passing.{pass-wrongCommon}
-use Rattle.wrong_blocks.specs.Engine.{secondRight, wrongAt, wrongHeld, wrongParts}
+use Rattle.wrong_blocks.specs.Engine.{secondRight, wrongHeld, wrongParts}
 
 -- ---- the widths, by code
 
@@ -53,60 +52,37 @@ module _ (bw z : ℕ) where
   unfolding secondRight hasSecond secondBits seconds
   tested-320 e = rw e refl
 
--- ---- 4, place and all
+-- ---- 4, place and all: the first part that is wrong gives the answer
 
--- of one channel, as its parts' checks turn out
-module _ (bw c x z : ℕ) where
-  held-pass : rightOf x (firstBits bw) && secondRight bw z ≡ true → wrongHeld bw c x z ≡ Pass
-  unfolding wrongHeld _or_
-  held-pass e = go (rightOf x (firstBits bw)) (secondRight bw z) e
-    where
-      go : (t u : Bool) → t && u ≡ true
-          → refuseIf (not t) (A.no 4 c (firstBits bw)) or refuseIf (not u) (A.no 4 c (secondAt bw + secondBits bw)) ≡ Pass
-      go true true e = refl
-      go true false e = absurd (false≢true e)
-      go false u e = absurd (false≢true e)
-
-  held-wrong : rightOf x (firstBits bw) && secondRight bw z ≡ false → wrongHeld bw c x z ≡ wrongAt bw c (rightOf x (firstBits bw))
-  unfolding wrongHeld wrongAt _or_
-  held-wrong e = go (rightOf x (firstBits bw)) (secondRight bw z) e
-    where
-      go : (t u : Bool) → t && u ≡ false
-          → refuseIf (not t) (A.no 4 c (firstBits bw)) or refuseIf (not u) (A.no 4 c (secondAt bw + secondBits bw))
-          ≡ Refuse (A.no 4 c (cond t (secondAt bw + secondBits bw) (firstBits bw)))
-      go true true e = absurd (false≢true (sym e))
-      go true false e = refl
-      go false u e = refl
-
--- of both: the first that is wrong gives the answer
 module _ (bw : ℕ) (p : Parts) where
-  pub wrong-20 : bw ≡ 0 → refuseIf (not (rightOf (p .first1) (firstBits bw))) (A.no 4 1 (firstBits bw)) ≡ wrongParts bw p
-  unfolding wrongParts wrongHeld
-  wrong-20 e =
-      let n : present bw 2 ≡ false = rw e absent-2 in
-      let s : secondRight bw (p .second1) ≡ true = sym (tested-none bw (p .second1) (omega arith)) in
-      rw (n, s) (sym (or-end _ ∙ or-end _))
+  pub wrong-first : rightOf (p .first1) (firstBits bw) ≡ false → Refuse (A.no 4 1 (firstBits bw)) ≡ wrongParts bw p
+  unfolding wrongParts wrongHeld _or_
+  wrong-first e = rw e refl
 
-  pub wrong-1 : rightOf (p .first1) (firstBits bw) && secondRight bw (p .second1) ≡ false → wrongAt bw 1 (rightOf (p .first1) (firstBits bw)) ≡ wrongParts bw p
-  unfolding wrongParts wrongAt
-  wrong-1 e = sym (or-refuse _ _ _ (held-wrong bw 1 (p .first1) (p .second1) e))
+  module _ (f : rightOf (p .first1) (firstBits bw) ≡ true) where
+    pub right-20 : bw ≡ 0 → Pass ≡ wrongParts bw p
+    unfolding wrongParts wrongHeld _or_
+    right-20 e =
+        let n : present bw 2 ≡ false = rw e absent-2 in
+        let s : secondRight bw (p .second1) ≡ true = sym (tested-none bw (p .second1) (omega arith)) in
+        rw (f, n, s) refl
 
-  module _ (d : bw ≡ 0 → ⊥) where
-    there : present bw 2 ≡ true
-    there = present-wide bw 2 (omega arith)
+    pub wrong-second : secondRight bw (p .second1) ≡ false → Refuse (A.no 4 1 (secondAt bw + secondBits bw)) ≡ wrongParts bw p
+    unfolding wrongParts wrongHeld _or_
+    wrong-second e = rw (f, e) refl
 
-    pub wrong-2 : rightOf (p .first1) (firstBits bw) && secondRight bw (p .second1) ≡ true
-        → rightOf (p .first2) (firstBits bw) && secondRight bw (p .second2) ≡ false
-        → wrongAt bw 2 (rightOf (p .first2) (firstBits bw)) ≡ wrongParts bw p
-    unfolding wrongParts
-    wrong-2 e f =
-        rw there (sym (or-next _ _ (held-pass bw 1 (p .first1) (p .second1) e) ∙ held-wrong bw 2 (p .first2) (p .second2) f))
+    module _ (s : secondRight bw (p .second1) ≡ true) (d : bw ≡ 0 → ⊥) where
+      there : present bw 2 ≡ true
+      there = present-wide bw 2 (omega arith)
 
-    pub wrong-none : rightOf (p .first1) (firstBits bw) && secondRight bw (p .second1) ≡ true
-        → rightOf (p .first2) (firstBits bw) && secondRight bw (p .second2) ≡ true → Pass ≡ wrongParts bw p
-    unfolding wrongParts
-    wrong-none e f =
-        rw there (sym (or-pass _ _ (held-pass bw 1 (p .first1) (p .second1) e) (held-pass bw 2 (p .first2) (p .second2) f)))
+      pub wrong-first-2 : rightOf (p .first2) (firstBits bw) ≡ false → Refuse (A.no 4 2 (firstBits bw)) ≡ wrongParts bw p
+      unfolding wrongParts wrongHeld _or_
+      wrong-first-2 e = rw (f, s, there, e) refl
+
+      pub wrong-second-2 : rightOf (p .first2) (firstBits bw) ≡ true
+          → refuseIf (not (secondRight bw (p .second2))) (A.no 4 2 (secondAt bw + secondBits bw)) ≡ wrongParts bw p
+      unfolding wrongParts wrongHeld _or_
+      wrong-second-2 e = rw (f, s, there, e) refl
 
 -- a channel's parts are wrong where 4 says so
 second-common : (bw : ℕ) (s : List ℕ) (t : Bool) → hasSecond bw ≡ t

@@ -1,10 +1,10 @@
--- Engine: 4 of the numbers that hold the common fields, looked at once for both channels and parts. The contracts of the code cite it; nobody has to
+-- Engine: 4 of the numbers that hold the common fields, part by part. The contracts of the code cite it; nobody has to
 -- believe it: `proofs/Held.antt`.
 use mathlib.Core.Bool.{Bool, true, cond, not}
 use Prim.Native.Nat.{ℕ, _+_}
 use Rattle.answer.specs.Answer.{no, refuseIf, _or_}
 use Rattle.answer.specs.declared.Outcome.{Outcome}
-use Rattle.answer.specs.declared.Outcome.the-variants.{Pass, Refuse}
+use Rattle.answer.specs.declared.Outcome.the-variants.{Pass}
 use Rattle.register.specs.Engine.{rightOf}
 use Rattle.channel.specs.Layout.{present, firstBits, secondAt, secondBits, hasSecond}
 use Rattle.channel.specs.declared.Parts.{Parts}
@@ -12,10 +12,6 @@ use Rattle.channel.specs.declared.Parts.{Parts}
 -- the second part, where there is one
 unfoldable pub secondRight : ℕ → ℕ → Bool
 secondRight bw z = cond (hasSecond bw) (rightOf z (secondBits bw)) true
-
--- the refusal of channel c, of whose parts one is wrong: the first, or else the second
-unfoldable pub wrongAt : ℕ → ℕ → Bool → Outcome
-wrongAt bw c first = Refuse (no 4 c (cond first (secondAt bw + secondBits bw) (firstBits bw)))
 
 -- 4 of channel c, whose parts are x and z
 unfoldable pub wrongHeld : ℕ → ℕ → ℕ → ℕ → Outcome

@@ -6,7 +6,7 @@ ghost use Prim.Native.Nat.{_≤_};
 ghost use Rattle.register.specs.Engine.{rightOf};
 ghost use Rattle.channel.specs.Layout.{firstBits, count};
 ghost use Rattle.faults.specs.Checks.{wrongBlock, firstWrong, wrongUsers};
-ghost use Rattle.wrong_blocks.specs.Engine.{secondRight, wrongAt, wrongParts};
+ghost use Rattle.wrong_blocks.specs.Engine.{secondRight, wrongParts};
 
 // The two widths stand as constants, so that no more of the quotient is worked out than reaches the check.
 fn is_first_right(bw: u32, x: u64) -> bool
@@ -34,37 +34,25 @@ fn is_second_right(bw: u32, x: u64) -> bool
     }
 }
 
-// The place in a channel one of whose parts is wrong: the first part's check, or where that one is right the second's.
-fn place_wrong(bw: u32, channel: u32, first: bool) -> Outcome
-    ensures { λ r. ⌜ r ≡ wrongAt bw channel first ⌝ }
-{
-    if first {
-        return answer::refuse_if(true, 4, channel, channel::second_check(bw));
-    }
-    answer::refuse_if(true, 4, channel, channel::first_bits(bw))
-}
-
-// Answer 4, of a frame whose common fields are these: each part's check is worked out once, for the answer and for its place. They are
-// looked at together, since a frame that passes has one way through.
+// Answer 4, of a frame whose common fields are these: part by part, so that the first that is wrong is the answer.
 pub fn wrong_parts(bw: u32, parts: Parts) -> Outcome
     requires { ⌜ bw ≤ 4 ⌝ }
     ensures { λ r. ⌜ r ≡ wrongParts bw parts ⌝ }
 {
-    let first1 = is_first_right(bw, parts.first1);
-    if bw == 0 {
-        return answer::refuse_if(!first1, 4, 1, channel::first_bits(bw));
+    if !is_first_right(bw, parts.first1) {
+        return answer::refuse_if(true, 4, 1, channel::first_bits(bw));
     }
-    let second1 = is_second_right(bw, parts.second1);
-    let first2 = is_first_right(bw, parts.first2);
-    let second2 = is_second_right(bw, parts.second2);
-    let one = first1 & second1;
-    if one & first2 & second2 {
+    if bw == 0 {
         return Outcome::Pass;
     }
-    if one {
-        return place_wrong(bw, 2, first2);
+    if !is_second_right(bw, parts.second1) {
+        return answer::refuse_if(true, 4, 1, channel::second_check(bw));
     }
-    place_wrong(bw, 1, first1)
+    if !is_first_right(bw, parts.first2) {
+        return answer::refuse_if(true, 4, 2, channel::first_bits(bw));
+    }
+    let right = is_second_right(bw, parts.second2);
+    answer::refuse_if(!right, 4, 2, channel::second_check(bw))
 }
 
 fn is_wrong_block(bw: u32, s: &[u8], n: usize, b: usize) -> bool

@@ -1,18 +1,14 @@
 -- `wrong_blocks::wrong_parts` meets its contract.
-use mathlib.Core.Path.{_≡_, sym, _∙_, ap, ap₂}
-use mathlib.Core.Bool.{Bool, true, false, not, _&&_, false≢true}
+use mathlib.Core.Path.{sym, _∙_, ap, ap₂}
+use mathlib.Core.Bool.{Bool, not}
 use Prim.Native.Nat.{ℕ}
+use borrow.Author.Tests.{not-true, not-false}
 use Rattle.answer.specs.Answer.{no, refuseIf}
-use Rattle.faults.proofs.Passing.{of-both}
-use Rattle.wrong_blocks.specs.Engine.{wrongAt}
-use Rattle.wrong_blocks.proofs.Held.{wrong-20, wrong-1, wrong-2, wrong-none}
+use Rattle.answer.specs.declared.Outcome.the-variants.{Refuse}
+use Rattle.wrong_blocks.proofs.Held.{wrong-first, right-20, wrong-second, wrong-first-2, wrong-second-2}
 use borrow.Author.Needs.{needs}
 use Rattle.wrong_blocks.proofs.wrong_parts.Statement.{statement}
 use Rattle.wrong_blocks.proofs.wrong_parts.Tie as tie
-
-rest-false : (t u v : Bool) → (t && u) && v ≡ false → t ≡ true → u && v ≡ false
-rest-false true u v e f = e
-rest-false false u v e f = absurd (false≢true f)
 
 is-first-right-requires : tie.Need-is-first-right-requires
 is-first-right-requires c κs = search needs
@@ -26,52 +22,70 @@ refuse-if-requires c κs = search needs
 returns : tie.Need-returns
 returns c =
     let a = c .before .before .before .before .args in
-    c .refuse-if .ensures
-    ∙ ap₂ (λ (t : Bool) (n : ℕ). refuseIf (not t) (no 4 1 n)) (c .before .before .before .is-first-right .ensures) (c .before .first-bits .ensures .0)
-    ∙ wrong-20 (a .bw) (a .parts) (c .before .before .if1 .taken)
+    let e = sym (c .before .before .before .is-first-right .ensures) ∙ not-true _ (c .before .before .if1 .taken) in
+    c .refuse-if .ensures ∙ ap (λ (n : ℕ). Refuse (no 4 1 n)) (c .before .first-bits .ensures .0) ∙ wrong-first (a .bw) (a .parts) e
+
+returns-2 : tie.Need-returns-2
+returns-2 c =
+    let a = c .before .before .before .args in
+    let f = sym (c .before .before .is-first-right .ensures) ∙ not-false _ (c .before .if1 .left) in
+    right-20 (a .bw) (a .parts) f (c .if2 .taken)
 
 is-second-right-requires : tie.Need-is-second-right-requires
 is-second-right-requires c κs = search needs
 
+second-check-requires : tie.Need-second-check-requires
+second-check-requires c κs = search needs
+
+refuse-if-requires-2 : tie.Need-refuse-if-requires-2
+refuse-if-requires-2 c κs = search needs
+
+returns-3 : tie.Need-returns-3
+returns-3 c =
+    let a = c .before .before .before .before .before .before .before .args in
+    let f = sym (c .before .before .before .before .before .before .is-first-right .ensures) ∙ not-false _ (c .before .before .before .before .before .if1 .left) in
+    let e = sym (c .before .before .before .is-second-right .ensures) ∙ not-true _ (c .before .before .if3 .taken) in
+    c .refuse-if2 .ensures ∙ ap (λ (n : ℕ). Refuse (no 4 1 n)) (c .before .second-check .ensures .0) ∙ wrong-second (a .bw) (a .parts) f e
+
 is-first-right-requires-2 : tie.Need-is-first-right-requires-2
 is-first-right-requires-2 c κs = search needs
+
+first-bits-requires-2 : tie.Need-first-bits-requires-2
+first-bits-requires-2 c κs = search needs
+
+refuse-if-requires-3 : tie.Need-refuse-if-requires-3
+refuse-if-requires-3 c κs = search needs
+
+returns-4 : tie.Need-returns-4
+returns-4 c =
+    let b = c .before .before .before .before in
+    let a = b .before .before .before .before .before .args in
+    let f = sym (b .before .before .before .before .is-first-right .ensures) ∙ not-false _ (b .before .before .before .if1 .left) in
+    let s = sym (b .before .is-second-right .ensures) ∙ not-false _ (b .if3 .left) in
+    let e = sym (c .before .before .before .is-first-right2 .ensures) ∙ not-true _ (c .before .before .if4 .taken) in
+    c .refuse-if3 .ensures
+    ∙ ap (λ (n : ℕ). Refuse (no 4 2 n)) (c .before .first-bits2 .ensures .0)
+    ∙ wrong-first-2 (a .bw) (a .parts) f s (b .before .before .if2 .left) e
 
 is-second-right-requires-2 : tie.Need-is-second-right-requires-2
 is-second-right-requires-2 c κs = search needs
 
-returns-2 : tie.Need-returns-2
-returns-2 c =
-    let a = c .before .before .before .before .before .before .args in
-    let t = of-both _ _ (c .if2 .taken) in
-    let u = of-both _ _ (t .0) in
-    let x = ap₂ _&&_ (c .before .before .before .before .before .is-first-right .ensures) (c .before .before .before .is-second-right .ensures) in
-    let y = ap₂ _&&_ (sym (c .before .before .is-first-right2 .ensures) ∙ u .1) (sym (c .before .is-second-right2 .ensures) ∙ t .1) in
-    wrong-none (a .bw) (a .parts) (c .before .before .before .before .if1 .left) (sym x ∙ u .0) y
+second-check-requires-2 : tie.Need-second-check-requires-2
+second-check-requires-2 c κs = search needs
 
-place-wrong-requires : tie.Need-place-wrong-requires
-place-wrong-requires c κs = search needs
+refuse-if-requires-4 : tie.Need-refuse-if-requires-4
+refuse-if-requires-4 c κs = search needs
 
-returns-3 : tie.Need-returns-3
-returns-3 c =
-    let b = c .before .before .before in
+returns-5 : tie.Need-returns-5
+returns-5 c =
+    let b = c .before .before .before .before .before in
     let a = b .before .before .before .before .before .args in
-    let t = rest-false _ _ _ (c .before .before .if2 .left) (c .before .if3 .taken) in
-    let x = ap₂ _&&_ (b .before .before .before .before .is-first-right .ensures) (b .before .before .is-second-right .ensures) in
-    let y = ap₂ _&&_ (b .before .is-first-right2 .ensures) (b .is-second-right2 .ensures) in
-    c .place-wrong .ensures
-    ∙ ap (wrongAt (a .bw) 2) (b .before .is-first-right2 .ensures)
-    ∙ wrong-2 (a .bw) (a .parts) (b .before .before .before .if1 .left) (sym x ∙ c .before .if3 .taken) (sym y ∙ t)
-
-place-wrong-requires-2 : tie.Need-place-wrong-requires-2
-place-wrong-requires-2 c κs = search needs
-
-returns-4 : tie.Need-returns-4
-returns-4 c =
-    let b = c .before .before .before in
-    let a = b .before .before .before .before .before .args in
-    let f = b .before .before .before .before .is-first-right .ensures in
-    let x = ap₂ _&&_ f (b .before .before .is-second-right .ensures) in
-    c .place-wrong2 .ensures ∙ ap (wrongAt (a .bw) 1) f ∙ wrong-1 (a .bw) (a .parts) (sym x ∙ c .before .if3 .left)
+    let f = sym (b .before .before .before .before .is-first-right .ensures) ∙ not-false _ (b .before .before .before .if1 .left) in
+    let s = sym (b .before .is-second-right .ensures) ∙ not-false _ (b .if3 .left) in
+    let e = sym (c .before .before .before .before .is-first-right2 .ensures) ∙ not-false _ (c .before .before .before .if4 .left) in
+    c .refuse-if4 .ensures
+    ∙ ap₂ (λ (t : Bool) (n : ℕ). refuseIf (not t) (no 4 2 n)) (c .before .before .is-second-right2 .ensures) (c .before .second-check2 .ensures .0)
+    ∙ wrong-second-2 (a .bw) (a .parts) f s (b .before .before .if2 .left) e
 
 pub wrong-parts-spec : {M : Type 1} → statement M
 wrong-parts-spec =
@@ -81,11 +95,16 @@ wrong-parts-spec =
     first-bits-requires
     refuse-if-requires
     returns
-    is-second-right-requires
-    is-first-right-requires-2
-    is-second-right-requires-2
     returns-2
-    place-wrong-requires
+    is-second-right-requires
+    second-check-requires
+    refuse-if-requires-2
     returns-3
-    place-wrong-requires-2
-    returns-4)
+    is-first-right-requires-2
+    first-bits-requires-2
+    refuse-if-requires-3
+    returns-4
+    is-second-right-requires-2
+    second-check-requires-2
+    refuse-if-requires-4
+    returns-5)
