@@ -17,8 +17,8 @@ use borrow.Author.Needs.{needs}
 use Rattle.byte_reader.proofs.read_users.Statement.{statement}
 use Rattle.byte_reader.proofs.read_users.Tie as tie
 
-check-users-requires : tie.Need-check-users-requires
-check-users-requires c κs = search needs
+take-checked-requires : tie.Need-take-checked-requires
+take-checked-requires c κs = search needs
 
 add-need : tie.Need-add-need
 add-need c = search needs
@@ -38,7 +38,7 @@ says c =
     let s = c .before .before .before .before .before .before .before .before .before .before .args in
     let p = c .before .before .before .before .before .before .before .before .before .before .pre .0 in
     c .then-room .ensures
-    ∙ ap₂ (λ (o : Outcome) (need : ℕ). o or noRoom need (length (s .words .now) / 4)) (c .before .before .before .check-users .ensures .0)
+    ∙ ap₂ (λ (o : Outcome) (need : ℕ). o or noRoom need (length (s .words .now) / 4)) (c .before .before .before .take-checked .ensures .0)
     (counted (s .bw) (s .a .now) (s .b .now) (s .n) (s .m) (p .count1) (p .count2))
 
 enum-known-outcome : tie.Need-enum-known-outcome
@@ -59,7 +59,7 @@ put-frame-bytes-requires c κs =
     let s = c .before .before .before .before .before .before .before .before .before .before .before .before .before .before .args in
     let p = c .before .before .before .before .before .before .before .before .before .before .before .before .before .before .pre .0 in
     let e = sym (says (c .before .before .before .before)) ∙ c .before .before .enum-told .given .1 in
-    let t = c .before .before .before .before .before .before .before .check-users in (
+    let t = c .before .before .before .before .before .before .before .take-checked in (
       bytes-enough (s .bw) (s .a .now) (s .b .now) (s .words .now) e,
       omega (arith, t .kept .0),
       p .known,
@@ -93,7 +93,7 @@ pub read-users-spec : {M : Type 1} → statement M
 read-users-spec =
     tie.close
     (tie.spec
-    check-users-requires
+    take-checked-requires
     add-need
     add-need-2
     then-room-requires

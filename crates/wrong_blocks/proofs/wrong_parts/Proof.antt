@@ -42,8 +42,9 @@ refuse-if-requires-2 c κs = search needs
 
 returns-3 : tie.Need-returns-3
 returns-3 c =
-    let a = c .before .before .before .before .before .before .before .args in
-    let f = sym (c .before .before .before .before .before .before .is-first-right .ensures) ∙ not-false _ (c .before .before .before .before .before .if1 .left) in
+    let b = c .before .before .before in
+    let a = b .before .before .before .before .args in
+    let f = sym (b .before .before .before .is-first-right .ensures) ∙ not-false _ (b .before .before .if1 .left) in
     let e = sym (c .before .before .before .is-second-right .ensures) ∙ not-true _ (c .before .before .if3 .taken) in
     c .refuse-if2 .ensures ∙ ap (λ (n : ℕ). Refuse (no 4 1 n)) (c .before .second-check .ensures .0) ∙ wrong-second (a .bw) (a .parts) f e
 
