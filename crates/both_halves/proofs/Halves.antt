@@ -8,17 +8,18 @@ use Rattle.answer.proofs.Order.{pass-left}
 use Rattle.answer.specs.declared.Answer.{Answer}
 use Rattle.answer.specs.declared.Outcome.{Outcome}
 use Rattle.answer.specs.declared.Outcome.the-variants.{Pass, Refuse}
-use Rattle.plan.specs.Engine.{kindsOf}
-use Rattle.channel.specs.Layout.{positions}
+use Rattle.plan.specs.declared.Rest.{Rest}
+use Rattle.plan.specs.Engine.{kindsOf, withKinds}
+use Rattle.channel.specs.Layout.{positions, row}
 use Rattle.channel.proofs.Laws.{positions-le, row-length}
 use Rattle.halves.specs.declared.Planned.{Planned}
 use Rattle.halves.specs.Table.{outcome11}
-use Rattle.halves.specs.Engine.{plannedOf, outcome9to11}
-use Rattle.halves.proofs.Stages.{outcome11-stages}
-use Rattle.halves.proofs.Half.{Made, outcome-made, planned-out, planned-pass, planned-refuse, planned-rest}
+use Rattle.halves.specs.Engine.{plannedOf, withPlan, outcome1to8, outcome9to11, Plans}
+use Rattle.halves.proofs.Stages.{outcome11-stages, common-pass}
+use Rattle.halves.proofs.Half.{Made, outcome-made, planned-out, planned-pass, planned-refuse, planned-rest, planned-made, lent-plan}
 use Rattle.halves.proofs.Rows.{front, sixteen}
 use Rattle.both_halves.proofs.Accepted.{known-code}
-use Rattle.both_halves.specs.Engine.{withOutcome, acceptedPlan, Given}
+use Rattle.both_halves.specs.Engine.{withOutcome, acceptedPlan, Given, Handed}
 
 module _ (bw : ℕ) (a b : List ℕ) (p : Planned) where
   -- refused by the first
@@ -71,3 +72,42 @@ module _ (bw : ℕ) (a b : List ℕ) {p : Planned} (e : p ≡ acceptedPlan bw a 
 -- a row that is given has at most sixteen positions
 pub row-few : {bw : ℕ} {a b r c : List ℕ} {m k : ℕ} → bw ≤ 4 → Given bw a b r c m k → length r ≤ 16
 row-few {bw} {a} {b} l g = rw (g .the-row) (omega (arith, row-length bw a b, positions-le bw l))
+
+-- ---- what the first half has told in the room that is lent
+module _ (bw : ℕ) (a b : List ℕ) {x : Rest} {r k : List ℕ} (w : Plans bw a b x r k) where
+  out : {o : Outcome} → x .outcome ≡ o → plannedOf bw a b .outcome ≡ o
+  out f = planned-out bw a b ∙ unfold outcome1to8 in (sym (w .answers) ∙ f)
+
+  pub first-refuses : (y : Answer) → x .outcome ≡ Refuse y → outcome11 bw a b ≡ Refuse y
+  first-refuses y f = planned-refuse bw a b y (out f)
+
+  module _ (f : x .outcome ≡ Pass) where
+    lent : Made bw a b (withPlan r (withKinds x k))
+    unfolding withPlan withKinds
+    lent = planned-made bw a b _ (unfold withPlan withKinds in lent-plan bw a b x r k w f) f
+
+    pub lent-code : bw ≤ 4
+    lent-code = common-pass bw a b (lent .common) .known
+
+    pub lent-16 : length r ≡ 16
+    lent-16 = ap length (w .the-row f) ∙ sixteen bw a b lent-code
+
+    -- the front of its row
+    pub lent-row : {n : ℕ} → n ≡ positions bw → take n r ≡ row bw a b
+    lent-row {n} g = front bw a b n r g (w .the-row f)
+
+    pub lent-front : {n : ℕ} → n ≡ positions bw → n ≡ length (take n r)
+    lent-front g = rw (lent-row g) (g ∙ sym (row-length bw a b))
+
+    pub handed : {n : ℕ} → n ≡ positions bw → Handed bw a b (take n r) k (x .fields1) (x .fields2)
+    unfolding withPlan withKinds
+    handed g =
+        let m = lent in
+        record {
+          known = lent-code;
+          short = common-pass bw a b (m .common) .short;
+          given = record { the-row = lent-row g; the-kinds = m .the-kinds ∙ sym (ap kindsOf (lent-row g)); count1 = m .count1; count2 = m .count2 };
+          most1 = m .most1;
+          most2 = m .most2;
+          rest = planned-rest bw a b (out f);
+        }

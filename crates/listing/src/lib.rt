@@ -5,8 +5,7 @@ use listing_lines::put_listing;
 ghost use mathlib.Core.Path.{_≡_};
 ghost use Prim.Native.Nat.{_≤_};
 ghost use lib.ListN.{length};
-ghost use Rattle.halves.specs.Table.{outcome11};
-ghost use Rattle.both_halves.specs.Engine.{Given};
+ghost use Rattle.both_halves.specs.Engine.{Handed};
 ghost use Rattle.listing_size.specs.Longest.{longestAt};
 ghost use Rattle.listed.specs.Listing.{listAnswer, listAfter};
 
@@ -24,8 +23,8 @@ fn longest_of(bw: u32) -> usize
     }
 }
 
-// The listing in the buffer lent, if it is long enough; else 23.
-fn list_given(
+// 9 to 11 of a frame that passes 1 to 8 and has m and k User fields, and its listing in the buffer lent, if that is long enough; else 23.
+fn list_planned(
     out: &mut [u8],
     bw: u32,
     a: &[u8],
@@ -35,19 +34,24 @@ fn list_given(
     m: usize,
     k: usize,
 ) -> Answer
-    requires { ⌜ (outcome11 bw (now a) (now b) ≡ Outcome.Pass) × Given bw (now a) (now b) (now row) (now kinds) m k ⌝ }
+    requires { ⌜ Handed bw (now a) (now b) (now row) (now kinds) m k ⌝ }
     ensures { λ r. ⌜ r ≡ listAnswer bw (now (a .entry)) (now (b .entry)) (length (now (out .entry))) ⌝ }
     ensures { λ _. ⌜ now (out .exit) ≡ listAfter bw (now (a .entry)) (now (b .entry)) (now (out .entry)) ⌝ }
 {
+    let mut fields = [0u32; 144];
+    let seen = second_half::check_users(&mut fields, bw, a, b, m, k);
+    if let Outcome::Refuse(x) = seen {
+        return x;
+    }
     if longest_of(bw) <= out.len() {
-        let place = put_listing(out, bw, a, b, row, kinds, m, k);
+        let place = put_listing(out, bw, &fields, row, kinds, m, k);
         return Answer {
             number: 0,
             channel: 0,
             place,
         };
     }
-    let need = put_listing(&mut out[..0], bw, a, b, row, kinds, m, k);
+    let need = put_listing(&mut out[..0], bw, &fields, row, kinds, m, k);
     if out.len() < need {
         return Answer {
             number: 23,
@@ -55,7 +59,7 @@ fn list_given(
             place: need,
         };
     }
-    let place = put_listing(out, bw, a, b, row, kinds, m, k);
+    let place = put_listing(out, bw, &fields, row, kinds, m, k);
     Answer {
         number: 0,
         channel: 0,
@@ -68,15 +72,15 @@ pub fn list(bandwidth: u32, cc1: &[u8], cc2: &[u8], out: &mut [u8]) -> Answer
     ensures { λ r. ⌜ r ≡ listAnswer bandwidth (now (cc1 .entry)) (now (cc2 .entry)) (length (now (out .entry))) ⌝ }
     ensures { λ _. ⌜ now (out .exit) ≡ listAfter bandwidth (now (cc1 .entry)) (now (cc2 .entry)) (now (out .entry)) ⌝ }
 {
-    let plan = both_halves::plan_accepted(bandwidth, cc1, cc2);
-    let checked = plan.outcome;
-    if let Outcome::Refuse(x) = checked {
+    let mut row = [0u16; 16];
+    let mut kinds = [0u16; 16];
+    let plan = first_half::plan_row(&mut row, &mut kinds, bandwidth, cc1, cc2);
+    let planned = plan.outcome;
+    if let Outcome::Refuse(x) = planned {
         return x;
     }
-    let row = plan.row;
-    let kinds = plan.kinds;
     let n = channel::positions_of(bandwidth);
-    list_given(
+    list_planned(
         out,
         bandwidth,
         cc1,

@@ -1,5 +1,4 @@
 // All lines of an accepted frame's listing (01, "Listing"), into a lent buffer.
-use answer::Outcome;
 use lines::put_head;
 use position_lines::put_position;
 use station_lines::put_owned;
@@ -7,14 +6,12 @@ use station_lines::stations_in;
 ghost use mathlib.Core.Path.{_≡_};
 ghost use Prim.Native.Nat.{_+_, _*_, _≤_};
 ghost use lib.ListN.{length};
-ghost use Rattle.text.specs.Text.{Wrote};
+ghost use Rattle.text.specs.Text.{Wrote, upto};
 ghost use Rattle.plan.specs.Engine.{kindsOf};
 ghost use Rattle.records.specs.Engine.{numbersOf};
-ghost use Rattle.halves.specs.Table.{outcome11};
 ghost use Rattle.position_lines.specs.Engine.{runsLines};
-ghost use Rattle.both_halves.specs.Engine.{Given};
-ghost use Rattle.listing_lines.specs.Engine.{runsListing};
-ghost use Rattle.listed.specs.Listing.{resources, staLines, listing};
+ghost use Rattle.listing_lines.specs.Engine.{fieldLine, fieldsListing};
+ghost use Rattle.listed.specs.Listing.{resources};
 
 // A line for each resource, by the row's table.
 fn put_records(out: &mut [u8], at: usize, row: &[u16], kinds: &[u16; 16]) -> usize
@@ -36,58 +33,56 @@ fn put_records(out: &mut [u8], at: usize, row: &[u16], kinds: &[u16; 16]) -> usi
 fn put_stations(
     out: &mut [u8],
     at: usize,
-    bw: u32,
-    a: &[u8],
-    b: &[u8],
+    fields: &[u32],
     row: &[u16],
     kinds: &[u16; 16],
     before: &[u16; 17],
     m: usize,
     k: usize,
 ) -> usize
-    requires { ⌜ (at ≤ 68000) × (m ≤ 72) × (k ≤ 72) × (length (now row) ≤ 16) × (now kinds ≡ kindsOf (now row)) × (now before ≡ numbersOf (now row)) ⌝ }
-    ensures { λ r. ⌜ Wrote (now (out .entry)) at (staLines bw (now (row .entry)) (now (a .entry)) (now (b .entry)) m (m + k)) (now (out .exit)) r ⌝ }
+    requires { ⌜ (at ≤ 68000) × (m ≤ 72) × (k ≤ 72) × (m + k ≤ length (now fields)) ⌝ }
+    requires { ⌜ (length (now row) ≤ 16) × (now kinds ≡ kindsOf (now row)) × (now before ≡ numbersOf (now row)) ⌝ }
+    ensures { λ r. ⌜ Wrote (now (out .entry)) at (upto (fieldLine (now (row .entry)) (now (fields .entry)) m) (m + k)) (now (out .exit)) r ⌝ }
 {
-    let o = put_owned(out, at, bw, a, row, kinds, before, 1, m);
-    put_owned(out, o, bw, b, row, kinds, before, 2, k)
+    let o = put_owned(out, at, fields, 0, row, kinds, before, 1, m);
+    put_owned(out, o, fields, m, row, kinds, before, 2, k)
 }
 
 // The listing of a frame whose row is given with its tables, with m fields in channel 1 and k in channel 2.
 fn put_tabled(
     out: &mut [u8],
     bw: u32,
-    a: &[u8],
-    b: &[u8],
+    fields: &[u32],
     row: &[u16],
     kinds: &[u16; 16],
     before: &[u16; 17],
     m: usize,
     k: usize,
 ) -> usize
-    requires { ⌜ (m ≤ 72) × (k ≤ 72) × (length (now row) ≤ 16) × (now kinds ≡ kindsOf (now row)) × (now before ≡ numbersOf (now row)) ⌝ }
-    ensures { λ r. ⌜ Wrote (now (out .entry)) 0 (runsListing bw (now (row .entry)) (now (a .entry)) (now (b .entry)) m k) (now (out .exit)) r ⌝ }
+    requires { ⌜ (m ≤ 72) × (k ≤ 72) × (m + k ≤ length (now fields)) ⌝ }
+    requires { ⌜ (length (now row) ≤ 16) × (now kinds ≡ kindsOf (now row)) × (now before ≡ numbersOf (now row)) ⌝ }
+    ensures { λ r. ⌜ Wrote (now (out .entry)) 0 (fieldsListing bw (now (row .entry)) (now (fields .entry)) m k) (now (out .exit)) r ⌝ }
 {
     let resources = records::count_in(before, row) as usize;
-    let stations = stations_in(bw, a, m) + stations_in(bw, b, k);
+    let stations = stations_in(fields, m + k);
     let o = put_head(out, bw, resources, m, k, stations);
     let p = put_records(out, o, row, kinds);
-    put_stations(out, p, bw, a, b, row, kinds, before, m, k)
+    put_stations(out, p, fields, row, kinds, before, m, k)
 }
 
-// The listing of an accepted frame by its row, the kinds of its plan, and the m and k fields of its channels.
+// The listing by a frame's row, the kinds of its plan, and the numbers of its User fields, m of channel 1 and k of channel 2.
 pub fn put_listing(
     out: &mut [u8],
     bw: u32,
-    a: &[u8],
-    b: &[u8],
+    fields: &[u32],
     row: &[u16],
     kinds: &[u16; 16],
     m: usize,
     k: usize,
 ) -> usize
-    requires { ⌜ (outcome11 bw (now a) (now b) ≡ Outcome.Pass) × Given bw (now a) (now b) (now row) (now kinds) m k ⌝ }
-    ensures { λ r. ⌜ Wrote (now (out .entry)) 0 (listing bw (now (a .entry)) (now (b .entry))) (now (out .exit)) r ⌝ }
+    requires { ⌜ (m ≤ 72) × (k ≤ 72) × (m + k ≤ length (now fields)) × (length (now row) ≤ 16) × (now kinds ≡ kindsOf (now row)) ⌝ }
+    ensures { λ r. ⌜ Wrote (now (out .entry)) 0 (fieldsListing bw (now (row .entry)) (now (fields .entry)) m k) (now (out .exit)) r ⌝ }
 {
     let before = records::numbers_before(kinds, row);
-    put_tabled(out, bw, a, b, row, kinds, &before, m, k)
+    put_tabled(out, bw, fields, row, kinds, &before, m, k)
 }

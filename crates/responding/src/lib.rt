@@ -6,22 +6,45 @@ use listing_lines::put_listing;
 ghost use mathlib.Core.Path.{_≡_};
 ghost use Prim.Native.Nat.{_≤_};
 ghost use Rattle.text.specs.Text.{Wrote};
+ghost use Rattle.both_halves.specs.Engine.{Handed};
 ghost use Rattle.input.specs.Engine.{bytesAt, secondAt};
 ghost use Rattle.listed.specs.Listing.{frameText, programText};
+
+// The listing of a frame that passes 1 to 8 and has m and k User fields, or its refusal.
+fn put_planned(
+    out: &mut [u8],
+    bw: u32,
+    a: &[u8],
+    b: &[u8],
+    row: &[u16],
+    kinds: &[u16; 16],
+    m: usize,
+    k: usize,
+) -> usize
+    requires { ⌜ Handed bw (now a) (now b) (now row) (now kinds) m k ⌝ }
+    ensures { λ r. ⌜ Wrote (now (out .entry)) 0 (frameText bw (now (a .entry)) (now (b .entry))) (now (out .exit)) r ⌝ }
+{
+    let mut fields = [0u32; 144];
+    let seen = second_half::check_users(&mut fields, bw, a, b, m, k);
+    if let Outcome::Refuse(y) = seen {
+        return put_refusal(out, y.number, y.channel, y.place);
+    }
+    put_listing(out, bw, &fields, row, kinds, m, k)
+}
 
 // The listing of a frame, or its refusal.
 fn put_outcome(out: &mut [u8], bw: u32, a: &[u8], b: &[u8]) -> usize
     ensures { λ r. ⌜ Wrote (now (out .entry)) 0 (frameText bw (now (a .entry)) (now (b .entry))) (now (out .exit)) r ⌝ }
 {
-    let plan = both_halves::plan_accepted(bw, a, b);
-    let checked = plan.outcome;
-    if let Outcome::Refuse(x) = checked {
+    let mut row = [0u16; 16];
+    let mut kinds = [0u16; 16];
+    let plan = first_half::plan_row(&mut row, &mut kinds, bw, a, b);
+    let planned = plan.outcome;
+    if let Outcome::Refuse(x) = planned {
         return put_refusal(out, x.number, x.channel, x.place);
     }
-    let row = plan.row;
-    let kinds = plan.kinds;
     let n = channel::positions_of(bw);
-    put_listing(out, bw, a, b, &row[..n], &kinds, plan.fields1, plan.fields2)
+    put_planned(out, bw, a, b, &row[..n], &kinds, plan.fields1, plan.fields2)
 }
 
 // The same of the three lines of a text, with n and m pairs of hex digits.

@@ -4,15 +4,14 @@ use mathlib.Core.List.{List}
 use Prim.Native.Nat.{ℕ, _+_}
 use lib.ListN.{length, getD}
 use Rattle.answer.specs.Lists.{build, at}
-use Rattle.bits.specs.Bits.{field}
 use Rattle.plan.specs.Engine.{onlyPlan}
 use Rattle.records.specs.Engine.{ownerOf}
-use Rattle.channel.specs.Layout.{userAt}
+use Rattle.stations.specs.Engine.{stationIn}
 use Rattle.lines.specs.Lines.{staLine}
 
--- the line of field i of a channel whose bytes are s, its owner the i-th number
-abbrev pub ownedLine : ℕ → List ℕ → List ℕ → ℕ → List ℕ
-ownedLine bw s owners i = staLine (field s (userAt bw i) 11) (getD owners i 0 + 1)
+-- the line of the i-th of the fields from the first on, its owner the i-th number
+abbrev pub ownedLine : List ℕ → ℕ → List ℕ → ℕ → List ℕ
+ownedLine fields first owners i = staLine (stationIn fields (first + i)) (getD owners i 0 + 1)
 
 -- the numbers, from 0, of the owners of channel c's fields
 abbrev pub ownersIn : List ℕ → ℕ → List ℕ

@@ -160,7 +160,7 @@ repeat-held fields w t =
     (λ k l. ap (λ (x : ℕ). x % 2048) (getD-filled (stationIn fields) t w k 0 l) ∙ omega (arith, station-lt fields k))
 
 -- in the numbers of both channels' User fields
-station-is : (bw : ℕ) (a b : List ℕ) (n k : ℕ) → userOf bw a b n k % 2048 ≡ stationOf bw a b n k
+pub station-is : (bw : ℕ) (a b : List ℕ) (n k : ℕ) → userOf bw a b n k % 2048 ≡ stationOf bw a b n k
 unfolding userOf
 station-is bw a b n k = go (ltb k n)
   where

@@ -20,13 +20,13 @@ returns : tie.Need-returns
 returns c =
     let second = c .before .before in
     let first = second .before .before .before .before in
-    let start = first .before .before .before .before .before .before in
+    let start = first .before .before .before .before .before in
     let s = start .args in
     let q = start .pre in
-    rw (← both-channels (s .bw) (s .row .now) (s .a .now) (s .b .now) (s .m) (s .k) (q .1) (q .2))
+    rw (← both-channels (s .row .now) (s .fields .now) (s .m) (s .k) (q .0 .1) (q .0 .2))
     (after
-    {t = upto (ownedLine (s .bw) (s .a .now) (ownersIn (s .row .now) 1)) (s .m)}
-    {u = upto (ownedLine (s .bw) (s .b .now) (ownersIn (s .row .now) 2)) (s .k)}
+    {t = upto (ownedLine (s .fields .now) 0 (ownersIn (s .row .now) 1)) (s .m)}
+    {u = upto (ownedLine (s .fields .now) (s .m) (ownersIn (s .row .now) 2)) (s .k)}
     (first .put-owned .ensures .0) (second .put-owned2 .ensures .0))
 
 pub put-stations-spec : {M : Type 1} → statement M

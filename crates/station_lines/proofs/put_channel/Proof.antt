@@ -6,27 +6,26 @@ use Prim.Native.Nat.{ℕ, _+_, _-_, _*_, _≤_}
 use lib.ListN.{getD}
 use Rattle.text.specs.Text.{Wrote, upto}
 use Rattle.text.proofs.Laws.{no-item, item, kept}
-use Rattle.bits.specs.Bits.{field}
-use Rattle.channel.specs.Layout.{userAt}
+use Rattle.stations.specs.Engine.{stationIn}
 use Rattle.lines.specs.Lines.{staLine}
 use Rattle.station_lines.proofs.put_channel.Statement.{statement}
 use Rattle.station_lines.proofs.put_channel.Tie as tie
 
 abbrev Inv-loop : tie.InvT-loop
-Inv-loop out₀ at bw s owners n o₀ i₀ out o i =
-    (i ≤ n) × Wrote out₀ at (upto (λ j. staLine (field s (userAt bw j) 11) (getD owners j 0 + 1)) i) out o × (o ≤ at + 55 * i)
+Inv-loop out₀ at fields first owners n o₀ i₀ out o i =
+    (i ≤ n) × Wrote out₀ at (upto (λ j. staLine (stationIn fields (first + j)) (getD owners j 0 + 1)) i) out o × (o ≤ at + 55 * i)
 
 abbrev μ-loop : tie.MeasureT-loop
-μ-loop out₀ at bw s owners n o₀ i₀ out o i = n - i
+μ-loop out₀ at fields first owners n o₀ i₀ out o i = n - i
 
 loop-holds : tie.Need-loop-holds Inv-loop μ-loop
 loop-holds c = (search needs, no-item _ _ _, omega arith)
 
-user-bit-requires : tie.Need-user-bit-requires Inv-loop μ-loop
-user-bit-requires c κs = search needs
+add-station-at : tie.Need-add-station-at Inv-loop μ-loop
+add-station-at c = search needs
 
-field-at-requires : tie.Need-field-at-requires Inv-loop μ-loop
-field-at-requires c κs = search needs
+station-at-requires : tie.Need-station-at-requires Inv-loop μ-loop
+station-at-requires c κs = search needs
 
 number-at-requires : tie.Need-number-at-requires Inv-loop μ-loop
 number-at-requires c κs = search needs
@@ -48,15 +47,13 @@ loop-less c = search needs
 
 loop-again : tie.Need-loop-again Inv-loop μ-loop
 loop-again c =
-    let s = c .before .before .before .before .before .before .before .before .before .before .before .args in
-    let l = c .before .before .before .before .before .before .before .before .loop in
+    let s = c .before .before .before .before .before .before .before .before .before .before .args in
+    let l = c .before .before .before .before .before .before .before .loop in
     let numbered = c .before .before .before in
-    let read = numbered .before .before in
-    let id : read .field-at .result ≡ field (s .s .now) (userAt (s .bw) (l .i)) 11 =
-    read .field-at .ensures ∙ ap (λ (x : ℕ). field (s .s .now) x 11) (read .before .user-bit .ensures) in (
+    let read = numbered .before .before in (
       omega arith,
-      item (λ j. staLine (field (s .s .now) (userAt (s .bw) j) 11) (getD (s .owners .now) j 0 + 1)) (l .i) (l .inv .1)
-          (rw (← id, ← (numbered .number-at .ensures)) (c .before .before .put-sta .ensures .0)),
+      item (λ j. staLine (stationIn (s .fields .now) (s .first + j)) (getD (s .owners .now) j 0 + 1)) (l .i) (l .inv .1)
+          (rw (← (read .station-at .ensures), ← (numbered .number-at .ensures)) (c .before .before .put-sta .ensures .0)),
       omega arith,
     )
 
@@ -73,8 +70,8 @@ put-channel-spec =
     Inv-loop
     μ-loop
     loop-holds
-    user-bit-requires
-    field-at-requires
+    add-station-at
+    station-at-requires
     number-at-requires
     cast-put-sta
     add-put-sta

@@ -7,8 +7,7 @@ use Prim.Native.Nat.{ℕ, _+_, _-_, _≤_}
 use mir.Val.{boolByte}
 use Rattle.answer.specs.Tally.{tally}
 use Rattle.answer.proofs.Tally.{tally-step}
-use Rattle.bits.specs.Bits.{field}
-use Rattle.stations.specs.Stations.{stationAt}
+use Rattle.stations.specs.Engine.{stationIn}
 use Rattle.lines.specs.Lines.{assigned}
 use Rattle.station_lines.proofs.stations_in.Statement.{statement}
 use Rattle.station_lines.proofs.stations_in.Tie as tie
@@ -22,19 +21,16 @@ one-most true = omega arith
 one-most false = omega arith
 
 abbrev Inv-loop : tie.InvT-loop
-Inv-loop bw s n stations₀ i₀ stations i = (i ≤ n) × (stations ≤ i) × (stations ≡ tally (λ j. assigned (stationAt bw s j)) i)
+Inv-loop fields n stations₀ i₀ stations i = (i ≤ n) × (stations ≤ i) × (stations ≡ tally (λ j. assigned (stationIn fields j)) i)
 
 abbrev μ-loop : tie.MeasureT-loop
-μ-loop bw s n stations₀ i₀ stations i = n - i
+μ-loop fields n stations₀ i₀ stations i = n - i
 
 loop-holds : tie.Need-loop-holds Inv-loop μ-loop
 loop-holds c = (search needs, omega arith, refl)
 
-user-bit-requires : tie.Need-user-bit-requires Inv-loop μ-loop
-user-bit-requires c κs = search needs
-
-field-at-requires : tie.Need-field-at-requires Inv-loop μ-loop
-field-at-requires c κs = search needs
+station-at-requires : tie.Need-station-at-requires Inv-loop μ-loop
+station-at-requires c κs = search needs
 
 is-assigned-requires : tie.Need-is-assigned-requires Inv-loop μ-loop
 is-assigned-requires c κs = search needs
@@ -53,17 +49,14 @@ loop-less c = search needs
 
 loop-again : tie.Need-loop-again Inv-loop μ-loop
 loop-again c =
-    let s = c .before .before .before .before .before .before .args in
-    let l = c .before .before .before .before .loop in
-    let read = c .before in
-    let id : read .field-at .result ≡ stationAt (s .bw) (s .s .now) (l .i) =
-    read .field-at .ensures ∙ ap (λ (x : ℕ). field (s .s .now) x 11) (read .before .user-bit .ensures) in
-    let t : c .is-assigned .result ≡ assigned (stationAt (s .bw) (s .s .now) (l .i)) = c .is-assigned .ensures ∙ ap assigned id in
+    let s = c .before .before .before .before .before .args in
+    let l = c .before .before .before .loop in
+    let t : c .is-assigned .result ≡ assigned (stationIn (s .fields .now) (l .i)) = c .is-assigned .ensures ∙ ap assigned (c .before .station-at .ensures) in
     let h = one-most (c .is-assigned .result) in (
       omega arith,
       omega arith,
       ap (λ (x : ℕ). l .stations + x) (as-number (c .is-assigned .result) ∙ ap (λ (b : Bool). cond b 1 0) t)
-          ∙ tally-step (λ j. assigned (stationAt (s .bw) (s .s .now) j)) (l .i) (l .stations) (l .inv .2),
+          ∙ tally-step (λ j. assigned (stationIn (s .fields .now) j)) (l .i) (l .stations) (l .inv .2),
     )
 
 returns : tie.Need-returns Inv-loop μ-loop
@@ -78,8 +71,7 @@ stations-in-spec =
     Inv-loop
     μ-loop
     loop-holds
-    user-bit-requires
-    field-at-requires
+    station-at-requires
     is-assigned-requires
     cast-stations
     add-stations
