@@ -5,7 +5,8 @@ use mathlib.Core.List.{List, [], _∷_, _++_}
 use Prim.Native.Nat.{ℕ, zero, suc, _+_, _-_, _*_, _/_, _%_, _^_, _≤_, _<_}
 use native.Mathlib.Nat.{zero-add, suc-add, pow-zero, pow-succ', div-one, mul-assoc, div-div-eq-div-mul, le-of-suc-le-suc}
 use native.Mathlib.Omega.{arith}
-use lib.Dec.{T, ltb, eqb, eqb→eq}
+use lib.Count.{trailingZeros}
+use lib.Dec.{T, ltb, leb, leb→le, eqb, eqb→eq}
 use lib.ListN.{length, take, drop, set, length-append, length-drop, take-append-drop}
 use lib.Seq.{sets, set-comm, set-set, length-take-le}
 use borrow.Author.Tests.{ltb-true, le-ltb}
@@ -13,7 +14,7 @@ use lib.IntN.{pos, _-ℤ_}
 use Rattle.text.specs.Text.{Wrote, codes, dec, signed}
 use Rattle.text.proofs.Laws.{after, digit-alone, signed-low, signed-high}
 use Rattle.resource.proofs.Test.{both-left, both-right, below, every-below}
-use Rattle.stores.specs.Engine.{bytesOf, fourOf, leadOf, digitsOf, endedOf, spacedOf}
+use Rattle.stores.specs.Engine.{bytesOf, pairOf, tensOf, valuesOf, fourOf, leadOf, digitsOf, endedOf, spacedOf}
 
 -- ---- stores
 set-before : (d : List ℕ) (i j x : ℕ) (t : List ℕ) → i < j → sets (set d i x) j t ≡ set (sets d j t) i x
@@ -136,20 +137,52 @@ same-equal (x ∷ s) [] h = absurd h
 same-equal (x ∷ s) (y ∷ t) h =
     rw (eqb→eq x y (both-left (eqb x y) (same s t) h)) (ap (λ (l : List ℕ). y ∷ l) (same-equal s t (both-right (eqb x y) (same s t) h)))
 
-abbrev digits-test : ℕ → Bool
-digits-test n = ltb (fourOf n) 4294967296 && same (bytesOf (4 - leadOf n) (digitsOf n)) (dec n)
+within-test : ℕ → Bool
+within-test n = leb (2559 * tensOf n) (256 * pairOf n)
+
+most-test : ℕ → Bool
+most-test n = ltb (valuesOf n) 168430090
+
+zeros-test : ℕ → Bool
+zeros-test n = eqb (trailingZeros 32 (valuesOf n + 16777216) / 8) (leadOf n)
+
+text-test : ℕ → Bool
+text-test n = same (bytesOf (4 - leadOf n) (digitsOf n)) (dec n)
+
+digits-test : ℕ → Bool
+digits-test n = within-test n && (most-test n && (zeros-test n && text-test n))
 
 digits-pass : T (below digits-test 10000)
-unfolding leadOf fourOf digitsOf dec
+unfolding digits-test within-test most-test zeros-test text-test pairOf tensOf valuesOf leadOf fourOf digitsOf dec trailingZeros
 digits-pass = tt
 
--- the digits as bytes are the number in decimal
-pub digits-bytes : (n : ℕ) → n < 10000 → bytesOf (4 - leadOf n) (digitsOf n) ≡ dec n
-digits-bytes n l = same-equal _ _ (both-right (ltb (fourOf n) 4294967296) _ (every-below digits-test 10000 digits-pass n l))
+-- what it says of a number
+pub record Values (n : ℕ) : Type 0 where
+  pub within : 2559 * tensOf n ≤ 256 * pairOf n
+  pub most : valuesOf n < 168430090
+  pub zeros : trailingZeros 32 (valuesOf n + 16777216) / 8 ≡ leadOf n
+  pub text : bytesOf (4 - leadOf n) (digitsOf n) ≡ dec n
 
 t-true : (b : Bool) → T b → b ≡ true
 t-true true h = refl
 t-true false h = absurd h
+
+pub values : (n : ℕ) → n < 10000 → Values n
+unfolding digits-test within-test most-test zeros-test text-test
+values n l =
+    let all = every-below digits-test 10000 digits-pass n l in
+    let more = both-right (within-test n) (most-test n && (zeros-test n && text-test n)) all in
+    let rest = both-right (most-test n) (zeros-test n && text-test n) more in
+    record {
+      within = leb→le _ _ (both-left (within-test n) (most-test n && (zeros-test n && text-test n)) all);
+      most = ltb-true (valuesOf n) 168430090 (t-true (most-test n) (both-left (most-test n) (zeros-test n && text-test n) more));
+      zeros = eqb→eq _ _ (both-left (zeros-test n) (text-test n) rest);
+      text = same-equal _ _ (both-right (zeros-test n) (text-test n) rest);
+    }
+
+-- the digits as bytes are the number in decimal
+pub digits-bytes : (n : ℕ) → n < 10000 → bytesOf (4 - leadOf n) (digitsOf n) ≡ dec n
+digits-bytes n l = values n l .text
 
 pub lead-most : (n : ℕ) → leadOf n ≤ 3
 unfolding leadOf
@@ -160,10 +193,8 @@ lead-most n = omega (arith, once (ltb n 10), once (ltb n 100), once (ltb n 1000)
     once false = omega arith
 
 pub four-bound : (n : ℕ) → n < 10000 → fourOf n < 4294967296
-four-bound n l =
-    let t = every-below digits-test 10000 digits-pass n l in
-    let b = both-left (ltb (fourOf n) 4294967296) (same (bytesOf (4 - leadOf n) (digitsOf n)) (dec n)) t in
-    ltb-true (fourOf n) 4294967296 (t-true (ltb (fourOf n) 4294967296) b)
+unfolding fourOf
+four-bound n l = omega (arith, values n l .most)
 
 -- with the byte after them
 ended-by : (l x c : ℕ) → l ≤ 3 → x < 4294967296

@@ -4,15 +4,26 @@ use mathlib.Core.Bool.{cond}
 use mathlib.Core.List.{List, [], _∷_}
 use Prim.Native.Nat.{ℕ, zero, suc, _+_, _-_, _*_, _/_, _%_, _^_}
 use lib.Dec.{ltb}
+use lib.Bits.{bitAnd}
 
 -- the k lowest bytes of w, the lowest first
 abbrev pub bytesOf : ℕ → ℕ → List ℕ
 bytesOf zero w = []
 bytesOf (suc k) w = (w % 256) ∷ bytesOf k (w / 256)
 
--- the four digits of a number below 10,000, zeros in front, the first lowest: each place from the quotients of two neighbours
+-- the four digits of a number below 10,000, zeros in front, the first lowest: hundreds and the rest side by side, the tens of both
+unfoldable pub pairOf : ℕ → ℕ
+pairOf n = n * 5243 / 2 ^ 19 + 65536 * (n - 100 * (n * 5243 / 2 ^ 19))
+
+unfoldable pub tensOf : ℕ → ℕ
+tensOf n = bitAnd (pairOf n * 103 / 2 ^ 10) 983055
+
+unfoldable pub valuesOf : ℕ → ℕ
+valuesOf n = 256 * pairOf n - 2559 * tensOf n
+
+-- as text
 unfoldable pub fourOf : ℕ → ℕ
-fourOf n = n * 16777216 + 808464432 - 167706624 * (n / 10) - 655104 * (n / 100) - 2559 * (n / 1000)
+fourOf n = valuesOf n + 808464432
 
 -- how many of the four are zeros in front
 unfoldable pub leadOf : ℕ → ℕ

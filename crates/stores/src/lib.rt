@@ -7,7 +7,7 @@ ghost use lib.Dec.{ltb};
 ghost use lib.ListN.{length};
 ghost use lib.IntN.{pos, _-ℤ_};
 ghost use Rattle.text.specs.Text.{Wrote, codes, dec, signed};
-ghost use Rattle.stores.specs.Engine.{bytesOf, fourOf, leadOf, digitsOf, endedOf};
+ghost use Rattle.stores.specs.Engine.{bytesOf, valuesOf, fourOf, leadOf, digitsOf, endedOf};
 
 // Two bytes, in one store.
 fn put_two(out: &mut [u8], at: usize, w: u64) -> usize
@@ -77,15 +77,23 @@ pub fn put_short(out: &mut [u8], at: usize, w: u64, k: usize) -> usize
     put_by_fours(out, at, w, k - 4)
 }
 
-// The four digits of a number, zeros in front, by three quotients that wait for nothing but the number.
+// The four digits of a number, zeros in front, a byte each: hundreds and the rest side by side, and the tens of both by one product.
+fn values_of(n: u32) -> u32
+    requires { ⌜ n < 10000 ⌝ }
+    ensures { λ r. ⌜ (r ≡ valuesOf n) × (r < 168430090) ⌝ }
+{
+    let hundreds = (n * 5243) >> 19;
+    let pair = hundreds + 65536 * (n - 100 * hundreds);
+    let tens = ((pair * 103) >> 10) & 0xF000F;
+    256 * pair - 2559 * tens
+}
+
+// As text.
 fn four_of(n: u32) -> u64
     requires { ⌜ n < 10000 ⌝ }
     ensures { λ r. ⌜ (r ≡ fourOf n) × (r < 4294967296) ⌝ }
 {
-    let tenth = (n / 10) as u64;
-    let hundredth = (n / 100) as u64;
-    let thousandth = (n / 1000) as u64;
-    n as u64 * 16777216 + 808464432 - 167706624 * tenth - 655104 * hundredth - 2559 * thousandth
+    values_of(n) as u64 + 0x30303030
 }
 
 fn one_if(t: bool) -> usize
@@ -95,11 +103,12 @@ fn one_if(t: bool) -> usize
     t as usize
 }
 
-// How many of the four digits are zeros in front.
+// How many of the four digits are zeros in front: those below the lowest bit that is set, where the last digit counts as one.
 pub fn lead_of(n: u32) -> usize
+    requires { ⌜ n < 10000 ⌝ }
     ensures { λ r. ⌜ (r ≡ leadOf n) × (r ≤ 3) ⌝ }
 {
-    one_if(n < 10) + one_if(n < 100) + one_if(n < 1000)
+    (u32::trailing_zeros(values_of(n) + 0x1000000) / 8) as usize
 }
 
 // The digits of a number.
