@@ -1,20 +1,21 @@
 -- The laws of short texts as numbers, and of stores that begin in one another.
 use mathlib.Core.Path.{_≡_, refl, sym, ap, subst, _∙_}
 use mathlib.Core.Bool.{Bool, true, false, cond, _&&_}
-use mathlib.Core.List.{List, [], _∷_, _++_}
-use Prim.Native.Nat.{ℕ, zero, suc, _+_, _-_, _*_, _/_, _%_, _^_, _≤_, _<_}
+use mathlib.Core.List.{List, [], _∷_, _++_, append-assoc}
+use Prim.Native.Nat.{ℕ, zero, suc, _+_, _-_, _*_, _/_, _%_, _^_, _≤_, _<_, suc-le-suc}
 use native.Mathlib.Nat.{zero-add, suc-add, pow-zero, pow-succ', div-one, mul-assoc, div-div-eq-div-mul, le-of-suc-le-suc}
 use native.Mathlib.Omega.{arith}
-use lib.Count.{trailingZeros}
+use lib.Bits.{bitAnd, and-block, and-mask, and-zero-r}
+use lib.Count.{trailingZeros, under}
 use lib.Dec.{T, ltb, leb, leb→le, eqb, eqb→eq}
 use lib.ListN.{length, take, drop, set, length-append, length-drop, take-append-drop}
 use lib.Seq.{sets, set-comm, set-set, length-take-le}
-use borrow.Author.Tests.{ltb-true, le-ltb}
+use borrow.Author.Tests.{ltb-true, ltb-false, le-ltb}
 use lib.IntN.{pos, _-ℤ_}
 use Rattle.text.specs.Text.{Wrote, codes, dec, signed}
 use Rattle.text.proofs.Laws.{after, digit-alone, signed-low, signed-high}
 use Rattle.resource.proofs.Test.{both-left, both-right, below, every-below}
-use Rattle.stores.specs.Engine.{bytesOf, pairOf, tensOf, valuesOf, fourOf, leadOf, digitsOf, endedOf, spacedOf}
+use Rattle.stores.specs.Engine.{bytesOf, hundredsOf, pairOf, tensOf, valuesOf, zerosIn, fourOf, leadOf, digitsOf, endedOf, spacedOf, apart, minusIf, Over}
 
 -- ---- stores
 set-before : (d : List ℕ) (i j x : ℕ) (t : List ℕ) → i < j → sets (set d i x) j t ≡ set (sets d j t) i x
@@ -144,7 +145,7 @@ most-test : ℕ → Bool
 most-test n = ltb (valuesOf n) 168430090
 
 zeros-test : ℕ → Bool
-zeros-test n = eqb (trailingZeros 32 (valuesOf n + 16777216) / 8) (leadOf n)
+zeros-test n = eqb (zerosIn (valuesOf n)) (leadOf n)
 
 text-test : ℕ → Bool
 text-test n = same (bytesOf (4 - leadOf n) (digitsOf n)) (dec n)
@@ -153,14 +154,18 @@ digits-test : ℕ → Bool
 digits-test n = within-test n && (most-test n && (zeros-test n && text-test n))
 
 digits-pass : T (below digits-test 10000)
-unfolding digits-test within-test most-test zeros-test text-test pairOf tensOf valuesOf leadOf fourOf digitsOf dec trailingZeros
+unfolding digits-test within-test most-test zeros-test text-test hundredsOf pairOf tensOf valuesOf leadOf fourOf digitsOf dec zerosIn trailingZeros
 digits-pass = tt
+
+pair-most : (n : ℕ) → n < 10000 → pairOf n < 8388608
+unfolding pairOf hundredsOf
+pair-most n l = omega arith
 
 -- what it says of a number
 pub record Values (n : ℕ) : Type 0 where
   pub within : 2559 * tensOf n ≤ 256 * pairOf n
   pub most : valuesOf n < 168430090
-  pub zeros : trailingZeros 32 (valuesOf n + 16777216) / 8 ≡ leadOf n
+  pub zeros : zerosIn (valuesOf n) ≡ leadOf n
   pub text : bytesOf (4 - leadOf n) (digitsOf n) ≡ dec n
 
 t-true : (b : Bool) → T b → b ≡ true
@@ -183,6 +188,98 @@ values n l =
 -- the digits as bytes are the number in decimal
 pub digits-bytes : (n : ℕ) → n < 10000 → bytesOf (4 - leadOf n) (digitsOf n) ≡ dec n
 digits-bytes n l = values n l .text
+
+-- a number below 2 ^ m that is not 0 has less than m zeros below
+trailing-low : (k m n : ℕ) → 0 < n → n < 2 ^ m → trailingZeros k n < m
+unfolding trailingZeros
+trailing-low k zero n l h = absurd (omega (arith, l, rw (pow-zero 2) at h))
+trailing-low zero (suc m) n l h = omega arith
+trailing-low (suc k) (suc m) n l h = go (n % 2) refl (λ s. trailing-low k m (n / 2) s (omega (arith, half)))
+  where
+    half : n < 2 * 2 ^ m
+    half = rw (pow-succ' 2 m) at h
+
+    go : (b : ℕ) → n % 2 ≡ b → (0 < n / 2 → trailingZeros k (n / 2) < m) → under b (trailingZeros k (n / 2)) < suc m
+    go zero e f = suc-le-suc (f (omega (arith, e, l)))
+    go (suc b) e f = omega arith
+
+pub zeros-most : (v : ℕ) → v < 168430090 → trailingZeros 32 (v + 16777216) / 8 ≤ 3
+zeros-most v l = let t = trailing-low 32 28 (v + 16777216) (omega arith) (omega arith) in omega (arith, t)
+
+-- ---- two numbers side by side: what is shifted out of the higher is masked, what is shifted out of the lower is gone
+shifted-13 : (h s : ℕ) → h < 128
+    → ((h + 8192 * s) / 4294967296 ≡ s / 524288) × ((h + 8192 * s) % 4294967296 % 128 ≡ h)
+shifted-13 h s l =
+    let e : (h + 8192 * s) / 8192 ≡ s = omega arith in
+    (sym (div-div-eq-div-mul (h + 8192 * s) 8192 524288) ∙ ap (λ (z : ℕ). z / 524288) e, omega arith)
+
+shifted-22 : (h s : ℕ) → h < 4194304
+    → ((h + 4194304 * s) / 4294967296 ≡ s / 1024) × ((h + 4194304 * s) % 4294967296 ≡ s % 1024 * 4194304 + h)
+shifted-22 h s l =
+    let e : (h + 4194304 * s) / 4194304 ≡ s = omega arith in
+    (sym (div-div-eq-div-mul (h + 4194304 * s) 4194304 1024) ∙ ap (λ (z : ℕ). z / 1024) e, omega arith)
+
+split : (x : ℕ) → x ≡ x / 4294967296 * 2 ^ 32 + x % 4294967296
+split x = omega arith
+
+side : (x m : ℕ) → m < 4294967296 → bitAnd x (m * 4294967296 + m) ≡ bitAnd (x / 4294967296) m * 4294967296 + bitAnd (x % 4294967296) m
+side x m l = ap (λ (z : ℕ). bitAnd z (m * 4294967296 + m)) (split x) ∙ and-block 32 (x / 4294967296) m (x % 4294967296) m (omega arith) l
+
+pub hundreds-two : (a b : ℕ) → a < 10000 → b < 10000
+    → bitAnd ((a + 4294967296 * b) * 5243 / 2 ^ 19) 545460846719 ≡ hundredsOf a + 4294967296 * hundredsOf b
+unfolding hundredsOf
+hundreds-two a b l h =
+    let x : (a + 4294967296 * b) * 5243 / 2 ^ 19 ≡ a * 5243 / 524288 + 8192 * (b * 5243) = omega arith in
+    let s = shifted-13 (a * 5243 / 524288) (b * 5243) (omega arith) in
+    let m : b * 5243 / 524288 % 128 ≡ b * 5243 / 524288 = omega arith in
+    rw x (side (a * 5243 / 524288 + 8192 * (b * 5243)) 127 (omega arith)
+    ∙ rw (s .0, and-mask (b * 5243 / 524288) 7, and-mask ((a * 5243 / 524288 + 8192 * (b * 5243)) % 4294967296) 7, s .1, m) (omega arith))
+
+pub tens-two : (a b : ℕ) → a < 10000 → b < 10000
+    → bitAnd ((pairOf a + 4294967296 * pairOf b) * 103 / 2 ^ 10) 4222189076152335 ≡ tensOf a + 4294967296 * tensOf b
+unfolding tensOf
+tens-two a b l h =
+    let p = pairOf a in
+    let q = pairOf b in
+    let most = pair-most a l in
+    let x : (p + 4294967296 * q) * 103 / 2 ^ 10 ≡ p * 103 / 1024 + 4194304 * (q * 103) = omega arith in
+    let s = shifted-22 (p * 103 / 1024) (q * 103) (omega arith) in
+    let low : bitAnd (q * 103 % 1024 * 4194304 + p * 103 / 1024) 983055 ≡ bitAnd (p * 103 / 1024) 983055 =
+    and-block 22 (q * 103 % 1024) 0 (p * 103 / 1024) 983055 (omega arith) (omega arith) ∙ rw (and-zero-r (q * 103 % 1024)) (omega arith) in
+    rw x (side (p * 103 / 1024 + 4194304 * (q * 103)) 983055 (omega arith) ∙ rw (s .0, s .1, low) (omega arith))
+
+pub record Side (y a b : ℕ) : Type 0 where
+  pub hundreds : bitAnd (y * 5243 / 524288) 545460846719 ≡ hundredsOf a + 4294967296 * hundredsOf b
+  pub less : 100 * (hundredsOf a + 4294967296 * hundredsOf b) ≤ y
+  pub pair : hundredsOf a + 4294967296 * hundredsOf b + 65536 * (y - 100 * (hundredsOf a + 4294967296 * hundredsOf b))
+      ≡ pairOf a + 4294967296 * pairOf b
+  pub most : pairOf a + 4294967296 * pairOf b < 36028797027352576
+  pub tens : bitAnd ((pairOf a + 4294967296 * pairOf b) * 103 / 1024) 4222189076152335 ≡ tensOf a + 4294967296 * tensOf b
+  pub within : 2559 * (tensOf a + 4294967296 * tensOf b) ≤ 256 * (pairOf a + 4294967296 * pairOf b)
+  pub result : 256 * (pairOf a + 4294967296 * pairOf b) - 2559 * (tensOf a + 4294967296 * tensOf b) ≡ valuesOf a + 4294967296 * valuesOf b
+
+hundreds-less : (n : ℕ) → n < 10000 → 100 * hundredsOf n ≤ n
+unfolding hundredsOf
+hundreds-less n l = omega arith
+
+pub side-by-side : (a b : ℕ) → a < 10000 → b < 10000 → Side (a + 4294967296 * b) a b
+unfolding pairOf valuesOf
+side-by-side a b l h =
+    let m = hundreds-less a l in
+    let n = hundreds-less b h in
+    let p = pair-most a l in
+    let q = pair-most b h in
+    let v = values a l .within in
+    let w = values b h .within in
+    record {
+      hundreds = hundreds-two a b l h;
+      less = omega (arith, m, n);
+      pair = omega (arith, m, n);
+      most = omega (arith, p, q);
+      tens = tens-two a b l h;
+      within = omega (arith, v, w);
+      result = omega (arith, v, w);
+    }
 
 pub lead-most : (n : ℕ) → leadOf n ≤ 3
 unfolding leadOf
@@ -218,23 +315,96 @@ ended-bytes n c l h =
     let one : c % 256 ≡ c = omega arith in
     rw (k, b .1) (joined (4 - leadOf n) 1 (fourOf n / 2 ^ (8 * leadOf n)) c (b .0) ∙ rw (one, digits n l))
 
--- a signed number with the byte after it
+-- ---- integers
 minus : (k w : ℕ) → bytesOf (suc k) (45 + 256 * w) ≡ 45 ∷ bytesOf k w
 minus k w =
     let low : (45 + 256 * w) % 256 ≡ 45 = omega arith in
     let high : (45 + 256 * w) / 256 ≡ w = omega arith in
     rw (low, high)
 
-pub ended-low : (u z c : ℕ) → u < z → z < 10000 → c < 256
-    → bytesOf (6 - leadOf (z - u)) (45 + 256 * endedOf (z - u) c) ≡ signed (pos u -ℤ pos z) ++ (c ∷ [])
-ended-low u z c l h b =
-    let m = lead-most (z - u) in
-    let k : 6 - leadOf (z - u) ≡ suc (5 - leadOf (z - u)) = omega arith in
-    rw (k, signed-low u z l) (minus (5 - leadOf (z - u)) (endedOf (z - u) c) ∙ ap (λ (t : List ℕ). 45 ∷ t) (ended-bytes (z - u) c (omega arith) b))
+pub apart-few : (u z : ℕ) → u < 10000 → z < 10000 → apart u z < 10000
+unfolding apart
+apart-few u z l h = go (ltb u z)
+  where
+    go : (b : Bool) → cond b (z - u) (u - z) < 10000
+    go true = omega arith
+    go false = omega arith
 
-pub ended-high : (u z c : ℕ) → z ≤ u → u < 10000 → c < 256
-    → bytesOf (5 - leadOf (u - z)) (endedOf (u - z) c) ≡ signed (pos u -ℤ pos z) ++ (c ∷ [])
-ended-high u z c l h b = rw (signed-high u z l) (ended-bytes (u - z) c (omega arith) b)
+pub signed-parts : (u z : ℕ) → signed (pos u -ℤ pos z) ≡ minusIf u z ++ dec (apart u z)
+unfolding apart minusIf
+signed-parts u z = go (ltb u z) refl
+  where
+    go : (b : Bool) → ltb u z ≡ b → signed (pos u -ℤ pos z) ≡ cond b (codes "-") [] ++ dec (cond b (z - u) (u - z))
+    go true e = signed-low u z (ltb-true u z e)
+    go false e = signed-high u z (ltb-false u z e)
+
+take-bytes : (j k w : ℕ) → j ≤ k → take j (bytesOf k w) ≡ bytesOf j w
+take-bytes zero k w l = refl
+take-bytes (suc j) zero w l = absurd (omega (arith, l))
+take-bytes (suc j) (suc k) w l = ap (λ (t : List ℕ). (w % 256) ∷ t) (take-bytes j k (w / 256) (le-of-suc-le-suc l))
+
+-- a text of which the first j bytes are kept
+pub first-bytes : {d e : List ℕ} {at r : ℕ} (a : List ℕ) (j m : ℕ) → j ≤ length a → length a ≤ j + m → Wrote d at a e r
+    → Over m d at (take j a) e (at + j)
+first-bytes {d} {e} {at} {r} a j m l h p = record {
+  over = λ u f o k q. over a u j l (omega (arith, h, k)) p q;
+  next = ap (λ (n : ℕ). at + n) (sym (length-take-le j a l));
+}
+
+pub over-more : {d e f t u : List ℕ} {at r o : ℕ} (m k : ℕ) → m ≤ length u + k → Over m d at t e r → Over k e r u f o → Over k d at (t ++ u) f o
+over-more {d} {e} {f} {t} {u} {at} {r} {o} m k l p q = record {
+  over = λ w g z h x.
+      subst (λ (v : List ℕ). Wrote d at v g z) (sym (append-assoc t u w))
+      (p .over (u ++ w) g z (omega (arith, l, h, length-append u w)) (q .over w g z h x));
+  next = q .next ∙ rw (p .next, length-append t u) (omega arith);
+}
+
+pub sign-over : (d : List ℕ) (at u z : ℕ) → Over 1 d at (minusIf u z) (set d at 45) (at + cond (ltb u z) 1 0)
+unfolding minusIf
+sign-over d at u z = go (ltb u z)
+  where
+    p : Wrote d at (45 ∷ []) (set d at 45) (at + 1)
+    p = record { bytes = refl; next = refl }
+
+    go : (b : Bool) → Over 1 d at (cond b (codes "-") []) (set d at 45) (at + cond b 1 0)
+    go true = first-bytes (45 ∷ []) 1 1 (omega arith) (omega arith) p
+    go false = first-bytes (45 ∷ []) 0 1 (omega arith) (omega arith) p
+
+-- the digits of a number, up to three bytes too many
+pub digits-over : {d e : List ℕ} {at r : ℕ} (n : ℕ) → n < 10000 → Wrote d at (bytesOf 4 (digitsOf n)) e r
+    → Over 3 d at (dec n) e (at + (4 - leadOf n))
+digits-over {d} {e} {at} {r} n l p =
+    let m = lead-most n in
+    let k = bytes-length 4 (digitsOf n) in
+    let o = first-bytes (bytesOf 4 (digitsOf n)) (4 - leadOf n) 3 (omega (arith, m, k)) (omega (arith, m, k)) p in
+    rw (take-bytes (4 - leadOf n) 4 (digitsOf n) (omega (arith, m)), digits-bytes n l) at o
+
+-- with a byte after it
+pub ended-integer : {d e f : List ℕ} {at r o : ℕ} (u z c : ℕ) → u < 10000 → z < 10000 → c < 256 → Over 1 d at (minusIf u z) e r
+    → Wrote e r (bytesOf (5 - leadOf (apart u z)) (endedOf (apart u z) c)) f o → Wrote d at (signed (pos u -ℤ pos z) ++ (c ∷ [])) f o
+ended-integer {d} {e} {f} {at} {r} {o} u z c l h b p q =
+    let n = apart u z in
+    let t = ended-bytes n c (apart-few u z l h) b in
+    let k = length-append (dec n) (c ∷ []) in
+    rw (signed-parts u z, append-assoc (minusIf u z) (dec n) (c ∷ [])) (p .over (dec n ++ (c ∷ [])) f o (omega (arith, k)) (rw t at q))
+
+-- two with a colon between
+pub span-text : {d e f : List ℕ} {at r o : ℕ} (s t : List ℕ) → 2 ≤ length t → Over 3 d at s e r → Wrote (set e r 58) (r + 1) t f o
+    → Wrote d at ((s ++ codes ":") ++ t) f o
+span-text {d} {e} {f} {at} {r} {o} s t l p q =
+    let colon : Wrote e r (58 ∷ []) (set e r 58) (r + 1) = record { bytes = refl; next = refl } in
+    rw (append-assoc s (codes ":") t) (p .over (58 ∷ t) f o (omega (arith, l)) (after colon q))
+
+pub signed-some : (u z : ℕ) → u < 10000 → z < 10000 → 1 ≤ length (signed (pos u -ℤ pos z))
+signed-some u z l h =
+    let n = apart u z in
+    let m = lead-most n in
+    let k : length (dec n) ≡ 4 - leadOf n =
+    ap length (sym (digits-bytes n (apart-few u z l h))) ∙ bytes-length (4 - leadOf n) (digitsOf n) in
+    rw (signed-parts u z, length-append (minusIf u z) (dec n), k) (omega (arith, m))
+
+pub halves : (v m n : ℕ) → m < 10000 → v ≡ valuesOf m + 4294967296 * valuesOf n → (v % 4294967296 ≡ valuesOf m) × (v / 4294967296 ≡ valuesOf n)
+halves v m n l e = let k = values m l .most in (omega (arith, e, k), omega (arith, e, k))
 
 spaced-test : ℕ → Bool
 spaced-test n = same (bytesOf (1 - cond (ltb n 10) 1 0 + 2) (spacedOf n)) (dec n ++ codes " ")

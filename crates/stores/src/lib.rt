@@ -2,12 +2,12 @@
 ghost use mathlib.Core.Path.{_≡_};
 ghost use mathlib.Core.Bool.{cond};
 ghost use mathlib.Core.List.{[], _∷_, _++_};
-ghost use Prim.Native.Nat.{_+_, _-_, _*_, _/_, _≤_, _<_, _^_};
+ghost use Prim.Native.Nat.{_+_, _-_, _*_, _/_, _%_, _≤_, _<_, _^_};
 ghost use lib.Dec.{ltb};
 ghost use lib.ListN.{length};
 ghost use lib.IntN.{pos, _-ℤ_};
 ghost use Rattle.text.specs.Text.{Wrote, codes, dec, signed};
-ghost use Rattle.stores.specs.Engine.{bytesOf, valuesOf, fourOf, leadOf, digitsOf, endedOf};
+ghost use Rattle.stores.specs.Engine.{bytesOf, valuesOf, zerosIn, fourOf, leadOf, digitsOf, endedOf, apart, minusIf, Over};
 
 // Two bytes, in one store.
 fn put_two(out: &mut [u8], at: usize, w: u64) -> usize
@@ -88,6 +88,18 @@ fn values_of(n: u32) -> u32
     256 * pair - 2559 * tens
 }
 
+// The same of two numbers side by side.
+fn values_of_two(m: u32, n: u32) -> u64
+    requires { ⌜ (m < 10000) × (n < 10000) ⌝ }
+    ensures { λ r. ⌜ r ≡ valuesOf m + 4294967296 * valuesOf n ⌝ }
+{
+    let both = m as u64 + 4294967296 * n as u64;
+    let hundreds = ((both * 5243) >> 19) & 0x7F0000007F;
+    let pair = hundreds + 65536 * (both - 100 * hundreds);
+    let tens = ((pair * 103) >> 10) & 0xF000F000F000F;
+    256 * pair - 2559 * tens
+}
+
 // As text.
 fn four_of(n: u32) -> u64
     requires { ⌜ n < 10000 ⌝ }
@@ -103,12 +115,21 @@ fn one_if(t: bool) -> usize
     t as usize
 }
 
-// How many of the four digits are zeros in front: those below the lowest bit that is set, where the last digit counts as one.
+// How many of the four digits are zeros in front, by their values: those below the lowest bit that is set, where the last counts as one.
+fn zeros_of(v: u32) -> usize
+    requires { ⌜ v < 168430090 ⌝ }
+    ensures { λ r. ⌜ r ≡ zerosIn v ⌝ }
+    ensures bounded { λ r. ⌜ r ≤ 3 ⌝ }
+{
+    (u32::trailing_zeros(v + 0x1000000) / 8) as usize
+}
+
+// By the number.
 pub fn lead_of(n: u32) -> usize
     requires { ⌜ n < 10000 ⌝ }
     ensures { λ r. ⌜ (r ≡ leadOf n) × (r ≤ 3) ⌝ }
 {
-    (u32::trailing_zeros(values_of(n) + 0x1000000) / 8) as usize
+    zeros_of(values_of(n))
 }
 
 // The digits of a number.
@@ -127,29 +148,66 @@ pub fn ended_of(n: u32, c: u64) -> u64
     (four_of(n) + c * 4294967296) >> (8 * lead_of(n))
 }
 
-// The integer u - zero in decimal, and a byte after it.
-pub fn put_ended(out: &mut [u8], at: usize, u: u32, zero: u32, c: u64) -> usize
-    requires { ⌜ (u < 10000) × (zero < 10000) × (c < 256) × (at + 6 ≤ length (now out)) × (at ≤ 1030000) ⌝ }
+// How far two numbers are apart.
+fn apart_of(u: u32, zero: u32) -> u32
+    requires { ⌜ (u < 10000) × (zero < 10000) ⌝ }
+    ensures { λ r. ⌜ (r ≡ apart u zero) × (r < 10000) ⌝ }
+{
+    if u < zero {
+        return zero - u;
+    }
+    u - zero
+}
+
+// The minus of an integer u - zero below 0: it is stored in any case, and what follows is stored over it where there is none.
+fn put_sign(out: &mut [u8], at: usize, u: u32, zero: u32) -> usize
+    requires { ⌜ (at + 1 ≤ length (now out)) × (at ≤ 1040000) ⌝ }
+    ensures { λ r. ⌜ Over 1 (now (out .entry)) at (minusIf u zero) (now (out .exit)) r ⌝ }
+    ensures bounded { λ r. ⌜ r ≤ at + 1 ⌝ }
+{
+    out[at] = b'-';
+    at + one_if(u < zero)
+}
+
+// The integer u - zero in decimal, by the values of its digits, up to three bytes too many: what follows is stored over them.
+fn put_integer(out: &mut [u8], at: usize, u: u32, zero: u32, v: u64) -> usize
+    requires { ⌜ (u < 10000) × (zero < 10000) × (v ≡ valuesOf (apart u zero)) × (v < 168430090) × (at + 5 ≤ length (now out)) × (at ≤ 1025000) ⌝ }
+    ensures { λ r. ⌜ Over 3 (now (out .entry)) at (signed (pos u -ℤ pos zero)) (now (out .exit)) r ⌝ }
+    ensures bounded { λ r. ⌜ r ≤ at + 5 ⌝ }
+{
+    let lead = zeros_of(v as u32);
+    let a = put_sign(out, at, u, zero);
+    put_four(out, a, (v + 0x30303030) >> (8 * lead));
+    a + (4 - lead)
+}
+
+// The same with a byte after it, and nothing more.
+fn put_ended(out: &mut [u8], at: usize, u: u32, zero: u32, v: u64, c: u64) -> usize
+    requires { ⌜ (u < 10000) × (zero < 10000) × (v ≡ valuesOf (apart u zero)) × (v < 168430090) × (c < 256) × (at + 6 ≤ length (now out)) × (at ≤ 1025000) ⌝ }
     ensures { λ r. ⌜ Wrote (now (out .entry)) at (signed (pos u -ℤ pos zero) ++ (c ∷ [])) (now (out .exit)) r ⌝ }
     ensures bounded { λ r. ⌜ r ≤ at + 6 ⌝ }
 {
-    if u < zero {
-        let n = zero - u;
-        return put_short(out, at, 45 + 256 * ended_of(n, c), 6 - lead_of(n));
-    }
-    let n = u - zero;
-    put_short(out, at, ended_of(n, c), 5 - lead_of(n))
+    let lead = zeros_of(v as u32);
+    let a = put_sign(out, at, u, zero);
+    put_short(
+        out,
+        a,
+        (v + 0x30303030 + c * 4294967296) >> (8 * lead),
+        5 - lead,
+    )
 }
 
-// Two such integers with a colon between, and a byte after them.
+// Two integers with a colon between, and a byte after them: the digits of both at once.
 pub fn put_span(out: &mut [u8], at: usize, lo: u32, hi: u32, zero: u32, c: u64) -> usize
     requires { ⌜ (lo < 10000) × (hi < 10000) × (zero < 10000) × (c < 256) × (at + 12 ≤ length (now out)) × (at ≤ 1020000) ⌝ }
     ensures { λ r. ⌜ Wrote (now (out .entry)) at ((signed (pos lo -ℤ pos zero) ++ codes ":") ++ (signed (pos hi -ℤ pos zero) ++ (c ∷ [])))
         (now (out .exit)) r ⌝ }
     ensures bounded { λ r. ⌜ r ≤ at + 12 ⌝ }
 {
-    let a = put_ended(out, at, lo, zero, 58);
-    put_ended(out, a, hi, zero, c)
+    let v = values_of_two(apart_of(lo, zero), apart_of(hi, zero));
+    let a = put_integer(out, at, lo, zero, v % 4294967296);
+    out[a] = b':';
+    put_ended(out, a + 1, hi, zero, v / 4294967296, c)
 }
 
 // A number below 100, and a space after it.

@@ -1,8 +1,6 @@
-use mathlib.Core.Path.{_≡_}
-use Prim.Native.Nat.{_+_, _/_}
+use mathlib.Core.Path.{_≡_, _∙_, ap}
 use native.Mathlib.Omega.{arith}
-use lib.Count.{trailingZeros}
-use Rattle.stores.specs.Engine.{leadOf}
+use Rattle.stores.specs.Engine.{zerosIn, leadOf}
 use Rattle.stores.proofs.Laws.{values, lead-most}
 use borrow.Author.Needs.{needs}
 use Rattle.stores.proofs.lead_of.Statement.{statement}
@@ -10,28 +8,23 @@ use Rattle.stores.proofs.lead_of.Tie as tie
 use Rattle.stores.proofs.lead_of.Reads as reads
 use Rattle.stores.proofs.lead_of.Lts as lts
 use Rattle.stores.proofs.values_of.Reads as values-of-reads
+use Rattle.stores.proofs.zeros_of.Reads as zeros-of-reads
 
--- src/lib.rt:111:26
+-- src/lib.rt:130:14
 values-of-requires : tie.Need-values-of-requires
 values-of-requires c κs = search needs
 
--- src/lib.rt:111:26
-add-result : tie.Need-add-result
-add-result c = search needs
+-- src/lib.rt:130:5
+zeros-of-requires : tie.Need-zeros-of-requires
+zeros-of-requires c κs = search needs
 
--- src/lib.rt:111:5
-cast-result : tie.Need-cast-result
-cast-result c =
-    let n = c .before .args .n in
-    let e : trailingZeros 32 (c .values-of .result + 16777216) / 8 ≡ leadOf n = rw (c .values-of .ensures .0) (values n (c .before .pre) .zeros) in
-    omega (arith, e, lead-most n)
-
--- src/lib.rt:107:1
+-- src/lib.rt:126:1
 returns : tie.Need-returns
 returns c =
-    let n = c .before .args .n in
-    let e : trailingZeros 32 (c .values-of .result + 16777216) / 8 ≡ leadOf n = rw (c .values-of .ensures .0) (values n (c .before .pre) .zeros) in
+    let n = c .before .before .args .n in
+    let e : c .zeros-of .result ≡ leadOf n =
+    c .zeros-of .ensures .0 ∙ ap zerosIn (c .before .values-of .ensures .0) ∙ values n (c .before .before .pre) .zeros in
     (e, omega (arith, e, lead-most n))
 
 pub lead-of-spec : {M : Type 1} → statement M
-lead-of-spec = tie.close (tie.spec values-of-requires add-result cast-result returns)
+lead-of-spec = tie.close (tie.spec values-of-requires zeros-of-requires returns)

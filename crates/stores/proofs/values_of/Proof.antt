@@ -1,7 +1,7 @@
 use mathlib.Core.Path.{refl}
 use native.Mathlib.Omega.{arith}
 use Prim.Native.Nat.{ℕ, _*_, _<_}
-use Rattle.stores.specs.Engine.{pairOf, tensOf, valuesOf}
+use Rattle.stores.specs.Engine.{hundredsOf, pairOf, tensOf, valuesOf}
 use Rattle.stores.proofs.Laws.{values}
 use borrow.Author.Needs.{needs}
 use Rattle.stores.proofs.values_of.Statement.{statement}
@@ -10,7 +10,7 @@ use Rattle.stores.proofs.values_of.Reads as reads
 use Rattle.stores.proofs.values_of.Lts as lts
 
 below-256 : (n : ℕ) → n < 10000 → 256 * pairOf n < 4294967296
-unfolding pairOf
+unfolding hundredsOf pairOf
 below-256 n l = omega arith
 
 -- src/lib.rt:85:21
@@ -43,19 +43,19 @@ mul-result c = search needs
 
 -- src/lib.rt:88:18
 mul-result-2 : tie.Need-mul-result-2
-unfolding pairOf tensOf
+unfolding hundredsOf pairOf tensOf
 mul-result-2 c =
     let n = c .args .n in
     omega (arith, values n (c .pre) .within, below-256 n (c .pre))
 
 -- src/lib.rt:88:5
 sub-result : tie.Need-sub-result
-unfolding pairOf tensOf
+unfolding hundredsOf pairOf tensOf
 sub-result c = values (c .args .n) (c .pre) .within
 
 -- src/lib.rt:81:1
 returns : tie.Need-returns
-unfolding pairOf tensOf valuesOf
+unfolding hundredsOf pairOf tensOf valuesOf
 returns c = (refl, values (c .args .n) (c .pre) .most)
 
 pub values-of-spec : {M : Type 1} → statement M
