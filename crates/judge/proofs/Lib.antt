@@ -5,3 +5,4 @@ pub mod Sealed
 pub mod Steps
 pub mod Formats
 pub mod Told
+pub mod Marks

@@ -5,12 +5,13 @@ use answer::Outcome;
 ghost use mathlib.Core.Path.{_≡_};
 ghost use mathlib.Core.Bool.{true, false, cond, _&&_};
 ghost use Prim.Native.Nat.{_+_, _%_, _^_, _≤_, _<_};
-ghost use lib.Dec.{eqb, ltb};
+ghost use lib.Dec.{eqb, ltb, leb};
 ghost use lib.ListN.{length, replicate};
 ghost use Rattle.answer.specs.Decides.{Decides};
 ghost use Rattle.answer.specs.Every.{every};
 ghost use Rattle.answer.specs.Lists.{at, Front};
 ghost use Rattle.channel.specs.Layout.{positions};
+ghost use Rattle.stations.specs.Stations.{repeated};
 ghost use Rattle.stations.specs.Engine.{anyRepeated};
 ghost use Rattle.words.specs.Words.{secondWord};
 ghost use Rattle.words.specs.Engine.{valueOf};
@@ -199,28 +200,77 @@ fn are_formatted(words: &[u32], bw: u32, row: &[u16], shared: u32, n: usize, m: 
     channel_formatted(words, 10 + n, bw, 2, row, shared)
 }
 
-// ---- whether a STA-ID stands again (01, 11): a bit for each, in words of 64, and one answer gathered over all
+// ---- whether a STA-ID stands again (01, 11): one answer gathered over all
 
-// Of t User words any has a STA-ID that may not stand again and does.
+// The STA-ID of the j-th User word.
+fn station_on(words: &[u32], j: usize) -> usize
+    requires { ⌜ (j < 144) × (10 + j < length (now words)) ⌝ }
+    ensures { λ r. ⌜ (r < 2048) × (r ≡ stationOn (now (words .entry)) j) ⌝ }
+{
+    (words[10 + j] / 256 % 2048) as usize
+}
+
+// "a STA-ID from 1 to 2006"
+fn is_once(id: usize) -> bool
+    ensures { λ r. ⌜ r ≡ ltb 0 id && leb id 2006 ⌝ }
+{
+    (0 < id) & (id <= 2006)
+}
+
+// Of t User words any has a STA-ID that may not stand again and does: a mark for each STA-ID.
+fn any_marked(words: &[u32], t: usize) -> bool
+    requires { ⌜ (t ≤ 144) × (10 + t ≤ length (now words)) ⌝ }
+    ensures { λ r. ⌜ r ≡ anyRepeated (stationOn (now (words .entry))) t ⌝ }
+{
+    let mut marks = [false; 2048];
+    let mut again = false;
+    let mut j: usize = 0;
+    while j < t {
+        let id = station_on(words, j);
+        again = again | marks[id];
+        marks[id] = is_once(id);
+        j += 1;
+    }
+    again
+}
+
+// Whether the j-th may not stand again and does, by those before it.
+fn stands_again(words: &[u32], j: usize) -> bool
+    requires { ⌜ (j < 144) × (10 + j < length (now words)) ⌝ }
+    ensures { λ r. ⌜ r ≡ repeated (stationOn (now (words .entry))) j ⌝ }
+{
+    let id = station_on(words, j);
+    let mut met = false;
+    let mut i: usize = 0;
+    while i < j {
+        met = met | (station_on(words, i) == id);
+        i += 1;
+    }
+    is_once(id) & met
+}
+
+// The same of few: no marks are cleared for them.
+fn any_of_few(words: &[u32], t: usize) -> bool
+    requires { ⌜ (t ≤ 144) × (10 + t ≤ length (now words)) ⌝ }
+    ensures { λ r. ⌜ r ≡ anyRepeated (stationOn (now (words .entry))) t ⌝ }
+{
+    let mut again = false;
+    let mut j: usize = 0;
+    while j < t {
+        again = again | stands_again(words, j);
+        j += 1;
+    }
+    again
+}
+
 fn any_again(words: &[u32], t: usize) -> bool
     requires { ⌜ (t ≤ 144) × (10 + t ≤ length (now words)) ⌝ }
     ensures { λ r. ⌜ r ≡ anyRepeated (stationOn (now (words .entry))) t ⌝ }
 {
-    if t < 2 {
-        return false; // one station repeats none
+    if t <= 8 {
+        return any_of_few(words, t);
     }
-    let mut marks = [0u64; 32];
-    let mut again = false;
-    let mut j: usize = 0;
-    while j < t {
-        let id = (words[10 + j] / 256 % 2048) as u16;
-        let k = id as usize / 64;
-        let w = marks[k];
-        again = again | stations::is_marked(w, id);
-        marks[k] = stations::with_mark(w, id);
-        j += 1;
-    }
-    again
+    any_marked(words, t)
 }
 
 // ---- all
