@@ -101,7 +101,8 @@ module _ (bw : ℕ) (a b : List ℕ) where
 
   apart-none : apart ≡ 0 → least (differs a b) 17 ≡ 17
   apart-none e =
-      let even = λ k l. sym (apart-bit k l) ∙ ap (λ (x : ℕ). x / 2 ^ k % 2) e ∙ none k in
+      let even : (k : ℕ) → k < 17 → (bit a k + bit b k) % 2 ≡ 0 =
+      λ k l. sym (apart-bit k l) ∙ ap (λ (x : ℕ). x / 2 ^ k % 2) e ∙ none k in
       least-none (differs a b) 17 (λ k l. agree a b k (even-same _ _ (bit-lt a k) (bit-lt b k) (even k l)))
     where
       none : (k : ℕ) → 0 / 2 ^ k % 2 ≡ 0
