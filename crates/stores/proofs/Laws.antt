@@ -13,9 +13,9 @@ use lib.Seq.{sets, set-comm, set-set, length-take-le}
 use borrow.Author.Tests.{ltb-true, ltb-false, le-ltb}
 use lib.IntN.{pos, _-ℤ_}
 use Rattle.text.specs.Text.{Wrote, codes, dec, signed}
-use Rattle.text.proofs.Laws.{after, digit-alone, signed-low, signed-high}
+use Rattle.text.proofs.Laws.{after, kept, digit-alone, signed-low, signed-high}
 use Rattle.resource.proofs.Test.{both-left, both-right, below, every-below}
-use Rattle.stores.specs.Engine.{bytesOf, hundredsOf, pairOf, tensOf, valuesOf, zerosIn, fourOf, leadOf, digitsOf, endedOf, spacedOf, apart, minusIf, Over}
+use Rattle.stores.specs.Engine.{bytesOf, hundredsOf, pairOf, tensOf, valuesOf, zerosIn, fourOf, leadOf, digitsOf, endedOf, spacedOf, apart, minusIf, Over, Under}
 
 -- ---- stores
 set-before : (d : List ℕ) (i j x : ℕ) (t : List ℕ) → i < j → sets (set d i x) j t ≡ set (sets d j t) i x
@@ -405,6 +405,127 @@ signed-some u z l h =
 
 pub halves : (v m n : ℕ) → m < 10000 → v ≡ valuesOf m + 4294967296 * valuesOf n → (v % 4294967296 ≡ valuesOf m) × (v / 4294967296 ≡ valuesOf n)
 halves v m n l e = let k = values m l .most in (omega (arith, e, k), omega (arith, e, k))
+
+-- ---- stores from the right to the left: what is too much lies before
+sets-apart : (d : List ℕ) (from q : ℕ) (s u : List ℕ) → from + length s ≤ q → sets (sets d q u) from s ≡ sets (sets d from s) q u
+sets-apart d from q [] u l = refl
+sets-apart d from q (x ∷ s) u l =
+    ap (λ (e : List ℕ). sets e (suc from) s) (sym (set-before d from q x u (omega (arith, l))))
+    ∙ sets-apart (set d from x) (suc from) q s u (omega (arith, l))
+
+sets-within : (d : List ℕ) (from i : ℕ) (j s : List ℕ) → i + length j ≡ length s → sets (sets d (from + i) j) from s ≡ sets d from s
+sets-within d from i j s l =
+    let a = take i s in
+    let b = drop i s in
+    let n : length a ≡ i = length-take-le i s (omega (arith, l)) in
+    let m : length b ≡ length s - i = length-drop i s in
+    let here : (e : List ℕ) → sets (sets e from a) (from + i) b ≡ sets e from s =
+    λ e. rw n at (sets-append e from a b) ∙ ap (sets e from) (take-append-drop i s) in
+    sym (here (sets d (from + i) j))
+    ∙ ap (λ (e : List ℕ). sets e (from + i) b) (sets-apart d from (from + i) a j (omega (arith, n)))
+    ∙ sets-over (sets d from a) (from + i) j b (omega (arith, m, l))
+    ∙ here d
+
+-- of a text the part from its byte |j| on
+pub last-bytes : {d e : List ℕ} {p r : ℕ} (j u : List ℕ) (at : ℕ) → at ≡ p + length j → Wrote d p (j ++ u) e r → Under (length j) d at u e r
+last-bytes {d} {e} {p} {r} j u at k w = record {
+  under = λ s f from h q.
+      let i = length s - length j in
+      let place : from + i ≡ p = omega (arith, q .next, k, h) in
+      let end : from + length s ≡ at = sym (q .next) in
+      let both : e ≡ sets (sets d p j) at u = w .bytes ∙ sym (sets-append d p j u) ∙ ap (λ (n : ℕ). sets (sets d p j) n u) (sym k) in
+      let inner : sets (sets d p j) from s ≡ sets d from s =
+      ap (λ (n : ℕ). sets (sets d n j) from s) (sym place) ∙ sets-within d from i j s (omega (arith, h)) in
+      record {
+        bytes = q .bytes ∙ ap (λ (x : List ℕ). sets x from s) both
+            ∙ sets-apart (sets d p j) from at s u (omega (arith, end))
+            ∙ ap (λ (x : List ℕ). sets x at u) inner
+            ∙ ap (λ (n : ℕ). sets (sets d from s) n u) (sym end)
+            ∙ sets-append d from s u;
+        next = w .next ∙ rw (length-append j u, length-append s u) (omega (arith, k, end));
+      };
+  size = kept w;
+}
+
+-- what is written before a text, and what is before that
+pub under-more : {d e f t u : List ℕ} {at mid r : ℕ} (m k : ℕ) → m ≤ length u + k → Under m d mid t e r → Under k e at u f mid
+    → Under k d at (u ++ t) f r
+under-more {d} {e} {f} {t} {u} {at} {mid} {r} m k l p q = record {
+  under = λ s g from h w.
+      subst (λ (x : List ℕ). Wrote d from x g r) (append-assoc s u t)
+      (p .under (s ++ u) g from (omega (arith, l, h, length-append s u)) (q .under s g from h w));
+  size = q .size ∙ p .size;
+}
+
+-- the digits of a number, up to three bytes too many before them
+pub digits-under : {d e : List ℕ} {p r : ℕ} (n at : ℕ) → n < 10000 → at ≡ p + leadOf n → Wrote d p (bytesOf 4 (fourOf n)) e r → Under 3 d at (dec n) e r
+digits-under {d} {e} {p} {r} n at l k w =
+    let m = lead-most n in
+    let a = bytesOf (leadOf n) (fourOf n) in
+    let b = bytesOf (4 - leadOf n) (fourOf n / 256 ^ leadOf n) in
+    let sum : leadOf n + (4 - leadOf n) ≡ 4 = omega (arith, m) in
+    let parts : bytesOf 4 (fourOf n) ≡ a ++ b = rw sum at (bytes-append (leadOf n) (4 - leadOf n) (fourOf n)) in
+    let right : b ≡ dec n = rw (sym (pow-256 (leadOf n) (omega (arith, m)))) (digits n l) in
+    let len = bytes-length (leadOf n) (fourOf n) in
+    let u = last-bytes a b at (omega (arith, k, len)) (rw parts at w) in
+    record { under = λ s f from h q. rw right at (u .under s f from (omega (arith, h, len, m)) q); size = u .size; }
+
+pub under-weak : {d e t : List ℕ} {at r : ℕ} (m k : ℕ) → m ≤ k → Under m d at t e r → Under k d at t e r
+under-weak m k l p = record { under = λ s f from h q. p .under s f from (omega (arith, l, h)) q; size = p .size; }
+
+pub one-under : (d : List ℕ) (at x : ℕ) → Under 0 d at (x ∷ []) (set d at x) (at + 1)
+one-under d at x =
+    let w : Wrote d at (x ∷ []) (set d at x) (at + 1) = record { bytes = refl; next = refl } in
+    last-bytes [] (x ∷ []) at (omega arith) w
+
+-- a minus, or nothing and a byte before
+pub sign-under : (d : List ℕ) (at u z : ℕ) → 1 ≤ at → Under 3 d at (minusIf u z) (set d (at + cond (ltb u z) 1 0 - 1) 45) (at + cond (ltb u z) 1 0)
+unfolding minusIf
+sign-under d at u z l = go (ltb u z)
+  where
+    go : (b : Bool) → Under 3 d at (cond b (codes "-") []) (set d (at + cond b 1 0 - 1) 45) (at + cond b 1 0)
+    go true =
+        let e : at + 1 - 1 ≡ at = omega arith in
+        rw e (under-weak 0 3 (omega arith) (one-under d at 45))
+    go false =
+        let p = at + 0 - 1 in
+        let w : Wrote d p (45 ∷ []) (set d p 45) (p + 1) = record { bytes = refl; next = refl } in
+        let e : p + 1 ≡ at + 0 = omega (arith, l) in
+        under-weak 1 3 (omega arith) (last-bytes (45 ∷ []) [] at (omega (arith, l)) (rw e at w))
+
+pub signed-length : (u z : ℕ) → u < 10000 → z < 10000
+    → length (signed (pos u -ℤ pos z)) ≡ cond (ltb u z) 1 0 + (4 - leadOf (apart u z))
+unfolding minusIf
+signed-length u z l h =
+    let n = apart u z in
+    let k : length (dec n) ≡ 4 - leadOf n =
+    ap length (sym (digits-bytes n (apart-few u z l h))) ∙ bytes-length (4 - leadOf n) (digitsOf n) in
+    ap length (signed-parts u z) ∙ length-append (minusIf u z) (dec n) ∙ rw (k, sign (ltb u z))
+  where
+    sign : (b : Bool) → length (cond b (codes "-") []) ≡ cond b 1 0
+    sign true = refl
+    sign false = refl
+
+-- an integer from its last digit to its sign
+pub signed-under : {d e f : List ℕ} {at p r mid : ℕ} (u z : ℕ) → u < 10000 → z < 10000 → r ≡ at + length (signed (pos u -ℤ pos z)) → p + 4 ≡ r
+    → Wrote d p (bytesOf 4 (fourOf (apart u z))) e mid → Under 3 e at (minusIf u z) f (at + cond (ltb u z) 1 0)
+    → Under 3 d at (signed (pos u -ℤ pos z)) f r
+signed-under {d} {e} {f} {at} {p} {r} {mid} u z l h k q w s =
+    let n = apart u z in
+    let m = lead-most n in
+    let len = signed-length u z l h in
+    let b = bytes-length 4 (fourOf n) in
+    let end : mid ≡ r = w .next ∙ rw b q in
+    let g = digits-under n (at + cond (ltb u z) 1 0) (apart-few u z l h) (omega (arith, len, k, q, m)) (rw end at w) in
+    rw (signed-parts u z) (under-more 3 3 (omega arith) g s)
+
+-- two with a colon between and a byte after
+pub run-under : {d e f g h : List ℕ} {at a b r : ℕ} (s t : List ℕ) (c : ℕ) → b ≡ a + 1 → Under 0 d r (c ∷ []) e (r + 1) → Under 3 e b t f r
+    → Under 0 f a (58 ∷ []) g b → Under 3 g at s h a → Under 3 d at ((s ++ codes ":") ++ (t ++ (c ∷ []))) h (r + 1)
+run-under {d} {e} {f} {g} {h} {at} {a} {b} {r} s t c l x y z w =
+    let right = under-more 0 3 (omega arith) x y in
+    let mid = under-more 3 2 (omega arith) right (under-weak 0 2 (omega arith) z) in
+    rw (append-assoc s (codes ":") (t ++ (c ∷ []))) (under-more 2 3 (omega arith) mid w)
 
 spaced-test : ℕ → Bool
 spaced-test n = same (bytesOf (1 - cond (ltb n 10) 1 0 + 2) (spacedOf n)) (dec n ++ codes " ")

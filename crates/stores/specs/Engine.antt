@@ -63,3 +63,8 @@ minusIf u z = cond (ltb u z) (codes "-") []
 pub record Over (m : ℕ) (d : List ℕ) (at : ℕ) (t : List ℕ) (e : List ℕ) (r : ℕ) : Type 0 where
   pub over : (u f : List ℕ) (o : ℕ) → m ≤ length u → Wrote e r u f o → Wrote d at (t ++ u) f o
   pub next : r ≡ at + length t
+
+-- e is the buffer d with the text t from place at up to r, once m bytes or more are written before it, up to at
+pub record Under (m : ℕ) (d : List ℕ) (at : ℕ) (t : List ℕ) (e : List ℕ) (r : ℕ) : Type 0 where
+  pub under : (s f : List ℕ) (from : ℕ) → m ≤ length s → Wrote e from s f at → Wrote d from (s ++ t) f r
+  pub size : length e ≡ length d

@@ -7,7 +7,7 @@ ghost use lib.Dec.{ltb};
 ghost use lib.ListN.{length};
 ghost use lib.IntN.{pos, _-ℤ_};
 ghost use Rattle.text.specs.Text.{Wrote, codes, dec, signed};
-ghost use Rattle.stores.specs.Engine.{bytesOf, valuesOf, zerosIn, fourOf, leadOf, digitsOf, endedOf, apart, minusIf, Over};
+ghost use Rattle.stores.specs.Engine.{bytesOf, valuesOf, zerosIn, fourOf, leadOf, digitsOf, endedOf, apart, minusIf, Over, Under};
 
 // Two bytes, in one store.
 fn put_two(out: &mut [u8], at: usize, w: u64) -> usize
@@ -208,6 +208,47 @@ pub fn put_span(out: &mut [u8], at: usize, lo: u32, hi: u32, zero: u32, c: u64) 
     let a = put_integer(out, at, lo, zero, v % 4294967296);
     out[a] = b':';
     put_ended(out, a + 1, hi, zero, v / 4294967296, c)
+}
+
+// ---- from the right to the left, where what comes before is written last: digits are stored with their zeros in front
+
+// Where the integer u - zero ends, by the values of its digits, if it begins at this place.
+fn end_of(at: usize, u: u32, zero: u32, v: u64) -> usize
+    requires { ⌜ (u < 10000) × (zero < 10000) × (v ≡ valuesOf (apart u zero)) × (v < 168430090) × (at ≤ 1030000) ⌝ }
+    ensures { λ r. ⌜ r ≡ at + length (signed (pos u -ℤ pos zero)) ⌝ }
+    ensures bounded { λ r. ⌜ (at + 1 ≤ r) × (r ≤ at + 5) ⌝ }
+{
+    at + one_if(u < zero) + (4 - zeros_of(v as u32))
+}
+
+// The integer u - zero from this place on, where it ends at the other. A minus is stored in any case, before the first digit.
+fn put_back(out: &mut [u8], at: usize, end: usize, u: u32, zero: u32, v: u64) -> usize
+    requires { ⌜ (u < 10000) × (zero < 10000) × (v ≡ valuesOf (apart u zero)) × (v < 168430090) × (end ≡ at + length (signed (pos u -ℤ pos zero)))
+        × (at + 1 ≤ end) × (end ≤ at + 5) × (4 ≤ at) × (at + 5 ≤ length (now out)) × (at ≤ 1025000) ⌝ }
+    ensures { λ r. ⌜ (r ≡ end) × Under 3 (now (out .entry)) at (signed (pos u -ℤ pos zero)) (now (out .exit)) end ⌝ }
+{
+    put_four(out, end - 4, v + 0x30303030);
+    out[at + one_if(u < zero) - 1] = b'-';
+    end
+}
+
+// Two integers with a colon between and a byte after them, up to three bytes too many before: what comes before is stored over them.
+pub fn put_run(out: &mut [u8], at: usize, lo: u32, hi: u32, zero: u32, c: u8) -> usize
+    requires { ⌜ (lo < 10000) × (hi < 10000) × (zero < 10000) × (4 ≤ at) × (at + 12 ≤ length (now out)) × (at ≤ 1020000) ⌝ }
+    ensures { λ r. ⌜ Under 3 (now (out .entry)) at ((signed (pos lo -ℤ pos zero) ++ codes ":") ++ (signed (pos hi -ℤ pos zero) ++ (c ∷ [])))
+        (now (out .exit)) r ⌝ }
+    ensures bounded { λ r. ⌜ r ≤ at + 12 ⌝ }
+{
+    let v = values_of_two(apart_of(lo, zero), apart_of(hi, zero));
+    let first = v % 4294967296;
+    let second = v / 4294967296;
+    let a = end_of(at, lo, zero, first);
+    let e = end_of(a + 1, hi, zero, second);
+    out[e] = c;
+    put_back(out, a + 1, e, hi, zero, second);
+    out[a] = b':';
+    put_back(out, at, a, lo, zero, first);
+    e + 1
 }
 
 // A number below 100, and a space after it.
