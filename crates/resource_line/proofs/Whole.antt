@@ -2,13 +2,13 @@
 use mathlib.Core.Path.{_≡_, refl, ap, _∙_}
 use mathlib.Core.Bool.{Bool, _&&_}
 use mathlib.Core.List.{List, [], _∷_, _++_, append-assoc}
-use Prim.Native.Nat.{ℕ, _+_, _≤_, _<_}
+use Prim.Native.Nat.{ℕ, _+_, _*_, _/_, _≤_, _<_}
 use native.Mathlib.Omega.{arith}
 use lib.Dec.{T, leb, leb→le}
-use lib.ListN.{length, take}
-use Rattle.text.specs.Text.{codes, dec}
+use lib.ListN.{length, take, length-append}
+use Rattle.text.specs.Text.{codes, dec, Wrote}
 use Rattle.stores.specs.Engine.{bytesOf}
-use Rattle.stores.proofs.Laws.{same, same-equal}
+use Rattle.stores.proofs.Laws.{same, same-equal, over, joined, bytes-length, take-bytes}
 use Rattle.resource.specs.declared.Resource.{Resource}
 use Rattle.resource.specs.declared.Resource.the-variants.{Single, Joined}
 use Rattle.resource.specs.declared.Size.the-variants.{S26, S52, S106, S242, S484, S996, S2x996}
@@ -16,7 +16,7 @@ use Rattle.resource.specs.declared.Pairing.the-variants.{P106And26, P484And242,
 use Rattle.resource.specs.Names.{numberOf}
 use Rattle.resource.proofs.Test.{both-left, both-right, every-below, every-between}
 use Rattle.resource_line.specs.ResourceLine.{nameText, ruName, ruHead}
-use Rattle.resource_line.specs.Engine.{className, classOf, keyOf, firstOf, lastOf, lastPlace, middleOf, countsText, startText}
+use Rattle.resource_line.specs.Engine.{className, classOf, keyOf, firstOf, lastOf, lastPlace, middleOf, countsText, startText, namedText}
 
 -- each name is in the list
 name-class : (r : Resource) → className (classOf r) ≡ nameText r
@@ -100,3 +100,31 @@ unfolding startText keyOf countsText ruHead ruName
 start-text g u r =
     rw (name-class r)
     (nested (codes "ru=") (nameText r) (codes " index=") (dec (numberOf r)) (codes " ") (codes "segment=") (dec g) (codes " users=") (dec u) (codes " tones="))
+
+-- ---- by a name and an index in numbers
+pub named-key : (name len : ℕ) → bytesOf (3 + len) (4027762 + 16777216 * name) ≡ codes "ru=" ++ bytesOf len name
+named-key name len = joined 3 len 4027762 name (omega arith)
+
+nest : (a n b i m : List ℕ) → (a ++ n) ++ (b ++ (i ++ m)) ≡ (a ++ (n ++ b)) ++ (i ++ m)
+nest a n b i m = simp append-assoc refl
+
+pub named-stored : {d e f g h : List ℕ} {at r s t o : ℕ} (name len index x u : ℕ) → len ≤ 5 → index / 16777216 ≤ 4
+    → Wrote d at (bytesOf 8 (4027762 + 16777216 * name)) e r → Wrote e (at + (3 + len)) (bytesOf 8 17302350451337504) f s
+    → Wrote f (at + (3 + len) + 7) (bytesOf 4 index) g t → Wrote g (at + (3 + len) + 7 + index / 16777216) (countsText x u) h o
+    → 8 ≤ length (countsText x u) → Wrote d at (namedText name len index x u) h o
+unfolding namedText
+named-stored {d} {e} {f} {g} {h} {at} {r} {s} {t} {o} name len index x u l k p q w z few =
+    let n = index / 16777216 in
+    let m = bytes-length 4 index in
+    let a = over (bytesOf 4 index) (countsText x u) n (omega (arith, m, k)) (omega (arith, m, few)) w z in
+    let a2 = rw (take-bytes n 4 index k) at a in
+    let i = bytes-length 8 17302350451337504 in
+    let c = length-append (bytesOf n index) (countsText x u) in
+    let b = over (bytesOf 8 17302350451337504) (bytesOf n index ++ countsText x u) 7 (omega (arith, i)) (omega (arith, i, c, few)) q a2 in
+    let b2 : Wrote e (at + (3 + len)) (codes " index=" ++ (bytesOf n index ++ countsText x u)) h o = b in
+    let j = bytes-length 8 (4027762 + 16777216 * name) in
+    let v = length-append (codes " index=") (bytesOf n index ++ countsText x u) in
+    let y = over (bytesOf 8 (4027762 + 16777216 * name)) (codes " index=" ++ (bytesOf n index ++ countsText x u)) (3 + len)
+        (omega (arith, j, l)) (omega (arith, j, v, c, few)) p b2 in
+    rw (take-bytes (3 + len) 8 (4027762 + 16777216 * name) (omega (arith, l)), named-key name len,
+    nest (codes "ru=") (bytesOf len name) (codes " index=") (bytesOf n index) (countsText x u)) at y

@@ -3,9 +3,10 @@
 -- `proofs/Held.antt`,
 -- `proofs/Whole.antt`.
 use mathlib.Core.List.{List, [], _∷_, _++_, map}
-use Prim.Native.Nat.{ℕ}
+use Prim.Native.Nat.{ℕ, _/_}
 use lib.ListN.{take, getD}
 use Rattle.text.specs.Text.{codes, dec}
+use Rattle.stores.specs.Engine.{bytesOf}
 use Rattle.resource.specs.declared.Size.{Size}
 use Rattle.resource.specs.declared.Size.the-variants.{S26, S52, S106, S242, S484, S996, S2x996}
 use Rattle.resource.specs.declared.Pairing.{Pairing}
@@ -98,3 +99,8 @@ countsText g u = codes "segment=" ++ (dec g ++ (codes " users=" ++ (dec u ++ cod
 
 unfoldable pub startText : ℕ → ℕ → ℕ → ℕ → List ℕ
 startText k i g u = keyOf k ++ ((dec i ++ codes " ") ++ countsText g u)
+
+-- with a name and an index, a space after it, in numbers
+unfoldable pub namedText : ℕ → ℕ → ℕ → ℕ → ℕ → List ℕ
+namedText name len index g u =
+    (codes "ru=" ++ (bytesOf len name ++ codes " index=")) ++ (bytesOf (index / 16777216) index ++ countsText g u)

@@ -5,14 +5,14 @@ use resource::Run;
 use resource::Size;
 use resource::Tones;
 ghost use mathlib.Core.Path.{_≡_};
-ghost use Prim.Native.Nat.{_+_, _*_, _≤_, _<_};
+ghost use Prim.Native.Nat.{_+_, _*_, _/_, _≤_, _<_};
 ghost use lib.ListN.{length};
 ghost use mathlib.Core.List.{_++_};
 ghost use Rattle.text.specs.Text.{codes, Wrote};
 ghost use Rattle.resource.specs.Engine.{spanOf};
 ghost use Rattle.resource_line.specs.ResourceLine.{sizeText, pairingText, nameText, comma, spanText, tonesText, ruName, ruHead, ruLine};
 ghost use Rattle.resource_line.specs.Engine.{heldSpans, sizeClass, pairingClass, classOf, keyOf, countsText, startText};
-ghost use Rattle.resource_line.specs.Engine.{firstOf, lastOf, lastPlace, middleOf};
+ghost use Rattle.resource_line.specs.Engine.{firstOf, lastOf, lastPlace, middleOf, namedText};
 
 fn put_size(out: &mut [u8], at: usize, size: Size) -> usize
     requires { ⌜ at ≤ 1000000 ⌝ }
@@ -290,6 +290,19 @@ pub fn put_start(out: &mut [u8], at: usize, k: u32, i: u32, g: u32, users: u32) 
     let a = put_key(out, at, k);
     let b = stores::put_spaced(out, a, i);
     put_counts(out, b, g, users)
+}
+
+// A line up to its subcarriers, by a name of at most five bytes and by its index as `stores::spaced_of` has it.
+pub fn put_named(out: &mut [u8], at: usize, name: u64, len: usize, index: u32, g: u32, users: u32) -> usize
+    requires { ⌜ (name < 1099511627776) × (len ≤ 5) × (index / 16777216 ≤ 4) × (g < 10) × (users < 10) × (at ≤ 700000) × (at + 43 ≤ length (now out)) ⌝ }
+    ensures { λ r. ⌜ Wrote (now (out .entry)) at (namedText name len index g users) (now (out .exit)) r ⌝ }
+    ensures bounded { λ r. ⌜ r ≡ at + (len + index / 16777216 + 34) ⌝ }
+{
+    stores::put_eight(out, at, 0x3D7572 + 16777216 * name); // ru=
+    let b = at + (3 + len);
+    stores::put_eight(out, b, 0x3D7865646E6920); //  index=
+    stores::put_four(out, b + 7, index as u64);
+    put_counts(out, b + 7 + (index / 16777216) as usize, g, users)
 }
 
 // A line up to its subcarriers, into whatever room there is.

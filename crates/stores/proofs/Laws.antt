@@ -8,14 +8,14 @@ use native.Mathlib.Omega.{arith}
 use lib.Bits.{bitAnd, and-block, and-mask, and-zero-r}
 use lib.Count.{trailingZeros, under}
 use lib.Dec.{T, ltb, leb, leb→le, eqb, eqb→eq}
-use lib.ListN.{length, take, drop, set, length-append, length-drop, take-append-drop}
+use lib.ListN.{length, take, drop, set, length-set, length-append, length-drop, take-append-drop}
 use lib.Seq.{sets, set-comm, set-set, length-take-le}
 use borrow.Author.Tests.{ltb-true, ltb-false, le-ltb}
 use lib.IntN.{pos, _-ℤ_}
 use Rattle.text.specs.Text.{Wrote, codes, dec, signed}
 use Rattle.text.proofs.Laws.{after, kept, digit-alone, signed-low, signed-high}
 use Rattle.resource.proofs.Test.{both-left, both-right, below, every-below}
-use Rattle.stores.specs.Engine.{bytesOf, hundredsOf, pairOf, tensOf, valuesOf, zerosIn, fourOf, leadOf, digitsOf, endedOf, spacedOf, apart, minusIf, Over, Under}
+use Rattle.stores.specs.Engine.{bytesOf, hundredsOf, pairOf, tensOf, valuesOf, zerosIn, fourOf, leadOf, digitsOf, endedOf, spacedOf, spacedWord, apart, minusIf, Over, Under}
 
 -- ---- stores
 set-before : (d : List ℕ) (i j x : ℕ) (t : List ℕ) → i < j → sets (set d i x) j t ≡ set (sets d j t) i x
@@ -338,7 +338,7 @@ signed-parts u z = go (ltb u z) refl
     go true e = signed-low u z (ltb-true u z e)
     go false e = signed-high u z (ltb-false u z e)
 
-take-bytes : (j k w : ℕ) → j ≤ k → take j (bytesOf k w) ≡ bytesOf j w
+pub take-bytes : (j k w : ℕ) → j ≤ k → take j (bytesOf k w) ≡ bytesOf j w
 take-bytes zero k w l = refl
 take-bytes (suc j) zero w l = absurd (omega (arith, l))
 take-bytes (suc j) (suc k) w l = ap (λ (t : List ℕ). (w % 256) ∷ t) (take-bytes j k (w / 256) (le-of-suc-le-suc l))
@@ -478,46 +478,22 @@ one-under d at x =
     let w : Wrote d at (x ∷ []) (set d at x) (at + 1) = record { bytes = refl; next = refl } in
     last-bytes [] (x ∷ []) at (omega arith) w
 
--- a minus, or nothing and a byte before
-pub sign-under : (d : List ℕ) (at u z : ℕ) → 1 ≤ at → Under 3 d at (minusIf u z) (set d (at + cond (ltb u z) 1 0 - 1) 45) (at + cond (ltb u z) 1 0)
-unfolding minusIf
-sign-under d at u z l = go (ltb u z)
-  where
-    go : (b : Bool) → Under 3 d at (cond b (codes "-") []) (set d (at + cond b 1 0 - 1) 45) (at + cond b 1 0)
-    go true =
-        let e : at + 1 - 1 ≡ at = omega arith in
-        rw e (under-weak 0 3 (omega arith) (one-under d at 45))
-    go false =
-        let p = at + 0 - 1 in
-        let w : Wrote d p (45 ∷ []) (set d p 45) (p + 1) = record { bytes = refl; next = refl } in
-        let e : p + 1 ≡ at + 0 = omega (arith, l) in
-        under-weak 1 3 (omega arith) (last-bytes (45 ∷ []) [] at (omega (arith, l)) (rw e at w))
+pub kept-two : {e t : List ℕ} {p r : ℕ} (d : List ℕ) (i j x y : ℕ) → Wrote (set (set d i x) j y) p t e r → length e ≡ length d
+kept-two d i j x y w = kept w ∙ length-set (set d i x) j y ∙ length-set d i x
 
-pub signed-length : (u z : ℕ) → u < 10000 → z < 10000
-    → length (signed (pos u -ℤ pos z)) ≡ cond (ltb u z) 1 0 + (4 - leadOf (apart u z))
-unfolding minusIf
-signed-length u z l h =
-    let n = apart u z in
-    let k : length (dec n) ≡ 4 - leadOf n =
-    ap length (sym (digits-bytes n (apart-few u z l h))) ∙ bytes-length (4 - leadOf n) (digitsOf n) in
-    ap length (signed-parts u z) ∙ length-append (minusIf u z) (dec n) ∙ rw (k, sign (ltb u z))
-  where
-    sign : (b : Bool) → length (cond b (codes "-") []) ≡ cond b 1 0
-    sign true = refl
-    sign false = refl
+-- a minus before
+pub minus-under : {d e t : List ℕ} {at r : ℕ} → Under 3 d (at + 1) t e r → Under 3 d at (codes "-" ++ t) (set e at 45) r
+minus-under {d} {e} {t} {at} {r} p =
+    under-weak 2 3 (omega arith) (under-more 3 2 (omega arith) p (under-weak 0 2 (omega arith) (one-under e at 45)))
 
--- an integer from its last digit to its sign
-pub signed-under : {d e f : List ℕ} {at p r mid : ℕ} (u z : ℕ) → u < 10000 → z < 10000 → r ≡ at + length (signed (pos u -ℤ pos z)) → p + 4 ≡ r
-    → Wrote d p (bytesOf 4 (fourOf (apart u z))) e mid → Under 3 e at (minusIf u z) f (at + cond (ltb u z) 1 0)
-    → Under 3 d at (signed (pos u -ℤ pos z)) f r
-signed-under {d} {e} {f} {at} {p} {r} {mid} u z l h k q w s =
-    let n = apart u z in
+-- the digits of a number that end at r
+pub four-under : {d e : List ℕ} {p mid at r : ℕ} (n : ℕ) → n < 10000 → p + 4 ≡ r → at + (4 - leadOf n) ≡ r
+    → Wrote d p (bytesOf 4 (fourOf n)) e mid → Under 3 d at (dec n) e r
+four-under {d} {e} {p} {mid} {at} {r} n l h k w =
     let m = lead-most n in
-    let len = signed-length u z l h in
     let b = bytes-length 4 (fourOf n) in
-    let end : mid ≡ r = w .next ∙ rw b q in
-    let g = digits-under n (at + cond (ltb u z) 1 0) (apart-few u z l h) (omega (arith, len, k, q, m)) (rw end at w) in
-    rw (signed-parts u z) (under-more 3 3 (omega arith) g s)
+    let end : mid ≡ r = w .next ∙ rw b h in
+    digits-under n at l (omega (arith, h, k, m)) (rw end at w)
 
 -- two with a colon between and a byte after
 pub run-under : {d e f g h : List ℕ} {at a b r : ℕ} (s t : List ℕ) (c : ℕ) → b ≡ a + 1 → Under 0 d r (c ∷ []) e (r + 1) → Under 3 e b t f r
@@ -533,6 +509,22 @@ spaced-test n = same (bytesOf (1 - cond (ltb n 10) 1 0 + 2) (spacedOf n)) (dec n
 pub spaced-bytes : (n : ℕ) → n < 100 → bytesOf (1 - cond (ltb n 10) 1 0 + 2) (spacedOf n) ≡ dec n ++ codes " "
 unfolding spaced-test spacedOf dec
 spaced-bytes n l = same-equal _ _ (every-below spaced-test 100 tt n l)
+
+-- with the number of its bytes
+word-test : ℕ → Bool
+word-test n = leb (spacedWord n / 16777216) 3 && same (bytesOf (spacedWord n / 16777216) (spacedWord n)) (dec n ++ codes " ")
+
+word-pass : (n : ℕ) → n < 40 → T (word-test n)
+unfolding word-test spacedWord spacedOf dec
+word-pass n l = every-below word-test 40 tt n l
+
+pub word-bytes : (n : ℕ) → n < 40 → bytesOf (spacedWord n / 16777216) (spacedWord n) ≡ dec n ++ codes " "
+unfolding word-test
+word-bytes n l = same-equal _ _ (both-right (leb (spacedWord n / 16777216) 3) _ (word-pass n l))
+
+pub word-few : (n : ℕ) → n < 40 → spacedWord n / 16777216 ≤ 3
+unfolding word-test
+word-few n l = leb→le (spacedWord n / 16777216) 3 (both-left (leb (spacedWord n / 16777216) 3) _ (word-pass n l))
 
 -- a number alone
 pub minus-bytes : (u z : ℕ) → u < z → z < 10000

@@ -51,6 +51,10 @@ endedOf n c = (fourOf n + c * 4294967296) / 2 ^ (8 * leadOf n)
 unfoldable pub spacedOf : ℕ → ℕ
 spacedOf n = (2109488 + n / 10 + 256 * (n % 10)) / 2 ^ (8 * cond (ltb n 10) 1 0)
 
+-- below 40, with how many bytes these are in the fourth
+unfoldable pub spacedWord : ℕ → ℕ
+spacedWord n = spacedOf n + 16777216 * (3 - cond (ltb n 10) 1 0)
+
 -- ---- integers
 unfoldable pub apart : ℕ → ℕ → ℕ
 apart u z = cond (ltb u z) (z - u) (u - z)

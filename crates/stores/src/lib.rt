@@ -7,7 +7,7 @@ ghost use lib.Dec.{ltb};
 ghost use lib.ListN.{length};
 ghost use lib.IntN.{pos, _-ℤ_};
 ghost use Rattle.text.specs.Text.{Wrote, codes, dec, signed};
-ghost use Rattle.stores.specs.Engine.{bytesOf, valuesOf, zerosIn, fourOf, leadOf, digitsOf, endedOf, apart, minusIf, Over, Under};
+ghost use Rattle.stores.specs.Engine.{bytesOf, valuesOf, zerosIn, fourOf, leadOf, digitsOf, endedOf, spacedWord, apart, minusIf, Over, Under};
 
 // Two bytes, in one store.
 fn put_two(out: &mut [u8], at: usize, w: u64) -> usize
@@ -21,7 +21,7 @@ fn put_two(out: &mut [u8], at: usize, w: u64) -> usize
 }
 
 // Four, in one.
-fn put_four(out: &mut [u8], at: usize, w: u64) -> usize
+pub fn put_four(out: &mut [u8], at: usize, w: u64) -> usize
     requires { ⌜ (at + 4 ≤ length (now out)) × (at ≤ 1040000) ⌝ }
     ensures { λ r. ⌜ Wrote (now (out .entry)) at (bytesOf 4 w) (now (out .exit)) r ⌝ }
 {
@@ -212,43 +212,110 @@ pub fn put_span(out: &mut [u8], at: usize, lo: u32, hi: u32, zero: u32, c: u64) 
 
 // ---- from the right to the left, where what comes before is written last: digits are stored with their zeros in front
 
-// Where the integer u - zero ends, by the values of its digits, if it begins at this place.
-fn end_of(at: usize, u: u32, zero: u32, v: u64) -> usize
-    requires { ⌜ (u < 10000) × (zero < 10000) × (v ≡ valuesOf (apart u zero)) × (v < 168430090) × (at ≤ 1030000) ⌝ }
-    ensures { λ r. ⌜ r ≡ at + length (signed (pos u -ℤ pos zero)) ⌝ }
-    ensures bounded { λ r. ⌜ (at + 1 ≤ r) × (r ≤ at + 5) ⌝ }
+// Two numbers with a colon between and a byte after them, up to three bytes too many before.
+fn put_high(out: &mut [u8], at: usize, m: u32, n: u32, c: u8) -> usize
+    requires { ⌜ (m < 10000) × (n < 10000) × (4 ≤ at) × (at + 10 ≤ length (now out)) × (at ≤ 1020000) ⌝ }
+    ensures { λ r. ⌜ Under 3 (now (out .entry)) at ((dec m ++ codes ":") ++ (dec n ++ (c ∷ []))) (now (out .exit)) r ⌝ }
+    ensures bounded { λ r. ⌜ r ≤ at + 10 ⌝ }
 {
-    at + one_if(u < zero) + (4 - zeros_of(v as u32))
+    let v = values_of_two(m, n);
+    let first = v % 4294967296;
+    let second = v / 4294967296;
+    let a = at + (4 - zeros_of(first as u32));
+    let e = a + 1 + (4 - zeros_of(second as u32));
+    out[e] = c;
+    put_four(out, e - 4, second + 0x30303030);
+    out[a] = b':';
+    put_four(out, a - 4, first + 0x30303030);
+    e + 1
 }
 
-// The integer u - zero from this place on, where it ends at the other. A minus is stored in any case, before the first digit.
-fn put_back(out: &mut [u8], at: usize, end: usize, u: u32, zero: u32, v: u64) -> usize
-    requires { ⌜ (u < 10000) × (zero < 10000) × (v ≡ valuesOf (apart u zero)) × (v < 168430090) × (end ≡ at + length (signed (pos u -ℤ pos zero)))
-        × (at + 1 ≤ end) × (end ≤ at + 5) × (4 ≤ at) × (at + 5 ≤ length (now out)) × (at ≤ 1025000) ⌝ }
-    ensures { λ r. ⌜ (r ≡ end) × Under 3 (now (out .entry)) at (signed (pos u -ℤ pos zero)) (now (out .exit)) end ⌝ }
+// A minus before each.
+fn put_low(out: &mut [u8], at: usize, m: u32, n: u32, c: u8) -> usize
+    requires { ⌜ (m < 10000) × (n < 10000) × (4 ≤ at) × (at + 12 ≤ length (now out)) × (at ≤ 1020000) ⌝ }
+    ensures { λ r. ⌜ Under 3 (now (out .entry)) at (((codes "-" ++ dec m) ++ codes ":") ++ ((codes "-" ++ dec n) ++ (c ∷ []))) (now (out .exit)) r ⌝ }
+    ensures bounded { λ r. ⌜ r ≤ at + 12 ⌝ }
 {
-    put_four(out, end - 4, v + 0x30303030);
-    out[at + one_if(u < zero) - 1] = b'-';
-    end
+    let v = values_of_two(m, n);
+    let first = v % 4294967296;
+    let second = v / 4294967296;
+    let a = at + 1 + (4 - zeros_of(first as u32));
+    let e = a + 2 + (4 - zeros_of(second as u32));
+    out[e] = c;
+    put_four(out, e - 4, second + 0x30303030);
+    out[a + 1] = b'-';
+    out[a] = b':';
+    put_four(out, a - 4, first + 0x30303030);
+    out[at] = b'-';
+    e + 1
 }
 
-// Two integers with a colon between and a byte after them, up to three bytes too many before: what comes before is stored over them.
+// Two integers with a colon between and a byte after them, up to three bytes too many before: what comes before is stored over them. Few runs
+// go over 0.
 pub fn put_run(out: &mut [u8], at: usize, lo: u32, hi: u32, zero: u32, c: u8) -> usize
-    requires { ⌜ (lo < 10000) × (hi < 10000) × (zero < 10000) × (4 ≤ at) × (at + 12 ≤ length (now out)) × (at ≤ 1020000) ⌝ }
+    requires { ⌜ (lo ≤ hi) × (hi < 10000) × (zero < 10000) × (4 ≤ at) × (at + 12 ≤ length (now out)) × (at ≤ 1020000) ⌝ }
     ensures { λ r. ⌜ Under 3 (now (out .entry)) at ((signed (pos lo -ℤ pos zero) ++ codes ":") ++ (signed (pos hi -ℤ pos zero) ++ (c ∷ [])))
         (now (out .exit)) r ⌝ }
     ensures bounded { λ r. ⌜ r ≤ at + 12 ⌝ }
 {
-    let v = values_of_two(apart_of(lo, zero), apart_of(hi, zero));
-    let first = v % 4294967296;
-    let second = v / 4294967296;
-    let a = end_of(at, lo, zero, first);
-    let e = end_of(a + 1, hi, zero, second);
-    out[e] = c;
-    put_back(out, a + 1, e, hi, zero, second);
-    out[a] = b':';
-    put_back(out, at, a, lo, zero, first);
-    e + 1
+    if zero <= lo {
+        return put_high(out, at, lo - zero, hi - zero, c);
+    }
+    if hi < zero {
+        return put_low(out, at, zero - lo, zero - hi, c);
+    }
+    put_span(out, at, lo, hi, zero, c as u64)
+}
+
+// A number below 40 and a space after it, and in the fourth byte how many bytes these are. One `match` of constants, so that it is one load
+// from a fixed table.
+pub fn spaced_of(n: u32) -> u32
+    requires { ⌜ n < 40 ⌝ }
+    ensures { λ r. ⌜ r ≡ spacedWord n ⌝ }
+{
+    match n {
+        0 => 0x2002030,
+        1 => 0x2002031,
+        2 => 0x2002032,
+        3 => 0x2002033,
+        4 => 0x2002034,
+        5 => 0x2002035,
+        6 => 0x2002036,
+        7 => 0x2002037,
+        8 => 0x2002038,
+        9 => 0x2002039,
+        10 => 0x3203031,
+        11 => 0x3203131,
+        12 => 0x3203231,
+        13 => 0x3203331,
+        14 => 0x3203431,
+        15 => 0x3203531,
+        16 => 0x3203631,
+        17 => 0x3203731,
+        18 => 0x3203831,
+        19 => 0x3203931,
+        20 => 0x3203032,
+        21 => 0x3203132,
+        22 => 0x3203232,
+        23 => 0x3203332,
+        24 => 0x3203432,
+        25 => 0x3203532,
+        26 => 0x3203632,
+        27 => 0x3203732,
+        28 => 0x3203832,
+        29 => 0x3203932,
+        30 => 0x3203033,
+        31 => 0x3203133,
+        32 => 0x3203233,
+        33 => 0x3203333,
+        34 => 0x3203433,
+        35 => 0x3203533,
+        36 => 0x3203633,
+        37 => 0x3203733,
+        38 => 0x3203833,
+        39 => 0x3203933,
+        _ => 0,
+    }
 }
 
 // A number below 100, and a space after it.

@@ -1,152 +1,89 @@
+use mathlib.Core.Path.{refl, sym}
 use native.Mathlib.Omega.{arith}
-use mathlib.Core.Path.{sym, ap, _∙_, refl}
-use lib.ListN.{length-set}
-use Rattle.stores.specs.Engine.{apart}
-use Rattle.stores.proofs.Laws.{values, halves, apart-few, one-under, run-under}
+use mathlib.Core.List.{[]}
+use Rattle.text.proofs.Laws.{signed-low, signed-high}
+use Rattle.stores.proofs.Laws.{last-bytes, under-weak}
 use borrow.Author.Needs.{needs}
 use Rattle.stores.proofs.put_run.Statement.{statement}
 use Rattle.stores.proofs.put_run.Tie as tie
 use Rattle.stores.proofs.put_run.Reads as reads
 use Rattle.stores.proofs.put_run.Lts as lts
-use Rattle.stores.proofs.apart_of.Reads as apart-of-reads
-use Rattle.stores.proofs.end_of.Reads as end-of-reads
-use Rattle.stores.proofs.put_back.Reads as put-back-reads
-use Rattle.stores.proofs.values_of_two.Reads as values-of-two-reads
+use Rattle.stores.proofs.put_high.Reads as put-high-reads
+use Rattle.stores.proofs.put_low.Reads as put-low-reads
+use Rattle.stores.proofs.put_span.Reads as put-span-reads
 
--- src/lib.rt:242:27
-apart-of-requires : tie.Need-apart-of-requires
-apart-of-requires c κs = search needs
+-- src/lib.rt:262:45
+sub-put-high : tie.Need-sub-put-high
+sub-put-high c = search needs
 
--- src/lib.rt:242:47
-apart-of-requires-2 : tie.Need-apart-of-requires-2
-apart-of-requires-2 c κs = search needs
+-- src/lib.rt:262:9
+put-high-requires : tie.Need-put-high-requires
+put-high-requires c κs = search needs
 
--- src/lib.rt:242:9
-values-of-two-requires : tie.Need-values-of-two-requires
-values-of-two-requires c κs = search needs
-
--- src/lib.rt:245:9
-end-of-requires : tie.Need-end-of-requires
-end-of-requires c κs =
-    let two = c in
-    let s = two .before .before .before .before in
-    let low = two .before .before .apart-of .ensures in
-    let high = two .before .apart-of2 .ensures in
-    let first = apart-few (s .args .lo) (s .args .zero) (s .pre .0) (s .pre .2) in
-    let second = apart-few (s .args .hi) (s .args .zero) (s .pre .1) (s .pre .2) in
-    let v = halves (two .values-of-two .result) (apart (s .args .lo) (s .args .zero)) (apart (s .args .hi) (s .args .zero))
-        first (rw (low .0, high .0) at (two .values-of-two .ensures)) in
-    let m = values (apart (s .args .lo) (s .args .zero)) first .most in
-    let n = values (apart (s .args .hi) (s .args .zero)) second .most in
-    (s .pre .0, s .pre .2, v .0, omega (arith, v .0, m), omega (arith, s .pre .5))
-
--- src/lib.rt:246:20
-add-end-of : tie.Need-add-end-of
-add-end-of c = search needs
-
--- src/lib.rt:246:9
-end-of-requires-2 : tie.Need-end-of-requires-2
-end-of-requires-2 c κs =
-    let two = c .before in
-    let s = two .before .before .before .before in
-    let low = two .before .before .apart-of .ensures in
-    let high = two .before .apart-of2 .ensures in
-    let first = apart-few (s .args .lo) (s .args .zero) (s .pre .0) (s .pre .2) in
-    let second = apart-few (s .args .hi) (s .args .zero) (s .pre .1) (s .pre .2) in
-    let v = halves (two .values-of-two .result) (apart (s .args .lo) (s .args .zero)) (apart (s .args .hi) (s .args .zero))
-        first (rw (low .0, high .0) at (two .values-of-two .ensures)) in
-    let m = values (apart (s .args .lo) (s .args .zero)) first .most in
-    let n = values (apart (s .args .hi) (s .args .zero)) second .most in
-    (s .pre .1, s .pre .2, v .1, omega (arith, v .1, n), omega (arith, s .pre .5, c .end-of .ensures .1 .1))
-
--- src/lib.rt:247:5
-slice-write-out : tie.Need-slice-write-out
-slice-write-out c = search needs
-
--- src/lib.rt:248:19
-add-put-back : tie.Need-add-put-back
-add-put-back c = search needs
-
--- src/lib.rt:248:5
-put-back-requires : tie.Need-put-back-requires
-put-back-requires c κs =
-    let two = c .before .before .before in
-    let s = two .before .before .before .before in
-    let low = two .before .before .apart-of .ensures in
-    let high = two .before .apart-of2 .ensures in
-    let first = apart-few (s .args .lo) (s .args .zero) (s .pre .0) (s .pre .2) in
-    let second = apart-few (s .args .hi) (s .args .zero) (s .pre .1) (s .pre .2) in
-    let v = halves (two .values-of-two .result) (apart (s .args .lo) (s .args .zero)) (apart (s .args .hi) (s .args .zero))
-        first (rw (low .0, high .0) at (two .values-of-two .ensures)) in
-    let m = values (apart (s .args .lo) (s .args .zero)) first .most in
-    let n = values (apart (s .args .hi) (s .args .zero)) second .most in
-    let a = c .before .before .end-of .ensures .1 in
-    let e = c .before .end-of2 .ensures in
-    (s .pre .1, s .pre .2, v .1, omega (arith, v .1, n), e .0, e .1 .0, e .1 .1, omega (arith, s .pre .3), rw length-set (omega (arith, s .pre .4, a .1)), omega (arith, s .pre .5, a .1))
-
--- src/lib.rt:249:5
-slice-write-out-2 : tie.Need-slice-write-out-2
-slice-write-out-2 c =
-    let s = c .before .before .before .before .before .before .before .before .before .before in
-    let k = c .before .before .put-back .ensures .1 .size ∙ length-set (s .args .out .now) (c .before .before .before .before .end-of2 .result) (s .args .c) in
-    omega (arith, k, s .pre .4, c .before .before .before .before .before .end-of .ensures .1 .1)
-
--- src/lib.rt:250:5
-put-back-requires-2 : tie.Need-put-back-requires-2
-put-back-requires-2 c κs =
-    let two = c .before .before .before .before .before .before .before in
-    let s = two .before .before .before .before in
-    let low = two .before .before .apart-of .ensures in
-    let high = two .before .apart-of2 .ensures in
-    let first = apart-few (s .args .lo) (s .args .zero) (s .pre .0) (s .pre .2) in
-    let second = apart-few (s .args .hi) (s .args .zero) (s .pre .1) (s .pre .2) in
-    let v = halves (two .values-of-two .result) (apart (s .args .lo) (s .args .zero)) (apart (s .args .hi) (s .args .zero))
-        first (rw (low .0, high .0) at (two .values-of-two .ensures)) in
-    let m = values (apart (s .args .lo) (s .args .zero)) first .most in
-    let n = values (apart (s .args .hi) (s .args .zero)) second .most in
-    let a = c .before .before .before .before .before .before .end-of .ensures in
-    let k = c .before .before .before .put-back .ensures .1 .size ∙ length-set (s .args .out .now) (c .before .before .before .before .before .end-of2 .result) (s .args .c) in
-    (s .pre .0, s .pre .2, v .0, omega (arith, v .0, m), a .0, a .1 .0, a .1 .1, s .pre .3, rw length-set (omega (arith, k, s .pre .4)), omega (arith, s .pre .5))
-
--- src/lib.rt:251:5
-add-result : tie.Need-add-result
-add-result c = search needs
-
--- src/lib.rt:236:1
+-- src/lib.rt:262:9
 same-length : tie.Need-same-length
-same-length c =
-    let s = c .before .before .before .before .before .before .before .before .before .before .before .before .before .before in
-    let p = c .before .before .before .before .before .before .put-back .ensures .1 in
-    let q = c .before .before .put-back2 .ensures .1 in
-    let w = run-under _ _ (s .args .c) refl (one-under (s .args .out .now) (c .before .before .before .before .before .before .before .before .end-of2 .result) (s .args .c)) p
-        (one-under (c .before .before .before .before .before .before .put-back .last .0) (c .before .before .before .before .before .before .before .before .before .end-of .result) 58) q in
-    w .size
+same-length c = search needs
 
--- src/lib.rt:236:1
+-- src/lib.rt:262:9
 returns : tie.Need-returns
 returns c =
-    let s = c .before .before .before .before .before .before .before .before .before .before .before .before .before .before in
-    let p = c .before .before .before .before .before .before .put-back .ensures .1 in
-    let q = c .before .before .put-back2 .ensures .1 in
-    let w = run-under _ _ (s .args .c) refl (one-under (s .args .out .now) (c .before .before .before .before .before .before .before .before .end-of2 .result) (s .args .c)) p
-        (one-under (c .before .before .before .before .before .before .put-back .last .0) (c .before .before .before .before .before .before .before .before .before .end-of .result) 58) q in
-    (w, omega (arith, c .before .before .before .before .before .before .before .before .end-of2 .ensures .1 .1, c .before .before .before .before .before .before .before .before .before .end-of .ensures .1 .1))
+    let s = c .before .before .before .before .before .before in
+    let l = c .before .before .before .before .if1 .taken in
+    let o = c .before .before .put-high .ensures in
+    (rw (signed-high (s .args .lo) (s .args .zero) l, signed-high (s .args .hi) (s .args .zero) (omega (arith, l, s .pre .0))) (o .0), omega (arith, o .1))
+
+-- src/lib.rt:265:33
+sub-put-low : tie.Need-sub-put-low
+sub-put-low c = search needs
+
+-- src/lib.rt:265:44
+sub-put-low-2 : tie.Need-sub-put-low-2
+sub-put-low-2 c = search needs
+
+-- src/lib.rt:265:9
+put-low-requires : tie.Need-put-low-requires
+put-low-requires c κs = search needs
+
+-- src/lib.rt:265:9
+same-length-2 : tie.Need-same-length-2
+same-length-2 c = search needs
+
+-- src/lib.rt:265:9
+returns-2 : tie.Need-returns-2
+returns-2 c =
+    let s = c .before .before .before .before .before .before .before in
+    let l = c .before .before .before .before .before .if1 .left in
+    let o = c .before .before .put-low .ensures in
+    (rw (signed-low (s .args .lo) (s .args .zero) l, signed-low (s .args .hi) (s .args .zero) (c .before .before .before .before .if2 .taken)) (o .0), o .1)
+
+-- src/lib.rt:267:5
+put-span-requires : tie.Need-put-span-requires
+put-span-requires c κs = search needs
+
+-- src/lib.rt:255:1
+same-length-3 : tie.Need-same-length-3
+same-length-3 c = search needs
+
+-- src/lib.rt:255:1
+returns-3 : tie.Need-returns-3
+returns-3 c =
+    let s = c .before .before .before .before .before .before .before in
+    let o = c .before .before .put-span .ensures in
+    (under-weak 0 3 (omega arith) (last-bytes [] _ (s .args .at) (omega arith) (o .0)), o .1)
 
 pub put-run-spec : {M : Type 1} → statement M
 put-run-spec =
     tie.close
     (tie.spec
-    apart-of-requires
-    apart-of-requires-2
-    values-of-two-requires
-    end-of-requires
-    add-end-of
-    end-of-requires-2
-    slice-write-out
-    add-put-back
-    put-back-requires
-    slice-write-out-2
-    put-back-requires-2
-    add-result
+    sub-put-high
+    put-high-requires
     same-length
-    returns)
+    returns
+    sub-put-low
+    sub-put-low-2
+    put-low-requires
+    same-length-2
+    returns-2
+    put-span-requires
+    same-length-3
+    returns-3)
