@@ -1,1 +1,2 @@
+pub mod Ended
 pub mod LineLaws

@@ -3,18 +3,19 @@ use mathlib.Core.Path.{_≡_, refl, sym, ap, _∙_}
 use mathlib.Core.Logic.{_≢_}
 use mathlib.Core.Bool.{Bool, true, false, not, cond}
 use mathlib.Core.List.{List, _++_, append-assoc}
-use Prim.Native.Nat.{ℕ, _+_, _-_, _*_, _≤_, _<_}
+use Prim.Native.Nat.{ℕ, _+_, _-_, _*_, _/_, _^_, _≤_, _<_}
 use native.Mathlib.Omega.{arith}
 use lib.Dec.{eqb}
-use lib.ListN.{length, getD}
+use lib.ListN.{length, take, getD}
+use lib.Seq.{take-append-seam}
 use borrow.Author.Tests.{eq-eqb, ne-eqb, eqb-true, eqb-false}
-use Rattle.text.specs.Text.{codes, dec, keyed, line}
-use Rattle.text.proofs.Laws.{dec-fit, dec-digit}
-use Rattle.stores.specs.Engine.{bytesOf, leadOf, digitsOf, endedOf}
-use Rattle.stores.proofs.Laws.{joined, lead-most, digits-bytes, ended-bytes, same, same-equal}
+use Rattle.text.specs.Text.{codes, dec, keyed, line, Wrote}
+use Rattle.text.proofs.Laws.{dec-fit, dec-digit, after}
+use Rattle.stores.specs.Engine.{bytesOf, leadOf, digitsOf}
+use Rattle.stores.proofs.Laws.{joined, lead-most, digits-bytes, same, same-equal, bytes-length, bytes-append, over}
 use Rattle.resource.proofs.Test.{every-below}
 use Rattle.lines.specs.Lines.{assigned, idText, staLine, headText}
-use Rattle.lines.specs.Engine.{idWord, countsText}
+use Rattle.lines.specs.Engine.{idWord, Ended, countsText}
 
 -- none is as long as a number of four digits
 pub id-short : (id : ℕ) → id < 10000 → length (idText id) ≤ 4
@@ -46,7 +47,7 @@ only-none id r rest e = go (eqb id 2046) refl
         ap (λ (t : List ℕ). getD t 4 0) (sym (number-line id r (eqb-false id 2046 f)) ∙ e) in
         omega (arith, dec-digit id (line (codes " resource=") r))
 
--- ---- the line in three numbers
+-- ---- the line in three numbers, the second over the end of the first
 id-bytes : (id : ℕ) → id < 10000 → bytesOf (4 - leadOf id) (idWord id) ≡ idText id
 unfolding idWord idText leadOf
 id-bytes id l = go (eqb id 2046) refl
@@ -56,24 +57,34 @@ id-bytes id l = go (eqb id 2046) refl
     go true e = rw (eqb-true id 2046 e)
     go false e = digits-bytes id l
 
-pub sta-bytes : (id r : ℕ) → id < 10000 → r < 10000
-    → bytesOf (4 - leadOf id + 4) (1029796979 + 4294967296 * idWord id)
-    ++ (bytesOf 8 7165919078637728288 ++ bytesOf (3 - leadOf r + 4) (15717 + 65536 * endedOf r 10))
-    ≡ staLine id r
+-- the front of a number's bytes
+take-bytes : (k n w : ℕ) → k ≤ n → take k (bytesOf n w) ≡ bytesOf k w
+take-bytes k n w l =
+    let e : n ≡ k + (n - k) = omega arith in
+    rw (e, bytes-append k (n - k) w) (rw (bytes-length k w) at (take-append-seam (bytesOf k w) (bytesOf (n - k) (w / 256 ^ k))))
+
+-- a number after a key's last two bytes x, of which the text is k
+ended-after : (n w x : ℕ) → x < 65536 → Ended n w → bytesOf (w / 4294967296 - 2 + 4) (x + 65536 * w) ≡ bytesOf 2 x ++ (dec n ++ codes "\n")
+ended-after n w x l h =
+    let e : w / 4294967296 - 2 + 4 ≡ 2 + w / 4294967296 = omega (arith, h .least) in
+    rw (e, joined 2 (w / 4294967296) x w (omega arith), h .text)
+
+pub sta-written : {d e f g : List ℕ} {at o b q : ℕ} (id r w : ℕ) → id < 10000 → Ended r w
+    → Wrote d at (bytesOf 8 (1029796979 + 4294967296 * idWord id)) e o
+    → Wrote e (at + (8 - leadOf id)) (bytesOf 8 7165919078637728288) f b
+    → Wrote f b (bytesOf (w / 4294967296 - 2 + 4) (15717 + 65536 * w)) g q
+    → Wrote d at (staLine id r) g q
 unfolding staLine
-sta-bytes id r l h =
-    let m = lead-most r in
-    let i : 4 - leadOf id + 4 ≡ 4 + (4 - leadOf id) = omega arith in
-    let j : 3 - leadOf r + 4 ≡ 2 + (5 - leadOf r) = omega arith in
-    rw (
-      i,
-      j,
-      joined 4 (4 - leadOf id) 1029796979 (idWord id) (omega arith),
-      id-bytes id l,
-      joined 2 (5 - leadOf r) 15717 (endedOf r 10) (omega arith),
-      ended-bytes r 10 h (omega arith),
-    )
-    refl
+sta-written {at = at} id r w l h x y z =
+    let m = lead-most id in
+    let i : 8 - leadOf id ≡ 4 + (4 - leadOf id) = omega arith in
+    let name = 1029796979 + 4294967296 * idWord id in
+    let front : take (8 - leadOf id) (bytesOf 8 name) ≡ codes "sta=" ++ idText id =
+    take-bytes (8 - leadOf id) 8 name (omega arith)
+    ∙ rw (i, joined 4 (4 - leadOf id) 1029796979 (idWord id) (omega arith), id-bytes id l) refl in
+    let rest = codes " resourc" ++ (codes "e=" ++ (dec r ++ codes "\n")) in
+    let v = after y (rw (ended-after r w 15717 (omega arith) h) at z) in
+    rw front at (over (bytesOf 8 name) rest (8 - leadOf id) (omega arith) (omega arith) x v)
 
 -- ---- the lines before the resources, in numbers of eight bytes
 bw-test : ℕ → Bool
@@ -91,6 +102,25 @@ nested a l b w e o r f u g v s q t = simp append-assoc refl
 zero-text : dec 0 ≡ codes "0"
 unfolding dec
 zero-text = refl
+
+-- ---- a count, of which more is stored than its line has, and what stands over that
+pub count-written : {d e f : List ℕ} {at o q : ℕ} (n w : ℕ) (u : List ℕ) → Ended n w → 6 ≤ length u → Wrote d at (bytesOf 8 w) e o
+    → Wrote e (at + w / 4294967296) u f q → Wrote d at ((dec n ++ codes "\n") ++ u) f q
+count-written n w u h l x y =
+    let front : take (w / 4294967296) (bytesOf 8 w) ≡ dec n ++ codes "\n" =
+    take-bytes (w / 4294967296) 8 w (omega (arith, h .most)) ∙ h .text in
+    let eight = bytes-length 8 w in
+    rw front at (over (bytesOf 8 w) u (w / 4294967296) (omega (arith, h .most)) (omega (arith, h .least)) x y)
+
+pub last-written : {d e f : List ℕ} {at o q : ℕ} (n w : ℕ) → Ended n w → Wrote d at (bytesOf 8 8317708060514677875) e o
+    → Wrote e (at + 7) (bytesOf (w / 4294967296 - 2 + 4) (15731 + 65536 * w)) f q
+    → Wrote d at (codes "stations" ++ (codes "=" ++ (dec n ++ codes "\n"))) f q
+last-written n w h x y =
+    over (codes "stations") (codes "s=" ++ (dec n ++ codes "\n")) 7 (omega arith) (omega arith) x (rw (ended-after n w 15731 (omega arith) h) at y)
+
+pub counts-long : (m k s : ℕ) → 6 ≤ length (countsText m k s)
+unfolding countsText
+counts-long m k s = omega arith
 
 pub head-bytes : (bw r m k s : ℕ) → bw < 10
     → bytesOf 8 3476060267521207905

@@ -1,14 +1,22 @@
--- Engine: a STA-ID's text in one number, and the lines of the counts. The contracts of the code cite it; nobody has to believe it: `proofs/LineLaws.antt`.
+-- Engine: a STA-ID's text in one number, a number with the end of its line, and the lines of the counts. The contracts of the code cite it; nobody has
+-- to believe it: `proofs/LineLaws.antt`.
+use mathlib.Core.Path.{_≡_}
 use mathlib.Core.Bool.{cond}
 use mathlib.Core.List.{List, _++_}
-use Prim.Native.Nat.{ℕ}
+use Prim.Native.Nat.{ℕ, _/_, _≤_}
 use Rattle.text.specs.Text.{codes, dec}
-use Rattle.stores.specs.Engine.{digitsOf}
+use Rattle.stores.specs.Engine.{bytesOf, digitsOf}
 use Rattle.lines.specs.Lines.{assigned}
 
 -- its digits, or none
 unfoldable pub idWord : ℕ → ℕ
 idWord id = cond (assigned id) (digitsOf id) 1701736302
+
+-- w has n and the end of its line in its lowest bytes, and from bit 32 on how many these are
+pub record Ended (n w : ℕ) : Type 0 where
+  pub text : bytesOf (w / 4294967296) w ≡ dec n ++ codes "\n"
+  pub least : 2 ≤ w / 4294967296
+  pub most : w / 4294967296 ≤ 4
 
 -- the lines of the counts, but the resources'
 unfoldable pub countsText : ℕ → ℕ → ℕ → List ℕ

@@ -13,12 +13,14 @@ use Rattle.answer.proofs.Tally.{tally-cong}
 use Rattle.text.specs.Text.{upto, Wrote}
 use Rattle.text.proofs.Laws.{upto-cong}
 use Rattle.records.specs.Records.{blank}
-use Rattle.channel.specs.Layout.{row, count, userOf}
+use Rattle.channel.specs.Layout.{row, userOf}
+use Rattle.channel.proofs.Laws.{row-length}
 use Rattle.stations.specs.Stations.{stationOf}
 use Rattle.stations.specs.Engine.{stationIn}
 use Rattle.stations.proofs.Gathered.{station-is}
 use Rattle.halves.specs.Table.{outcome11}
 use Rattle.halves.specs.Engine.{outcome9to11}
+use Rattle.halves.proofs.Counts.{count-1, count-2}
 use Rattle.both_halves.specs.Engine.{Given, Handed}
 use Rattle.both_halves.proofs.Halves.{row-few}
 use Rattle.lines.specs.Lines.{assigned, staLine}
@@ -26,7 +28,7 @@ use Rattle.resource_line.specs.ResourceLine.{ruLine}
 use Rattle.position_lines.specs.Engine.{runsLine, runsLines}
 use Rattle.listed.specs.Listing.{resources, recordLine, ruLines, ownerIn, staLineAt, staLines, stationsIn, listingOf, listing}
 use Rattle.listed.proofs.Agreed.{agreed}
-use Rattle.listing_lines.specs.Engine.{fieldLine, fieldsListing}
+use Rattle.listing_lines.specs.Engine.{Counted, fieldLine, fieldsListing}
 
 module _ (bw : ℕ) (a b : List ℕ) (e : outcome11 bw a b ≡ Pass) where
   lines : runsLines (length (row bw a b)) (resources (row bw a b)) ≡ ruLines (length (row bw a b)) (resources (row bw a b))
@@ -64,6 +66,16 @@ module _ (bw : ℕ) (a b : List ℕ) (e : outcome11 bw a b ≡ Pass) where
 module _ {bw : ℕ} {a b r c : List ℕ} {m k : ℕ} (h : Handed bw a b r c m k) where
   pub few : length r ≤ 16
   few = row-few (h .known) (h .given)
+
+  pub counted : Counted r m k
+  counted =
+      let l = h .known in
+      let n = row-length bw a b in
+      rw (h .given .the-row)
+      record {
+        first = rw n (h .given .count1 ∙ count-1 bw a b l);
+        second = rw n (h .given .count2 ∙ count-2 bw a b l);
+      }
 
   pub told : {o p : Outcome} → o ≡ outcome9to11 bw a b → o ≡ p → outcome11 bw a b ≡ p
   told e f = h .rest ∙ sym e ∙ f

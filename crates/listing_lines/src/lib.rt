@@ -1,7 +1,7 @@
 // All lines of an accepted frame's listing (01, "Listing"), into a lent buffer.
 use lines::put_head;
 use position_lines::put_position;
-use station_lines::put_owned;
+use station_lines::put_channel;
 use station_lines::stations_in;
 ghost use mathlib.Core.Path.{_≡_};
 ghost use Prim.Native.Nat.{_+_, _*_, _≤_};
@@ -10,7 +10,7 @@ ghost use Rattle.text.specs.Text.{Wrote, upto};
 ghost use Rattle.plan.specs.Engine.{kindsOf};
 ghost use Rattle.records.specs.Engine.{numbersOf};
 ghost use Rattle.position_lines.specs.Engine.{runsLines};
-ghost use Rattle.listing_lines.specs.Engine.{fieldLine, fieldsListing};
+ghost use Rattle.listing_lines.specs.Engine.{Counted, fieldLine, fieldsListing};
 ghost use Rattle.listed.specs.Listing.{resources};
 
 // A line for each resource, by the row's table.
@@ -40,12 +40,12 @@ fn put_stations(
     m: usize,
     k: usize,
 ) -> usize
-    requires { ⌜ (at ≤ 68000) × (m ≤ 72) × (k ≤ 72) × (m + k ≤ length (now fields)) ⌝ }
+    requires { ⌜ (at ≤ 68000) × (m + k ≤ length (now fields)) × Counted (now row) m k ⌝ }
     requires { ⌜ (length (now row) ≤ 16) × (now kinds ≡ kindsOf (now row)) × (now before ≡ numbersOf (now row)) ⌝ }
     ensures { λ r. ⌜ Wrote (now (out .entry)) at (upto (fieldLine (now (row .entry)) (now (fields .entry)) m) (m + k)) (now (out .exit)) r ⌝ }
 {
-    let o = put_owned(out, at, fields, 0, row, kinds, before, 1, m);
-    put_owned(out, o, fields, m, row, kinds, before, 2, k)
+    let o = put_channel(out, at, fields, 0, row, kinds, before, 1, m);
+    put_channel(out, o, fields, m, row, kinds, before, 2, k)
 }
 
 // The listing of a frame whose row is given with its tables, with m fields in channel 1 and k in channel 2.
@@ -59,7 +59,7 @@ fn put_tabled(
     m: usize,
     k: usize,
 ) -> usize
-    requires { ⌜ (m ≤ 72) × (k ≤ 72) × (m + k ≤ length (now fields)) ⌝ }
+    requires { ⌜ (bw ≤ 4) × (m + k ≤ length (now fields)) × Counted (now row) m k ⌝ }
     requires { ⌜ (length (now row) ≤ 16) × (now kinds ≡ kindsOf (now row)) × (now before ≡ numbersOf (now row)) ⌝ }
     ensures { λ r. ⌜ Wrote (now (out .entry)) 0 (fieldsListing bw (now (row .entry)) (now (fields .entry)) m k) (now (out .exit)) r ⌝ }
 {
@@ -80,7 +80,7 @@ pub fn put_listing(
     m: usize,
     k: usize,
 ) -> usize
-    requires { ⌜ (m ≤ 72) × (k ≤ 72) × (m + k ≤ length (now fields)) × (length (now row) ≤ 16) × (now kinds ≡ kindsOf (now row)) ⌝ }
+    requires { ⌜ (bw ≤ 4) × (m + k ≤ length (now fields)) × Counted (now row) m k × (length (now row) ≤ 16) × (now kinds ≡ kindsOf (now row)) ⌝ }
     ensures { λ r. ⌜ Wrote (now (out .entry)) 0 (fieldsListing bw (now (row .entry)) (now (fields .entry)) m k) (now (out .exit)) r ⌝ }
 {
     let before = records::numbers_before(kinds, row);

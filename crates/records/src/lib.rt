@@ -184,7 +184,7 @@ pub fn count_in(before: &[u16; 17], row: &[u16]) -> u16
 // ---- the owners of all fields at once
 
 // The number of the resource that owns the first field of position p.
-fn first_owner(kinds: &[u16; 16], before: &[u16; 17], row: &[u16], p: usize) -> u16
+pub fn first_owner(kinds: &[u16; 16], before: &[u16; 17], row: &[u16], p: usize) -> u16
     requires { ⌜ (length (now row) ≤ 16) × (p < length (now row)) × (now kinds ≡ kindsOf (now row)) × (now before ≡ numbersOf (now row)) ⌝ }
     ensures { λ r. ⌜ r ≡ ownerAt (onlyPlan (at (now (row .entry)))) (at (now (row .entry))) p 0 ⌝ }
 {

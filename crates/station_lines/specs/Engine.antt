@@ -2,17 +2,17 @@
 -- `listing_lines/proofs/Channels.antt`.
 use mathlib.Core.List.{List}
 use Prim.Native.Nat.{ℕ, _+_}
-use lib.ListN.{length, getD}
-use Rattle.answer.specs.Lists.{build, at}
+use lib.ListN.{length}
+use Rattle.answer.specs.Lists.{at}
 use Rattle.plan.specs.Engine.{onlyPlan}
-use Rattle.records.specs.Engine.{ownerOf}
+use Rattle.records.specs.Engine.{ownerAt, ownerOf}
 use Rattle.stations.specs.Engine.{stationIn}
 use Rattle.lines.specs.Lines.{staLine}
 
--- the line of the i-th of the fields from the first on, its owner the i-th number
-abbrev pub ownedLine : List ℕ → ℕ → List ℕ → ℕ → List ℕ
-ownedLine fields first owners i = staLine (stationIn fields (first + i)) (getD owners i 0 + 1)
+-- the line of the k-th field that position p of the row r gives its channel, the i-th of all fields being the first of these
+abbrev pub givenLine : List ℕ → ℕ → List ℕ → ℕ → ℕ → List ℕ
+givenLine fields i r p k = staLine (stationIn fields (i + k)) (ownerAt (onlyPlan (at r)) (at r) p k + 1)
 
--- the numbers, from 0, of the owners of channel c's fields
-abbrev pub ownersIn : List ℕ → ℕ → List ℕ
-ownersIn r c = build (ownerOf (onlyPlan (at r)) (at r) c (length r)) 72
+-- of field j of channel c, the i-th of all being the channel's first
+abbrev pub ownedLine : List ℕ → ℕ → List ℕ → ℕ → ℕ → List ℕ
+ownedLine fields i r c j = staLine (stationIn fields (i + j)) (ownerOf (onlyPlan (at r)) (at r) c (length r) j + 1)

@@ -1,73 +1,100 @@
+-- `lines::put_counts` meets its contract.
 use native.Mathlib.Omega.{arith}
 use Rattle.text.proofs.Laws.{after}
 use Rattle.lines.specs.Engine.{countsText}
+use Rattle.lines.proofs.LineLaws.{count-written, last-written}
 use borrow.Author.Needs.{needs}
 use Rattle.lines.proofs.put_counts.Statement.{statement}
 use Rattle.lines.proofs.put_counts.Tie as tie
-use Rattle.lines.proofs.put_counts.Reads as reads
-use Rattle.lines.proofs.put_counts.Lts as lts
-use Rattle.lines.proofs.put_count.Reads as put-count-reads
-use Rattle.stores.proofs.put_eight.Reads as put-eight-reads
-use Rattle.text.proofs.put.Reads as put-reads
 
--- src/lib.rt:139:9
 put-eight-requires : tie.Need-put-eight-requires
 put-eight-requires c κs = search needs
 
--- src/lib.rt:140:9
-put-count-requires : tie.Need-put-count-requires
-put-count-requires c κs = search needs
+ended-word-requires : tie.Need-ended-word-requires
+ended-word-requires c κs = search needs
 
--- src/lib.rt:141:9
 put-eight-requires-2 : tie.Need-put-eight-requires-2
 put-eight-requires-2 c κs = search needs
 
--- src/lib.rt:142:9
-put-count-requires-2 : tie.Need-put-count-requires-2
-put-count-requires-2 c κs = search needs
+add-put-eight : tie.Need-add-put-eight
+add-put-eight c = search needs
 
--- src/lib.rt:143:9
 put-eight-requires-3 : tie.Need-put-eight-requires-3
 put-eight-requires-3 c κs = search needs
 
--- src/lib.rt:144:9
-put-requires : tie.Need-put-requires
-put-requires c κs = search needs
+ended-word-requires-2 : tie.Need-ended-word-requires-2
+ended-word-requires-2 c κs = search needs
 
--- src/lib.rt:145:5
-put-count-requires-3 : tie.Need-put-count-requires-3
-put-count-requires-3 c κs = search needs
+put-eight-requires-4 : tie.Need-put-eight-requires-4
+put-eight-requires-4 c κs = search needs
 
--- src/lib.rt:134:1
+add-c : tie.Need-add-c
+add-c c = search needs
+
+put-eight-requires-5 : tie.Need-put-eight-requires-5
+put-eight-requires-5 c κs = search needs
+
+ended-word-requires-3 : tie.Need-ended-word-requires-3
+ended-word-requires-3 c κs = search needs
+
+add-put-by-fours : tie.Need-add-put-by-fours
+add-put-by-fours c = search needs
+
+mul-put-by-fours : tie.Need-mul-put-by-fours
+mul-put-by-fours c = search needs
+
+add-put-by-fours-2 : tie.Need-add-put-by-fours-2
+add-put-by-fours-2 c = search needs
+
+sub-put-by-fours : tie.Need-sub-put-by-fours
+sub-put-by-fours c = search needs
+
+put-by-fours-requires : tie.Need-put-by-fours-requires
+put-by-fours-requires c κs = search needs
+
 same-length : tie.Need-same-length
 same-length c = search needs
 
--- src/lib.rt:134:1
 returns : tie.Need-returns
 unfolding countsText
 returns c =
-    let up = c .before .before .before .before in
-    let far = up .before .before .before .before in
-    let top = far .before .before .before .before in
-    let a = top .before .before .before .before .before .before .before .before .before .before .before .before .before .before .put-eight .ensures in
-    let b = top .before .before .before .before .before .before .before .before .before .before .put-count .ensures in
-    let d = top .before .before .before .before .before .before .put-eight2 .ensures in
-    let e = top .before .before .put-count2 .ensures in
-    let f = far .before .before .put-eight3 .ensures in
-    let g = up .before .before .put .ensures in
-    let h = c .before .before .put-count3 .ensures in
-    (after (a .0) (after (b .0) (after (d .0) (after (e .0) (after (f .0) (after g (h .0)))))), omega (arith, a .1, b .1, d .1, e .1, f .1, g .next, h .1))
+    let third = c .before .before .before .before in
+    let second = third .before .before .before .before .before .before .before .before .before in
+    let first = second .before .before .before .before .before .before .before .before .before in
+    let s = first .before .before .before .before .before .before .args in
+    let w1 = first .ended-word in
+    let w2 = second .ended-word2 in
+    let w3 = third .ended-word3 in
+    let e1 = first .before .before .before .put-eight .ensures in
+    let e2 = second .before .before .before .before .before .before .before .put-eight2 .ensures in
+    let e3 = second .before .before .before .put-eight3 .ensures in
+    let e4 = third .before .before .before .before .before .before .before .put-eight4 .ensures in
+    let e5 = third .before .before .before .put-eight5 .ensures in
+    let e6 = c .before .before .put-by-fours .ensures in
+    let last = last-written (s .stations) (w3 .result) (w3 .ensures) (e5 .0) (e6 .0) in
+    let rest = after (e3 .0) (count-written (s .fields2) (w2 .result) _ (w2 .ensures) (omega arith) (e4 .0) last) in (
+      after (e1 .0) (count-written (s .fields1) (w1 .result) _ (w1 .ensures) (omega arith) (e2 .0) rest),
+      omega (arith, e1 .1, e3 .1, e6 .1, w1 .ensures .most, w2 .ensures .most, w3 .ensures .most),
+    )
 
 pub put-counts-spec : {M : Type 1} → statement M
 put-counts-spec =
     tie.close
     (tie.spec
     put-eight-requires
-    put-count-requires
+    ended-word-requires
     put-eight-requires-2
-    put-count-requires-2
+    add-put-eight
     put-eight-requires-3
-    put-requires
-    put-count-requires-3
+    ended-word-requires-2
+    put-eight-requires-4
+    add-c
+    put-eight-requires-5
+    ended-word-requires-3
+    add-put-by-fours
+    mul-put-by-fours
+    add-put-by-fours-2
+    sub-put-by-fours
+    put-by-fours-requires
     same-length
     returns)

@@ -2,7 +2,7 @@
 use native.Mathlib.Omega.{arith}
 use Rattle.listing.proofs.Outcome.{refused-by, too-short, at-once, listed}
 use Rattle.listing_size.proofs.Longest.{listing-within}
-use Rattle.listing_lines.proofs.Shown.{few, told, written}
+use Rattle.listing_lines.proofs.Shown.{few, counted, told, written}
 use Rattle.text.proofs.Laws.{count}
 use borrow.Author.Needs.{needs}
 use Rattle.listing.proofs.list_planned.Statement.{statement}
@@ -39,7 +39,7 @@ put-listing-requires : tie.Need-put-listing-requires
 put-listing-requires c κs =
     let h = c .before .before .before .before .before .before .before .before .before .before .before .before .before .pre in
     let p = c .before .before .before .before .before .before .before .check-users in
-    (h .most1, h .most2, omega (arith, h .most1, h .most2, p .kept .0), few h, h .given .the-kinds)
+    (h .known, omega (arith, h .most1, h .most2, p .kept .0), counted h, few h, h .given .the-kinds)
 
 same-length : tie.Need-same-length
 same-length c = search needs
@@ -69,7 +69,7 @@ put-listing-requires-2 : tie.Need-put-listing-requires-2
 put-listing-requires-2 c κs =
     let h = c .before .before .before .before .before .before .before .before .before .before .before .before .before .pre in
     let p = c .before .before .before .before .before .before .before .check-users in
-    (h .most1, h .most2, omega (arith, h .most1, h .most2, p .kept .0), few h, h .given .the-kinds)
+    (h .known, omega (arith, h .most1, h .most2, p .kept .0), counted h, few h, h .given .the-kinds)
 
 same-length-2 : tie.Need-same-length-2
 same-length-2 c = search needs
@@ -91,7 +91,7 @@ put-listing-requires-3 c κs =
     let t = c .before .before .before .before .before .before .before .before .before .before .before .before .before in
     let h = t .before .before .before .before .before .before .pre in
     let p = t .check-users in
-    (h .most1, h .most2, omega (arith, h .most1, h .most2, p .kept .0), few h, h .given .the-kinds)
+    (h .known, omega (arith, h .most1, h .most2, p .kept .0), counted h, few h, h .given .the-kinds)
 
 same-length-3 : tie.Need-same-length-3
 same-length-3 c = search needs

@@ -4,7 +4,7 @@ use mathlib.Core.Path.{_≡_}
 use Prim.Native.Nat.{_+_}
 use Rattle.text.proofs.Laws.{after}
 use Rattle.listing_lines.specs.Engine.{fieldsListing}
-use Rattle.listing_lines.proofs.Held.{resources-few}
+use Rattle.listing_lines.proofs.Held.{resources-few, counted-few}
 use borrow.Author.Needs.{needs}
 use Rattle.listing_lines.proofs.put_tabled.Statement.{statement}
 use Rattle.listing_lines.proofs.put_tabled.Tie as tie
@@ -22,7 +22,13 @@ stations-in-requires : tie.Need-stations-in-requires
 stations-in-requires c κs = search needs
 
 put-head-requires : tie.Need-put-head-requires
-put-head-requires c κs = search needs
+put-head-requires c κs =
+    let start = c .before .before .before .before .before .before in
+    let q = start .pre in
+    let few = counted-few (q .0 .2) (q .1 .0) in
+    let most = resources-few (start .args .row .now) (q .1 .0) in
+    let said = c .before .stations-in .ensures .1 in
+    (omega arith, omega (arith, most, c .before .before .count-in .ensures), omega (arith, few), omega (arith, few), omega (arith, few, said))
 
 put-records-requires : tie.Need-put-records-requires
 put-records-requires c κs = search needs
@@ -32,7 +38,7 @@ put-stations-requires c κs =
     let start = c .before .before .before .before .before .before .before .before .before .before .before .before .before .before in
     let q = start .pre in
     let l = resources-few (start .args .row .now) (q .1 .0) in
-    ((omega arith, q .0 .0, q .0 .1, q .0 .2), q .1)
+    ((omega arith, q .0 .1, q .0 .2), q .1)
 
 same-length : tie.Need-same-length
 same-length c = search needs

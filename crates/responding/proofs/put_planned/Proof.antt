@@ -1,7 +1,7 @@
 -- `responding::put_planned` meets its contract.
 use native.Mathlib.Omega.{arith}
 use Rattle.listed.specs.Listing.{frameText}
-use Rattle.listing_lines.proofs.Shown.{few, told, written}
+use Rattle.listing_lines.proofs.Shown.{few, counted, told, written}
 use borrow.Author.Needs.{needs}
 use Rattle.responding.proofs.put_planned.Statement.{statement}
 use Rattle.responding.proofs.put_planned.Tie as tie
@@ -39,7 +39,7 @@ slice-aggregate-put-listing c = search needs
 put-listing-requires : tie.Need-put-listing-requires
 put-listing-requires c κs =
     let h = c .before .before .before .before .before .before .before .before .before .before .before .pre in
-    (h .most1, h .most2, omega (arith, h .most1, h .most2, c .before .before .before .before .before .check-users .kept .0), few h, h .given .the-kinds)
+    (h .known, omega (arith, h .most1, h .most2, c .before .before .before .before .before .check-users .kept .0), counted h, few h, h .given .the-kinds)
 
 same-length-2 : tie.Need-same-length-2
 same-length-2 c = search needs

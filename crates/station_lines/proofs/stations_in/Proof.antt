@@ -2,23 +2,15 @@
 use borrow.Author.Needs.{needs}
 use native.Mathlib.Omega.{arith}
 use mathlib.Core.Path.{_≡_, refl, ap, _∙_}
-use mathlib.Core.Bool.{Bool, true, false, cond}
+use mathlib.Core.Bool.{Bool, cond}
 use Prim.Native.Nat.{ℕ, _+_, _-_, _≤_}
-use mir.Val.{boolByte}
 use Rattle.answer.specs.Tally.{tally}
 use Rattle.answer.proofs.Tally.{tally-step}
 use Rattle.stations.specs.Engine.{stationIn}
 use Rattle.lines.specs.Lines.{assigned}
+use Rattle.station_lines.proofs.Walk.{as-number, one-most}
 use Rattle.station_lines.proofs.stations_in.Statement.{statement}
 use Rattle.station_lines.proofs.stations_in.Tie as tie
-
-as-number : (t : Bool) → boolByte t ≡ cond t 1 0
-as-number true = refl
-as-number false = refl
-
-one-most : (t : Bool) → boolByte t ≤ 1
-one-most true = omega arith
-one-most false = omega arith
 
 abbrev Inv-loop : tie.InvT-loop
 Inv-loop fields n stations₀ i₀ stations i = (i ≤ n) × (stations ≤ i) × (stations ≡ tally (λ j. assigned (stationIn fields j)) i)
@@ -51,7 +43,7 @@ loop-again : tie.Need-loop-again Inv-loop μ-loop
 loop-again c =
     let s = c .before .before .before .before .before .args in
     let l = c .before .before .before .loop in
-    let t : c .is-assigned .result ≡ assigned (stationIn (s .fields .now) (l .i)) = c .is-assigned .ensures ∙ ap assigned (c .before .station-at .ensures) in
+    let t : c .is-assigned .result ≡ assigned (stationIn (s .fields .now) (l .i)) = c .is-assigned .ensures ∙ ap assigned (c .before .station-at .ensures .0) in
     let h = one-most (c .is-assigned .result) in (
       omega arith,
       omega arith,
