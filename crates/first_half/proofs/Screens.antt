@@ -3,10 +3,10 @@
 use mathlib.Core.Path.{_≡_, sym, _∙_, ap₂, subst}
 use mathlib.Core.Bool.{true}
 use mathlib.Core.List.{List}
-use Prim.Native.Nat.{ℕ, _≤_}
+use Prim.Native.Nat.{ℕ, _≤_, _<_}
 use lib.ListN.{length, replicate}
 use borrow.Author.Tests.{le-ltb}
-use Rattle.answer.specs.Answer.{_or_}
+use Rattle.answer.specs.Answer.{no, _or_}
 use Rattle.answer.specs.Lists.{filled, at}
 use Rattle.answer.specs.declared.Answer.{Answer}
 use Rattle.answer.specs.declared.Outcome.{Outcome}
@@ -16,7 +16,7 @@ use Rattle.answer.proofs.Order.{or-pass, if-pass, or-refuse, or-next, or-assoc}
 use Rattle.resource.specs.Values.{carried}
 use Rattle.plan.specs.declared.Rest.{Rest}
 use Rattle.plan.specs.Engine.{planOutcome, Tells}
-use Rattle.plan.proofs.Carried.{plan-carried}
+use Rattle.plan.proofs.Carried.{plan-carried, over-carried}
 use Rattle.channel.specs.Layout.{positions, row, rowIn16}
 use Rattle.channel.specs.declared.Parts.{Parts}
 use Rattle.channel.specs.Engine.{partsOf, partAt}
@@ -74,11 +74,17 @@ module _ (bw : ℕ) (a b : List ℕ) (five : outcome5 bw a b ≡ Pass) where
   unfolding outcome1to8
   passed-six e = sym (or-next _ (planOutcome (row bw a b)) (common-is ∙ e))
 
-  -- a row that has a plan passes 6
-  pub plan-six : planOutcome (row bw a b) ≡ Pass → check6 bw a b ≡ Pass
-  plan-six e =
+  -- a row of carried values passes 6: one that has a plan, with at most eight fields on each resource or with more
+  carried-six : ((p : ℕ) → p < length (row bw a b) → carried (at (row bw a b) p) ≡ true) → check6 bw a b ≡ Pass
+  carried-six h =
       carried-passes bw a b (five-pass bw a b five .known)
-      (unfold allCarried in all-every (λ p. carried (at (row bw a b) p)) (length (row bw a b)) (plan-carried (row bw a b) e))
+      (unfold allCarried in all-every (λ p. carried (at (row bw a b) p)) (length (row bw a b)) h)
+
+  pub plan-six : planOutcome (row bw a b) ≡ Pass → check6 bw a b ≡ Pass
+  plan-six e = carried-six (plan-carried (row bw a b) e)
+
+  pub told-eight : (s : ℕ) → planOutcome (row bw a b) ≡ Refuse (no 8 0 s) → Refuse (no 8 0 s) ≡ outcome1to8 bw a b
+  told-eight s e = sym e ∙ passed-six (carried-six (over-carried (row bw a b) s e))
 
   -- what is told of its row's plan
   pub told-plans : (x : Rest) (r kinds : List ℕ) → check6 bw a b ≡ Pass → r ≡ rowIn16 bw a b → Tells (row bw a b) x kinds → Plans bw a b x r kinds

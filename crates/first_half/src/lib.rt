@@ -8,9 +8,9 @@ use plan::Rest;
 ghost use mathlib.Core.Path.{_≡_};
 ghost use Prim.Native.Nat.{_≤_, _<_};
 ghost use lib.ListN.{length, take, replicate};
-ghost use Rattle.answer.specs.Answer.{_or_};
+ghost use Rattle.answer.specs.Answer.{no, _or_};
 ghost use Rattle.resource.specs.Values.{carried};
-ghost use Rattle.plan.specs.Engine.{Tells};
+ghost use Rattle.plan.specs.Engine.{Tells, overIn, planOutcome};
 ghost use Rattle.channel.specs.Layout.{rowIn16};
 ghost use Rattle.channel.specs.Engine.{partsOf};
 ghost use Rattle.halves.specs.Table.{check1, check2, check3, check4, check5, check6};
@@ -143,7 +143,8 @@ fn stopped(outcome: Outcome) -> Rest
 // What the roles of the first n values tell; and what is sought of these.
 fn tell_front(kinds: &mut [u16; 16], row: &[u16], n: usize) -> Rest
     requires { ⌜ (n ≤ 16) × (n ≤ length (now row)) × (now kinds ≡ replicate 16 0) ⌝ }
-    ensures { λ r. ⌜ (r .outcome ≡ Outcome.Pass) × (r .shared < 65536 → Tells (take n (now (row .entry))) r (now (kinds .exit))) ⌝ }
+    ensures { λ r. ⌜ (r .outcome ≡ Outcome.Pass) × (r .shared < 65536 → Tells (take n (now (row .entry))) r (now (kinds .exit)))
+        × (overIn (r .shared) < 4 → planOutcome (take n (now (row .entry))) ≡ Outcome.Refuse (no 8 0 (overIn (r .shared)))) ⌝ }
 {
     plan::tell(kinds, &row[..n])
 }
@@ -167,7 +168,8 @@ fn seek_plan(kinds: &mut [u16; 16], bw: u32, a: &[u8], b: &[u8], row: &[u16; 16]
     seek_front(kinds, row, channel::positions_of(bw))
 }
 
-// 1 to 8, the row, filled once, and its plan, made once. A value that has a role is carried, so that 6 is asked only where the roles do not tell.
+// 1 to 8, the row, filled once, and its plan, made once. A value that has a role is carried, so that 6 is asked only where the roles tell neither
+// the plan nor 8.
 pub fn plan_row(row: &mut [u16; 16], kinds: &mut [u16; 16], bw: u32, a: &[u8], b: &[u8]) -> Rest
     requires { ⌜ (now row ≡ replicate 16 0) × (now kinds ≡ replicate 16 0) ⌝ }
     ensures { λ r. ⌜ Plans bw (now (a .entry)) (now (b .entry)) r (now (row .exit)) (now (kinds .exit)) ⌝ }
@@ -184,6 +186,10 @@ pub fn plan_row(row: &mut [u16; 16], kinds: &mut [u16; 16], bw: u32, a: &[u8], b
             fields2: told.fields2,
             shared: told.shared,
         };
+    }
+    let s = plan::over_in(told.shared);
+    if s < 4 {
+        return stopped(answer::refuse_if(true, 8, 0, s));
     }
     seek_plan(kinds, bw, a, b, row)
 }

@@ -9,14 +9,18 @@ use lib.Dec.{leb}
 use lib.ListN.{length}
 use borrow.Author.Tests.{le-leb}
 use Rattle.answer.specs.Lists.{at}
-use Rattle.answer.specs.declared.Outcome.the-variants.{Pass}
+use Rattle.answer.specs.Answer.{no}
+use Rattle.answer.specs.declared.Answer.{Answer}
+use Rattle.answer.specs.declared.Outcome.{Outcome}
+use Rattle.answer.specs.declared.Outcome.the-variants.{Pass, Refuse}
+use Rattle.answer.proofs.Order.{pass-not-refuse, refuse-same}
 use Rattle.resource.specs.Values.{carried}
 use Rattle.resource.proofs.Fields.{carried-family}
 use Rattle.kinds.specs.Kinds.{family, span, blankAt}
 use Rattle.kinds.specs.Signals.{Fits, own, blank, smaller}
 use Rattle.kinds.proofs.Fitting.{known, smaller-view, blank-most}
 use Rattle.kinds.proofs.Table.{family-low, family-most}
-use Rattle.plan.specs.Answers.{Laid}
+use Rattle.plan.specs.Answers.{Laid, accepted, no-plan, over-eight}
 use Rattle.plan.specs.Engine.{planOutcome}
 use Rattle.plan.proofs.Laid.{outcome-laid}
 use Rattle.plan.proofs.Demand.{accepted-plan}
@@ -45,3 +49,12 @@ pub plan-carried : (row : List ℕ) → planOutcome row ≡ Pass → (p : ℕ) �
 plan-carried row e p l =
     let w = accepted-plan row (rw e at (outcome-laid row)) in
     fits-carried (w .0 p) p (at row p) (w .1 .fits p (omega arith) l)
+
+-- the same of one with a resource over eight
+pub over-carried : (row : List ℕ) (s : ℕ) → planOutcome row ≡ Refuse (no 8 0 s) → (p : ℕ) → p < length row → carried (at row p) ≡ true
+over-carried row s e p l = go (planOutcome row) (outcome-laid row) e
+  where
+    go : (x : Outcome) → Laid row x → x ≡ Refuse (no 8 0 s) → carried (at row p) ≡ true
+    go x (accepted a) f = absurd (pass-not-refuse refl f)
+    go x (no-plan t m n g) f = absurd (let z : _≡_ {A = ℕ} 7 8 = ap (λ (y : Answer). y .number) (refuse-same refl f) in omega arith)
+    go x (over-eight o w t v g) f = fits-carried (o p) p (at row p) (w .fits p (omega arith) l)

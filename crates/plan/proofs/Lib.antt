@@ -9,6 +9,7 @@ pub mod Demand
 pub mod Carried
 pub mod Narrow
 pub mod Value
+pub mod Signs
 pub mod Told
 pub mod Roles
 pub mod Steps

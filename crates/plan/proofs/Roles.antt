@@ -92,10 +92,10 @@ none-entered k b w e f = record {
   as-long = refl;
 }
 
-pub shifted-most : (x k : ℕ) → x ≤ 65536 → k ≤ 12 → x * 2 ^ k ≤ 2 ^ 28
+pub shifted-most : (x k : ℕ) → x ≤ 131072 → k ≤ 12 → x * 2 ^ k ≤ 2 ^ 29
 shifted-most x k l m =
     let u : 2 ^ k ≤ 2 ^ 12 = pow-mono {i = k} {j = 12} m in
-    let a = mul-le-mul-right {m = x} {n = 65536} (2 ^ k) l in
+    let a = mul-le-mul-right {m = x} {n = 131072} (2 ^ k) l in
     omega arith
 
 -- ---- what the code has after s segments
@@ -106,12 +106,12 @@ module _ (roles : List ℕ) (low : Low roles) where
   sum-most i (suc s) = omega (arith, sum-most i s, low .low (4 * s + i), low .low (4 * s + (i + 2)))
 
   -- the marks of at most four segments
-  pub marks-most : (s : ℕ) → s ≤ 4 → glanceMarks (at roles) s ≤ s * 2 ^ 28
+  pub marks-most : (s : ℕ) → s ≤ 4 → glanceMarks (at roles) s ≤ s * 2 ^ 29
   unfolding glanceMarks
   marks-most zero l = omega arith
   marks-most (suc s) l = omega (arith, marks-most s (omega arith), shifted-most (segmentOf (at roles) s .marks) (4 * s) (few s) (omega arith))
     where
-      few : (s : ℕ) → segmentOf (at roles) s .marks ≤ 65536
+      few : (s : ℕ) → segmentOf (at roles) s .marks ≤ 131072
       few s = unfold segmentOf in settle-most _ _ _ _
 
 -- ---- one segment more: the one that begins at b

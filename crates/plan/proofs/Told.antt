@@ -11,7 +11,8 @@ use lib.Dec.{ltb, leb, eqb, eqb→eq}
 use lib.ListN.{length, getD, replicate, length-replicate, List·getD-eq-default}
 use borrow.Author.Tests.{lt-ltb, le-ltb, eq-eqb, ne-eqb}
 use Rattle.answer.specs.Lists.{at, filled}
-use Rattle.answer.specs.declared.Outcome.the-variants.{Pass}
+use Rattle.answer.specs.Answer.{no}
+use Rattle.answer.specs.declared.Outcome.the-variants.{Pass, Refuse}
 use Rattle.answer.proofs.Lists.{filled-is, filled-length, getD-filled, getD-kept}
 use Rattle.resource.specs.Values.{fieldsOf, smallerAt}
 use Rattle.resource.proofs.Fields.{fields-most}
@@ -25,12 +26,14 @@ use Rattle.kinds.proofs.Places.{place-segment}
 use Rattle.kinds.proofs.Steps.{total-alone, share-alone}
 use Rattle.segments.specs.Engine.{fitting}
 use Rattle.segments.proofs.Found.{fitting-fits}
-use Rattle.roles.specs.Engine.{Role, kindIn, mark, Segment}
-use Rattle.roles.proofs.Told.{settled}
+use Rattle.roles.specs.Engine.{Role, kindIn, mark, totalIn, Given, Segment}
+use Rattle.roles.proofs.Steps.{Marks, settle-view}
+use Rattle.roles.proofs.Told.{Told, settled}
 use Rattle.plan.specs.declared.Plan.{Plan}
 use Rattle.plan.specs.declared.Rest.{Rest}
-use Rattle.plan.specs.Answers.{accepted}
-use Rattle.plan.specs.Engine.{onlyPlan, planOutcome, sharedTo, kindsOf, planOf, segmentOf, glanceKind, glanceMarks, roleSum, glanceOf, withKinds}
+use Rattle.plan.specs.Answers.{Over, accepted, over-eight}
+use Rattle.plan.specs.Engine.{onlyPlan, planOutcome, sharedTo, kindsOf, planOf, segmentOf, glanceKind, glanceMarks, roleSum, glanceOf, withKinds, overIn}
+use Rattle.plan.proofs.Signs.{Lowest, Digit, marksOf, four-marks, lowest-over}
 use Rattle.plan.proofs.Only.{whole-only}
 use Rattle.plan.proofs.Laid.{laid-is}
 use Rattle.plan.proofs.Value.{plan-is}
@@ -270,12 +273,18 @@ channel-four i f s l = ⊎-elim first second (below-or i 1)
           eq-eqb (suc (suc (suc b)) % 2 + 1) 2 (omega arith),
         ) (omega arith)
 
+mark-most : (t : ℕ) → mark t ≤ 1
+mark-most t = go (leb 2 t)
+  where
+    go : (b : Bool) → cond b 1 0 ≤ 1
+    go true = omega arith
+    go false = omega arith
+
 -- ---- a row and its roles
 abbrev pub fieldsAt : List ℕ → ℕ → ℕ
 fieldsAt row p = cond (ltb p (length row)) (fieldsOf (at row p)) 0
 
-module _ (row roles : List ℕ) (short : length row ≤ 16) (cast : (p : ℕ) → p < 16 → Role (at row p) (fieldsAt row p) (at roles p))
-    (good : glanceMarks (at roles) ((length row + 3) / 4) < 65536) where
+module _ (row roles : List ℕ) (short : length row ≤ 16) (cast : (p : ℕ) → p < 16 → Role (at row p) (fieldsAt row p) (at roles p)) where
   abbrev n : ℕ
   n = length row
 
@@ -288,170 +297,272 @@ module _ (row roles : List ℕ) (short : length row ≤ 16) (cast : (p : ℕ) �
   abbrev marksAt : ℕ → ℕ
   marksAt s = segmentOf (at roles) s .marks
 
-  abbrev Whole : ℕ → Type 0
-  Whole s = Segment (λ j. at row (4 * s + j)) (kindsAt s) (marksAt s) × ((j : ℕ) → j < 4 → at roles (4 * s + j) % 256 ≡ fieldsAt row (4 * s + j))
+  -- the values of segment s by their places
+  abbrev valuesOf : ℕ → ℕ → ℕ
+  valuesOf s j = at row (4 * s + j)
 
-  whole : (s : ℕ) → s < (n + 3) / 4 → Whole s
+  told : (s : ℕ) (l : s < (n + 3) / 4)
+      → Told (valuesOf s) (λ j. fieldsAt row (4 * s + j)) (λ j. at roles (4 * s + j)) (λ j k. cast (4 * s + j) (omega arith)) (segmentOf (at roles) s)
   unfolding segmentOf
-  whole s l =
-      let m = marks-part (at roles) ((n + 3) / 4) s l in
-      settled (λ j. at row (4 * s + j)) (λ j. fieldsAt row (4 * s + j)) (λ j. at roles (4 * s + j)) (λ j k. cast (4 * s + j) (omega arith))
-      (unfold segmentOf in omega arith)
+  told s l = settled (valuesOf s) (λ j. fieldsAt row (4 * s + j)) (λ j. at roles (4 * s + j)) (λ j k. cast (4 * s + j) (omega arith))
 
-  segment : (p : ℕ) → p / 4 < (n + 3) / 4 → Segment (λ j. at row (4 * (p / 4) + j)) (kindsAt (p / 4)) (marksAt (p / 4))
-  segment p l = whole (p / 4) l .0
+  -- ---- where every segment has a plan
+  module _ (plans : (s : ℕ) → s < (n + 3) / 4 → Given (valuesOf s) (kindsAt s)) where
+    here : (p : ℕ) → 4 * (p / 4) + p % 4 ≡ p
+    here p = omega arith
 
-  here : (p : ℕ) → 4 * (p / 4) + p % 4 ≡ p
-  here p = omega arith
+    o-low : (p : ℕ) → p / 4 < (n + 3) / 4 → o p < 7
+    unfolding glanceKind
+    o-low p l = plans (p / 4) l .low (p % 4) (omega arith)
 
-  o-low : (p : ℕ) → p / 4 < (n + 3) / 4 → o p < 7
-  unfolding glanceKind
-  o-low p l = segment p l .low (p % 4) (omega arith)
+    o-fits : (p : ℕ) → p / 4 < (n + 3) / 4 → fitting (o p) p (at row p) ≡ true
+    unfolding glanceKind
+    o-fits p l =
+        let f = plans (p / 4) l .fit (p % 4) (omega arith) in
+        sym (fitting-place (o p) (o-low p l) p (at row p)) ∙ ap (λ (q : ℕ). fitting (o p) (p % 4) (at row q)) (sym (here p)) ∙ f
 
-  o-fits : (p : ℕ) → p / 4 < (n + 3) / 4 → fitting (o p) p (at row p) ≡ true
-  unfolding glanceKind
-  o-fits p l =
-      let f = segment p l .fit (p % 4) (omega arith) in
-      sym (fitting-place (o p) (o-low p l) p (at row p)) ∙ ap (λ (q : ℕ). fitting (o p) (p % 4) (at row q)) (sym (here p)) ∙ f
+    -- past the row
+    absent : (p : ℕ) → n ≤ p → p / 4 < (n + 3) / 4 → o p ≡ 0
+    absent p l m =
+        let z : at row p ≡ 0 = List·getD-eq-default row 0 l in
+        zero-alone (o p) (p % 4) (o-low p m) (omega arith)
+        (fitting-place (o p) (o-low p m) p 0 ∙ ap (λ (v : ℕ). fitting (o p) p v) (sym z) ∙ o-fits p m)
 
-  -- past the row
-  absent : (p : ℕ) → n ≤ p → p / 4 < (n + 3) / 4 → o p ≡ 0
-  absent p l m =
-      let z : at row p ≡ 0 = List·getD-eq-default row 0 l in
-      zero-alone (o p) (p % 4) (o-low p m) (omega arith)
-      (fitting-place (o p) (o-low p m) p 0 ∙ ap (λ (v : ℕ). fitting (o p) p v) (sym z) ∙ o-fits p m)
+    o-same : (p q : ℕ) → p / 4 < (n + 3) / 4 → Place (o p) p q → q / 4 ≡ p / 4 → o q ≡ o p
+    unfolding glanceKind
+    o-same p q l w e =
+        let f = plans (p / 4) l .entire (p % 4) (q % 4) (omega arith) (omega arith) (place-down (o p) (o-low p l) p q w) in
+        rw e f
 
-  o-same : (p q : ℕ) → p / 4 < (n + 3) / 4 → Place (o p) p q → q / 4 ≡ p / 4 → o q ≡ o p
-  unfolding glanceKind
-  o-same p q l w e =
-      let f = segment p l .entire (p % 4) (q % 4) (omega arith) (omega arith) (place-down (o p) (o-low p l) p q w) in
-      rw e f
+    -- no place of a resource is missing
+    o-there : (p q : ℕ) → p < n → Place (o p) p q → q < n
+    o-there p q l w =
+        let e = place-segment (o p) p q (o-low p (omega arith)) w in
+        ⊎-elim (λ k. k) (λ (k : n ≤ q). absurd (missing k e)) (below-or q n)
+      where
+        missing : n ≤ q → q / 4 ≡ p / 4 → ⊥
+        missing k e =
+            let z : o p ≡ 0 = sym (o-same p q (omega arith) w e) ∙ absent q k (omega arith) in
+            let f = rw (z, span-0) at (w .0) in
+            omega arith
 
-  -- no place of a resource is missing
-  o-there : (p q : ℕ) → p < n → Place (o p) p q → q < n
-  o-there p q l w =
-      let e = place-segment (o p) p q (o-low p (omega arith)) w in
-      ⊎-elim (λ k. k) (λ (k : n ≤ q). absurd (missing k e)) (below-or q n)
+    o-named : (p : ℕ) → p < n → mustName (o p) ≡ true → (q : ℕ) × Place (o p) p q × (at row q / 8 ≡ family (o p))
+    unfolding glanceKind
+    o-named p u m =
+        let w = plans (p / 4) (omega arith) .named (p % 4) (omega arith) m in
+        (4 * (p / 4) + w .0, place-up (o p) (o-low p (omega arith)) p (w .0) (w .1) (w .2), w .3)
+
+    pub signals : Signals o (at row) 0 n
+    signals = record {
+      fits = λ p l u. fitting-fits (o p) p (at row p) (o-fits p (omega arith));
+      entire = λ p q l u w.
+          (omega arith, o-there p q u w, o-same p q (omega arith) w (place-segment (o p) p q (o-low p (omega arith)) w));
+      named = λ p l u m. o-named p u m;
+    }
+
+    total : (p : ℕ) → p / 4 < (n + 3) / 4 → together (o p) (at row) p ≡ together (o p) (λ i. at row (4 * (p / 4) + i)) (p % 4)
+    total p l = together-down (o p) (o-low p l) (at row) p
+
+  -- ---- where every segment's roles tell
+  module _ (good : glanceMarks (at roles) ((length row + 3) / 4) < 65536) where
+    abbrev Whole : ℕ → Type 0
+    Whole s = Segment (valuesOf s) (kindsAt s) (marksAt s) × ((j : ℕ) → j < 4 → at roles (4 * s + j) % 256 ≡ fieldsAt row (4 * s + j))
+
+    whole : (s : ℕ) → s < (n + 3) / 4 → Whole s
+    whole s l = let m = marks-part (at roles) ((n + 3) / 4) s l in told s l .whole (omega arith)
+
+    given : (s : ℕ) → s < (n + 3) / 4 → Given (valuesOf s) (kindsAt s)
+    given s l = whole s l .0 .given
+
+    pub eight : Eight o (at row) 0 n
+    unfolding glanceKind
+    eight p l u = let e = total given p (omega arith) in let f = whole (p / 4) (omega arith) .0 .eight (p % 4) (omega arith) in rw e f
+
+    -- ---- the parts of the plan
+    only : (p : ℕ) → p < n → o p ≡ onlyPlan (at row) p
+    only = whole-only row o (signals given)
+
+    passed : Pass ≡ planOutcome row
+    passed = laid-is row Pass (accepted (o, signals given, eight))
+
+    zeros : (m i : ℕ) → _≡_ {A = ℕ} (getD (replicate m 0) i 0) 0
+    zeros zero i = refl
+    zeros (suc m) zero = refl
+    zeros (suc m) (suc i) = zeros m i
+
+    kinds-are : filled o (4 * ((n + 3) / 4)) (replicate 16 0) ≡ kindsOf row
+    unfolding kindsOf
+    kinds-are =
+        filled-is (onlyPlan (at row)) 0 n (filled o m w) w (filled-length o m w (omega (arith, length-replicate {A = ℕ} 16 0)))
+        (omega (arith, length-replicate {A = ℕ} 16 0))
+        (λ i l. getD-filled o m w i 0 (omega arith) ∙ only i l)
+        (λ i l.
+        ⊎-elim (λ (k : i < m). getD-filled o m w i 0 k ∙ absent given i l (omega arith) ∙ sym (zeros 16 i)) (λ (k : m ≤ i). getD-kept o m w i 0 k)
+        (below-or i m))
+      where
+        m : ℕ
+        m = 4 * ((n + 3) / 4)
+
+        w : List ℕ
+        w = replicate 16 0
+
+    -- a position's mark
+    abbrev two : ℕ → Bool
+    two p = leb 2 (together (o p) (at row) p)
+
+    two-place : (s j : ℕ) → s < (n + 3) / 4 → j < 4 → mark (together (kindIn (kindsAt s) j) (λ i. at row (4 * s + i)) j) ≡ cond (two (4 * s + j)) 1 0
+    unfolding glanceKind
+    two-place s j l k =
+        let a : (4 * s + j) / 4 ≡ s = omega arith in
+        let b : (4 * s + j) % 4 ≡ j = omega arith in
+        let e : together (o (4 * s + j)) (at row) (4 * s + j) ≡ together (kindIn (kindsAt s) j) (λ i. at row (4 * s + i)) j =
+        total given (4 * s + j) (omega arith) ∙ rw (a, b) in
+        sym (ap mark e)
+
+    marks-are : (s : ℕ) → s ≤ (n + 3) / 4 → glanceMarks (at roles) s ≡ bitsTo two (4 * s)
+    unfolding glanceMarks
+    marks-are zero l = refl
+    marks-are (suc s) l =
+        let e = whole s (omega arith) .0 .marks in
+        let g = four-bits two (4 * s) _ _ _ _ (two-place s 0 (omega arith) (omega arith)) (two-place s 1 (omega arith) (omega arith))
+        (two-place s 2 (omega arith) (omega arith)) (two-place s 3 (omega arith) (omega arith)) in
+        let f : 4 * suc s ≡ 4 * s + 4 = omega arith in
+        rw (marks-are s (omega arith), e, f) (sym g)
+
+    shared-is : glanceMarks (at roles) ((n + 3) / 4) ≡ sharedTo row n
+    shared-is =
+        marks-are ((n + 3) / 4) (omega arith)
+        ∙ bits-past two n (4 * ((n + 3) / 4)) (omega arith) (λ p l u. none p l (omega arith))
+        ∙ bits-same two row n (λ p l. ap (λ (c : ℕ). leb 2 (together c (at row) p)) (only p l))
+      where
+        none : (p : ℕ) → n ≤ p → p / 4 < (n + 3) / 4 → two p ≡ false
+        none p l u = rw (zero-none (o p) p (at row) (absent given p l u) (List·getD-eq-default row 0 l))
+
+    few : (p : ℕ) → fieldsAt row p ≤ 9
+    few p = go (ltb p n)
+      where
+        go : (t : Bool) → cond t (fieldsOf (at row p)) 0 ≤ 9
+        go true = fields-most (at row p)
+        go false = omega arith
+
+    sum-are : (i : ℕ) → i < 2 → (s : ℕ) → s ≤ (n + 3) / 4 → roleSum i (at roles) s % 256 ≡ channelTo (i + 1) (fieldsAt row) (4 * s)
+    unfolding roleSum
+    sum-are i h zero l = refl
+    sum-are i h (suc s) l =
+        let e = sum-are i h s (omega arith) in
+        let a = whole s (omega arith) .1 i (omega arith) in
+        let b = whole s (omega arith) .1 (i + 2) (omega arith) in
+        let g = channel-four i (fieldsAt row) s h in
+        let m = channel-most (i + 1) (fieldsAt row) few (4 * s) in
+        let f : 4 * suc s ≡ 4 * s + 4 = omega arith in
+        let k : channelTo (i + 1) (fieldsAt row) (4 * s) + fieldsAt row (4 * s + i) + fieldsAt row (4 * s + (i + 2)) < 256 =
+        omega (arith, few (4 * s + i), few (4 * s + (i + 2))) in
+        rw (f, g) (added (roleSum i (at roles) s) (at roles (4 * s + i)) (at roles (4 * s + (i + 2))) _ _ _ e a b k)
+      where
+        added : (x y z a b c : ℕ) → x % 256 ≡ a → y % 256 ≡ b → z % 256 ≡ c → a + b + c < 256 → (x + (y + z)) % 256 ≡ a + b + c
+        added x y z a b c e f g l = omega arith
+
+    fields-are : (i : ℕ) → i < 2 → roleSum i (at roles) ((n + 3) / 4) % 256 ≡ fieldsTo (i + 1) (at row) n
+    fields-are i h =
+        sum-are i h ((n + 3) / 4) (omega arith)
+        ∙ channel-past (i + 1) (fieldsAt row) n (4 * ((n + 3) / 4)) (omega arith) (λ p l u. rw (le-ltb p n l))
+        ∙ channel-same (i + 1) (fieldsAt row) (at row) n (λ p l. rw (lt-ltb p n l))
+
+    pub glance-plan : glanceOf n roles ≡ planOf row
+    unfolding glanceOf
+    glance-plan = plan-is row _ _ _ _ passed kinds-are shared-is (fields-are 0 (omega arith)) (fields-are 1 (omega arith))
+
+  marks-view : (s : ℕ) → Marks (marksAt s)
+  unfolding segmentOf
+  marks-view s = settle-view _ _ _ _
+
+  -- the marks of the places are four bits
+  few-marks : (s : ℕ) → s < (n + 3) / 4 → marksAt s < 65536 → marksAt s < 16
+  few-marks s l m =
+      let v = valuesOf s in
+      let k = kindsAt s in
+      omega (
+        arith,
+        told s l .whole m .0 .marks,
+        mark-most (totalIn k v 0),
+        mark-most (totalIn k v 1),
+        mark-most (totalIn k v 2),
+        mark-most (totalIn k v 3),
+      )
+
+  digit : (s : ℕ) → Digit (marksOf (at roles) ((n + 3) / 4) s)
+  digit s = ⊎-elim inside past (below-or s ((n + 3) / 4))
     where
-      missing : n ≤ q → q / 4 ≡ p / 4 → ⊥
-      missing k e =
-          let z : o p ≡ 0 = sym (o-same p q (omega arith) w e) ∙ absent q k (omega arith) in
-          let f = rw (z, span-0) at (w .0) in
-          omega arith
+      inside : s < (n + 3) / 4 → Digit (marksOf (at roles) ((n + 3) / 4) s)
+      inside l = rw (lt-ltb s ((n + 3) / 4) l) (go (marks-view s))
+        where
+          go : Marks (marksAt s) → Digit (marksAt s)
+          go (inl m) = let f = few-marks s l m in record { places = omega arith; sign = omega arith }
+          go (inr (inl e)) = record { places = omega arith; sign = omega arith }
+          go (inr (inr e)) = record { places = omega arith; sign = omega arith }
 
-  o-named : (p : ℕ) → p < n → mustName (o p) ≡ true → (q : ℕ) × Place (o p) p q × (at row q / 8 ≡ family (o p))
-  unfolding glanceKind
-  o-named p u m =
-      let w = segment p (omega arith) .named (p % 4) (omega arith) m in
-      (4 * (p / 4) + w .0, place-up (o p) (o-low p (omega arith)) p (w .0) (w .1) (w .2), w .3)
+      past : (n + 3) / 4 ≤ s → Digit (marksOf (at roles) ((n + 3) / 4) s)
+      past l = rw (le-ltb s ((n + 3) / 4) l) (record { places = omega arith; sign = omega arith })
 
-  pub signals : Signals o (at row) 0 n
-  signals = record {
-    fits = λ p l u. fitting-fits (o p) p (at row p) (o-fits p (omega arith));
-    entire = λ p q l u w.
-        (omega arith, o-there p q u w, o-same p q (omega arith) w (place-segment (o p) p q (o-low p (omega arith)) w));
-    named = λ p l u m. o-named p u m;
-  }
+  -- ---- where every segment has a plan, and some a resource over eight: the lowest such is 8's
+  module _ (z : ℕ) (first : Lowest (marksOf (at roles) ((n + 3) / 4)) z) where
+    -- the marks of a segment, and past the row
+    marks-in : (s : ℕ) → s < (n + 3) / 4 → marksOf (at roles) ((n + 3) / 4) s ≡ marksAt s
+    marks-in s l = rw (lt-ltb s ((n + 3) / 4) l)
 
-  total : (p : ℕ) → p / 4 < (n + 3) / 4 → together (o p) (at row) p ≡ together (o p) (λ i. at row (4 * (p / 4) + i)) (p % 4)
-  total p l = together-down (o p) (o-low p l) (at row) p
+    z-in : z < (n + 3) / 4
+    z-in = ⊎-elim (λ l. l) (λ (l : (n + 3) / 4 ≤ z). absurd (first .there (rw (le-ltb z ((n + 3) / 4) l) refl))) (below-or z ((n + 3) / 4))
 
-  pub eight : Eight o (at row) 0 n
-  unfolding glanceKind
-  eight p l u = let e = total p (omega arith) in let f = segment p (omega arith) .eight (p % 4) (omega arith) in rw e f
+    z-past : 65536 < marksAt z
+    z-past = go (marks-view z)
+      where
+        go : Marks (marksAt z) → 65536 < marksAt z
+        go (inl l) = absurd (first .there (ap (λ (x : ℕ). x / 65536) (marks-in z z-in) ∙ omega arith))
+        go (inr (inl e)) = absurd (first .never z (first .inside) (ap (λ (x : ℕ). x / 65536) (marks-in z z-in) ∙ omega arith))
+        go (inr (inr e)) = omega arith
 
-  -- ---- the parts of the plan
-  only : (p : ℕ) → p < n → o p ≡ onlyPlan (at row) p
-  only = whole-only row o signals
+    none-before : (s : ℕ) → s < z → marksAt s < 65536
+    none-before s l =
+        let e : marksAt s / 65536 ≡ 0 = ap (λ (x : ℕ). x / 65536) (sym (marks-in s (omega (arith, z-in)))) ∙ first .before s l in
+        omega arith
 
-  passed : Pass ≡ planOutcome row
-  passed = laid-is row Pass (accepted (o, signals, eight))
+    over-given : (s : ℕ) → s < (n + 3) / 4 → Given (valuesOf s) (kindsAt s)
+    over-given s l = go (marks-view s)
+      where
+        go : Marks (marksAt s) → Given (valuesOf s) (kindsAt s)
+        go (inl m) = told s l .whole m .0 .given
+        go (inr (inl e)) = absurd (first .never s (omega arith) (ap (λ (x : ℕ). x / 65536) (marks-in s l) ∙ omega arith))
+        go (inr (inr e)) = told s l .past (omega arith) .given
 
-  zeros : (m i : ℕ) → _≡_ {A = ℕ} (getD (replicate m 0) i 0) 0
-  zeros zero i = refl
-  zeros (suc m) zero = refl
-  zeros (suc m) (suc i) = zeros m i
+    -- the fields of a place
+    place-total : (s j : ℕ) → s < (n + 3) / 4 → j < 4 → together (o (4 * s + j)) (at row) (4 * s + j) ≡ totalIn (kindsAt s) (valuesOf s) j
+    unfolding glanceKind
+    place-total s j l k =
+        let a : (4 * s + j) / 4 ≡ s = omega arith in
+        let b : (4 * s + j) % 4 ≡ j = omega arith in
+        total over-given (4 * s + j) (omega arith) ∙ rw (a, b)
 
-  kinds-are : filled o (4 * ((n + 3) / 4)) (replicate 16 0) ≡ kindsOf row
-  unfolding kindsOf
-  kinds-are =
-      filled-is (onlyPlan (at row)) 0 n (filled o m w) w (filled-length o m w (omega (arith, length-replicate {A = ℕ} 16 0)))
-      (omega (arith, length-replicate {A = ℕ} 16 0))
-      (λ i l. getD-filled o m w i 0 (omega arith) ∙ only i l)
-      (λ i l.
-      ⊎-elim (λ (k : i < m). getD-filled o m w i 0 k ∙ absent i l (omega arith) ∙ sym (zeros 16 i)) (λ (k : m ≤ i). getD-kept o m w i 0 k) (below-or i m))
-    where
-      m : ℕ
-      m = 4 * ((n + 3) / 4)
+    over-there : Over o row z
+    over-there =
+        let w = told z z-in .past z-past .past in
+        let p = 4 * z + w .0 in
+        let e = place-total z (w .0) z-in (w .1) in
+        ⊎-elim (λ (l : p < n). (p, l, omega (arith, w .1), omega (arith, w .2)))
+        (λ (l : n ≤ p).
+        let a = absent over-given p l (omega (arith, w .1, z-in)) in
+        absurd (omega (arith, w .2, zero-none (o p) p (at row) a (List·getD-eq-default row 0 l))))
+        (below-or p n)
 
-      w : List ℕ
-      w = replicate 16 0
+    over-before : (s : ℕ) → s < z → Over o row s → ⊥
+    over-before s l w =
+        let p = w .0 in
+        let q : 4 * s + p % 4 ≡ p = omega (arith, w .2) in
+        let f = told s (omega (arith, z-in)) .whole (none-before s l) .0 .eight (p % 4) (omega arith) in
+        let e = ap (λ (x : ℕ). together (o x) (at row) x) (sym q) ∙ place-total s (p % 4) (omega (arith, z-in)) (omega arith) in
+        omega (arith, w .3, f, e)
 
-  -- a position's mark
-  abbrev two : ℕ → Bool
-  two p = leb 2 (together (o p) (at row) p)
-
-  two-place : (s j : ℕ) → s < (n + 3) / 4 → j < 4 → mark (together (kindIn (kindsAt s) j) (λ i. at row (4 * s + i)) j) ≡ cond (two (4 * s + j)) 1 0
-  unfolding glanceKind
-  two-place s j l k =
-      let a : (4 * s + j) / 4 ≡ s = omega arith in
-      let b : (4 * s + j) % 4 ≡ j = omega arith in
-      let e : together (o (4 * s + j)) (at row) (4 * s + j) ≡ together (kindIn (kindsAt s) j) (λ i. at row (4 * s + i)) j =
-      total (4 * s + j) (omega arith) ∙ rw (a, b) in
-      sym (ap mark e)
-
-  marks-are : (s : ℕ) → s ≤ (n + 3) / 4 → glanceMarks (at roles) s ≡ bitsTo two (4 * s)
-  unfolding glanceMarks
-  marks-are zero l = refl
-  marks-are (suc s) l =
-      let e = whole s (omega arith) .0 .marks in
-      let g = four-bits two (4 * s) _ _ _ _ (two-place s 0 (omega arith) (omega arith)) (two-place s 1 (omega arith) (omega arith))
-      (two-place s 2 (omega arith) (omega arith)) (two-place s 3 (omega arith) (omega arith)) in
-      let f : 4 * suc s ≡ 4 * s + 4 = omega arith in
-      rw (marks-are s (omega arith), e, f) (sym g)
-
-  shared-is : glanceMarks (at roles) ((n + 3) / 4) ≡ sharedTo row n
-  shared-is =
-      marks-are ((n + 3) / 4) (omega arith)
-      ∙ bits-past two n (4 * ((n + 3) / 4)) (omega arith) (λ p l u. none p l (omega arith))
-      ∙ bits-same two row n (λ p l. ap (λ (c : ℕ). leb 2 (together c (at row) p)) (only p l))
-    where
-      none : (p : ℕ) → n ≤ p → p / 4 < (n + 3) / 4 → two p ≡ false
-      none p l u = rw (zero-none (o p) p (at row) (absent p l u) (List·getD-eq-default row 0 l))
-
-  few : (p : ℕ) → fieldsAt row p ≤ 9
-  few p = go (ltb p n)
-    where
-      go : (t : Bool) → cond t (fieldsOf (at row p)) 0 ≤ 9
-      go true = fields-most (at row p)
-      go false = omega arith
-
-  sum-are : (i : ℕ) → i < 2 → (s : ℕ) → s ≤ (n + 3) / 4 → roleSum i (at roles) s % 256 ≡ channelTo (i + 1) (fieldsAt row) (4 * s)
-  unfolding roleSum
-  sum-are i h zero l = refl
-  sum-are i h (suc s) l =
-      let e = sum-are i h s (omega arith) in
-      let a = whole s (omega arith) .1 i (omega arith) in
-      let b = whole s (omega arith) .1 (i + 2) (omega arith) in
-      let g = channel-four i (fieldsAt row) s h in
-      let m = channel-most (i + 1) (fieldsAt row) few (4 * s) in
-      let f : 4 * suc s ≡ 4 * s + 4 = omega arith in
-      let k : channelTo (i + 1) (fieldsAt row) (4 * s) + fieldsAt row (4 * s + i) + fieldsAt row (4 * s + (i + 2)) < 256 =
-      omega (arith, few (4 * s + i), few (4 * s + (i + 2))) in
-      rw (f, g) (added (roleSum i (at roles) s) (at roles (4 * s + i)) (at roles (4 * s + (i + 2))) _ _ _ e a b k)
-    where
-      added : (x y z a b c : ℕ) → x % 256 ≡ a → y % 256 ≡ b → z % 256 ≡ c → a + b + c < 256 → (x + (y + z)) % 256 ≡ a + b + c
-      added x y z a b c e f g l = omega arith
-
-  fields-are : (i : ℕ) → i < 2 → roleSum i (at roles) ((n + 3) / 4) % 256 ≡ fieldsTo (i + 1) (at row) n
-  fields-are i h =
-      sum-are i h ((n + 3) / 4) (omega arith)
-      ∙ channel-past (i + 1) (fieldsAt row) n (4 * ((n + 3) / 4)) (omega arith) (λ p l u. rw (le-ltb p n l))
-      ∙ channel-same (i + 1) (fieldsAt row) (at row) n (λ p l. rw (lt-ltb p n l))
-
-  pub glance-plan : glanceOf n roles ≡ planOf row
-  unfolding glanceOf
-  glance-plan = plan-is row _ _ _ _ passed kinds-are shared-is (fields-are 0 (omega arith)) (fields-are 1 (omega arith))
+    pub over-outcome : planOutcome row ≡ Refuse (no 8 0 z)
+    over-outcome = sym (laid-is row (Refuse (no 8 0 z)) (over-eight o (signals over-given) z over-there over-before))
 
 pub told-plan : (row roles : List ℕ) → length row ≤ 16 → ((p : ℕ) → p < 16 → Role (at row p) (fieldsAt row p) (at roles p)) → (x : Plan)
     → x ≡ glanceOf (length row) roles → x .shared < 65536 → x ≡ planOf row
@@ -459,6 +570,16 @@ unfolding glanceOf
 told-plan row roles short cast x e l =
     let f : x .shared ≡ glanceMarks (at roles) ((length row + 3) / 4) = ap (λ (p : Plan). p .shared) e in
     e ∙ (unfold glanceOf in glance-plan row roles short cast (omega arith))
+
+-- and where they tell so, the row has a plan with a resource over eight
+pub told-over : (row roles : List ℕ) → length row ≤ 16 → ((p : ℕ) → p < 16 → Role (at row p) (fieldsAt row p) (at roles p)) → (x : Plan)
+    → x ≡ glanceOf (length row) roles → overIn (x .shared) < 4 → planOutcome row ≡ Refuse (no 8 0 (overIn (x .shared)))
+unfolding glanceOf
+told-over row roles short cast x e l =
+    let k = (length row + 3) / 4 in
+    let f : x .shared ≡ glanceMarks (at roles) k = ap (λ (p : Plan). p .shared) e in
+    over-outcome row roles short cast (overIn (x .shared))
+    (lowest-over (marksOf (at roles) k) (λ s _. digit row roles short cast s) (x .shared) (f ∙ four-marks (at roles) k (omega arith)) l)
 
 pub glance-passes : (t : Rest) (kinds : List ℕ) (n : ℕ) (roles : List ℕ) → withKinds t kinds ≡ glanceOf n roles → t .outcome ≡ Pass
 unfolding withKinds glanceOf

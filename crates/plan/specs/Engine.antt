@@ -156,6 +156,16 @@ unfoldable pub glanceMarks : (ℕ → ℕ) → ℕ → ℕ
 glanceMarks r zero = 0
 glanceMarks r (suc s) = glanceMarks r s + segmentOf r s .marks * 2 ^ (4 * s)
 
+-- the segment of the refusal with 8 that marks of x tell, four bits for each segment from 65536 on, 1 where its roles do not tell and 2 where a
+-- resource is over eight: the lowest with a 2, where none has a 1; else 4
+unfoldable pub overOf : ℕ → ℕ
+overOf h =
+    cond (((eqb (h % 2) 1 || eqb (h / 16 % 2) 1) || eqb (h / 256 % 2) 1) || eqb (h / 4096 % 2) 1) 4
+    (cond (eqb (h % 16) 0) (cond (eqb (h / 16 % 16) 0) (cond (eqb (h / 256 % 16) 0) (cond (eqb (h / 4096 % 16) 0) 4 3) 2) 1) 0)
+
+abbrev pub overIn : ℕ → ℕ
+overIn x = overOf (x / 65536)
+
 -- the roles of the places i and i + 2 of the first s segments
 unfoldable pub roleSum : ℕ → (ℕ → ℕ) → ℕ → ℕ
 roleSum i r zero = 0

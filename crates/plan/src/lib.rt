@@ -18,7 +18,7 @@ ghost use Rattle.roles.specs.Engine.{noRole, kindIn};
 ghost use Rattle.plan.specs.Answers.{segments, Size, Laid};
 ghost use Rattle.plan.specs.Engine.{wider, anyWider, onlyPlan, given, placeGiven, entirely, isRight, Before};
 ghost use Rattle.plan.specs.Engine.{GivenTo, partRight, heldBy, firstUnheld};
-ghost use Rattle.plan.specs.Engine.{firstOver, sharedTo, kindsOf, planOf, withKinds, planFrom, Tells, Cast, Low, glanceOf, loneOf};
+ghost use Rattle.plan.specs.Engine.{firstOver, sharedTo, kindsOf, planOf, withKinds, planFrom, Tells, Cast, Low, glanceOf, loneOf, overIn, planOutcome};
 
 // The plan of a row.
 pub struct Plan {
@@ -473,14 +473,35 @@ fn tell_from(kinds: &mut [u16; 16], n: usize, roles: &[u64; 16]) -> Rest
     glance(kinds, n, roles)
 }
 
-// What the roles of a row's values tell: its plan, unless the marks are from 65536 on.
+// What the roles of a row's values tell: its plan, unless the marks are from 65536 on; these may tell 8.
 pub fn tell(kinds: &mut [u16; 16], row: &[u16]) -> Rest
     requires { ⌜ (length (now row) ≤ 16) × (now kinds ≡ replicate 16 0) ⌝ }
-    ensures { λ r. ⌜ (r .outcome ≡ Outcome.Pass) × (r .shared < 65536 → Tells (now (row .entry)) r (now (kinds .exit))) ⌝ }
+    ensures { λ r. ⌜ (r .outcome ≡ Outcome.Pass) × (r .shared < 65536 → Tells (now (row .entry)) r (now (kinds .exit)))
+        × (overIn (r .shared) < 4 → planOutcome (now (row .entry)) ≡ Outcome.Refuse (no 8 0 (overIn (r .shared)))) ⌝ }
 {
     let mut roles = [roles::no_role(); 16];
     enter_roles(&mut roles, row);
     tell_from(kinds, row.len(), &roles)
+}
+
+// The lowest of four segments with a resource over eight, by the marks that `tell` gives; 4 where there is none, or where a segment's roles do not tell.
+pub fn over_in(marks: u32) -> usize
+    ensures { λ r. ⌜ r ≡ overIn marks ⌝ }
+{
+    let h = marks / 65536;
+    if (h % 2 == 1) | (h / 16 % 2 == 1) | (h / 256 % 2 == 1) | (h / 4096 % 2 == 1) {
+        return 4;
+    }
+    if h % 16 != 0 {
+        return 0;
+    }
+    if h / 16 % 16 != 0 {
+        return 1;
+    }
+    if h / 256 % 16 != 0 {
+        return 2;
+    }
+    if h / 4096 % 16 != 0 { 3 } else { 4 }
 }
 
 // What is told of a plan, and its kinds, as one value: a refused row has none.

@@ -58,9 +58,13 @@ oneKinds i = getD oneTable i 0
 abbrev pub unsettled : Settled
 unsettled = record { kinds = 0; marks = 65536 }
 
+-- a plan with a resource over eight
+abbrev pub over : ℕ → Settled
+over k = record { kinds = k; marks = 131072 }
+
 unfoldable pub byPairs : ℕ → ℕ → ℕ → ℕ → Settled
 byPairs k own t u =
-    cond (ltb 8 t || ltb 8 u) unsettled (record { kinds = k; marks = own + cond (leb 2 t) 3 0 + cond (leb 2 u) 12 0 })
+    cond (ltb 8 t || ltb 8 u) (over k) (record { kinds = k; marks = own + cond (leb 2 t) 3 0 + cond (leb 2 u) 12 0 })
 
 -- it is no 484+242, or the one that is named
 unfoldable pub named : ℕ → ℕ → Bool
@@ -68,9 +72,10 @@ named all names = eqb (all / 4 % 2) 1 || eqb (names / 4096 % 16) (all / 8 % 16)
 
 unfoldable pub byOne : ℕ → ℕ → ℕ → ℕ → Settled
 byOne all names own t =
-    cond (eqb (oneKinds (all / 4 % 32)) 0 || ltb 8 t) unsettled
+    cond (eqb (oneKinds (all / 4 % 32)) 0) unsettled
     (cond (named all names)
-    (record { kinds = oneKinds (all / 4 % 32) % 65536; marks = own + cond (leb 2 t) (oneKinds (all / 4 % 32) / 65536) 0 }) unsettled)
+    (cond (ltb 8 t) (over (oneKinds (all / 4 % 32) % 65536))
+    (record { kinds = oneKinds (all / 4 % 32) % 65536; marks = own + cond (leb 2 t) (oneKinds (all / 4 % 32) / 65536) 0 })) unsettled)
 
 -- what agrees in a pair: the roles x of its first place and y of its second, from their digits for these places on
 abbrev pub lowerPair : ℕ → ℕ → ℕ
@@ -101,11 +106,21 @@ totalIn k v j = together (kindIn k j) v j
 abbrev pub mark : ℕ → ℕ
 mark t = cond (leb 2 t) 1 0
 
-pub record Segment (v : ℕ → ℕ) (k m : ℕ) : Type 0 where
+-- a plan, with any number of fields
+pub record Given (v : ℕ → ℕ) (k : ℕ) : Type 0 where
   pub fit : (j : ℕ) → j < 4 → fitting (kindIn k j) j (v j) ≡ true
   pub low : (j : ℕ) → j < 4 → kindIn k j < 7
   pub entire : (j i : ℕ) → j < 4 → i < 4 → Place (kindIn k j) j i → kindIn k i ≡ kindIn k j
   pub named : (j : ℕ) → j < 4 → mustName (kindIn k j) ≡ true
       → (i : ℕ) × (i < 4) × Place (kindIn k j) j i × (v i / 8 ≡ family (kindIn k j))
+
+-- with at most eight on each resource, and the marks
+pub record Segment (v : ℕ → ℕ) (k m : ℕ) : Type 0 where
+  pub given : Given v k
   pub eight : (j : ℕ) → j < 4 → totalIn k v j ≤ 8
   pub marks : m ≡ mark (totalIn k v 0) + 2 * mark (totalIn k v 1) + 4 * mark (totalIn k v 2) + 8 * mark (totalIn k v 3)
+
+-- with over eight on one
+pub record Past (v : ℕ → ℕ) (k : ℕ) : Type 0 where
+  pub given : Given v k
+  pub past : (j : ℕ) × (j < 4) × (8 < totalIn k v j)

@@ -1,15 +1,15 @@
 // What a segment's four values say together, at one glance: where each value may stand is one number, its role, and the roles of four places
-// that agree tell to what the places are given (01, "What a plan is"). What they do not tell, because it is wrong, over eight, or wider than a
+// that agree tell to what the places are given (01, "What a plan is"). What they do not tell, because it is wrong or wider than a
 // segment, the crates `segments` and `spans` find out.
 ghost use mathlib.Core.Path.{_≡_};
 ghost use mathlib.Core.Bool.{cond};
 ghost use lib.Dec.{leb};
 ghost use Prim.Native.Nat.{_+_, _*_, _/_, _%_, _^_, _≤_, _<_};
 ghost use Rattle.resource.specs.Values.{fieldsOf};
-ghost use Rattle.roles.specs.Engine.{Role, noRole, bit, ownBits, pairKinds, oneKinds, unsettled, byPairs, named, byOne, settleOf};
+ghost use Rattle.roles.specs.Engine.{Role, noRole, bit, ownBits, pairKinds, oneKinds, unsettled, over, byPairs, named, byOne, settleOf};
 
 // To what the four places of a segment are given, four bits each, the first place lowest; and the places whose User fields share their
-// resource, bit j for place j. From 65536 on the marks say that the roles do not tell.
+// resource, bit j for place j. Marks of 65536 say that the roles do not tell, and of 131072 that a resource is over eight fields.
 pub struct Settled {
     pub kinds: u16,
     pub marks: u32,
@@ -172,13 +172,23 @@ fn not_told() -> Settled
     }
 }
 
+// These kinds are a plan, and one of its resources is over eight fields.
+fn over_eight(kinds: u16) -> Settled
+    ensures { λ r. ⌜ r ≡ over kinds ⌝ }
+{
+    Settled {
+        kinds,
+        marks: 131072,
+    }
+}
+
 // Two pairs of these kinds, whose 484s have t and u fields.
 fn by_pairs(kinds: u16, own: u32, t: u64, u: u64) -> Settled
     requires { ⌜ own < 16 ⌝ }
     ensures { λ r. ⌜ r ≡ byPairs kinds own t u ⌝ }
 {
     if (8 < t) | (8 < u) {
-        return not_told();
+        return over_eight(kinds);
     }
     let marks = own + bits_if(t, 3) + bits_if(u, 12);
     Settled { kinds, marks }
@@ -197,11 +207,14 @@ fn by_one(all: u64, names: u64, own: u32, t: u64) -> Settled
     ensures { λ r. ⌜ r ≡ byOne all names own t ⌝ }
 {
     let e = one_of(all / 4 % 32);
-    if (e == 0) | (8 < t) {
+    if e == 0 {
         return not_told();
     }
     if !is_named(all, names) {
         return not_told();
+    }
+    if 8 < t {
+        return over_eight((e % 65536) as u16);
     }
     let marks = own + bits_if(t, e / 65536);
     Settled {

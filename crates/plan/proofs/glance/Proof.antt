@@ -106,7 +106,7 @@ add-shared c =
     let low = c .before .before .before .before .before .before .before .before .before .before .pre .1 in
     let l = c .before .before .before .before .before .before .before .before .before .loop in
     let e = c .before .before .before .settle .ensures in
-    let m : c .before .before .before .settle .result .marks ≤ 65536 = rw e (settle-most _ _ _ _) in
+    let m : c .before .before .before .settle .result .marks ≤ 131072 = rw e (settle-most _ _ _ _) in
     let k = shifted-most (c .before .before .before .settle .result .marks) (l .b) m (omega arith) in
     omega (arith, l .inv .3, marks-most _ low (l .b / 4) (omega arith), k)
 
@@ -121,7 +121,7 @@ loop-again c =
     let l = c .before .before .before .before .before .before .before .before .before .loop in
     let roles = c .before .before .before .before .before .before .before .before .before .before .args .roles .now in
     let e = c .before .before .before .settle .ensures in
-    let m : c .before .before .before .settle .result .marks ≤ 65536 = rw e (settle-most _ _ _ _) in
+    let m : c .before .before .before .settle .result .marks ≤ 131072 = rw e (settle-most _ _ _ _) in
     let k = shifted-most (c .before .before .before .settle .result .marks) (l .b) m (omega arith) in
     let z : c .before .before .before .settle .result .marks * 2 ^ l .b % 4294967296 ≡ c .before .before .before .settle .result .marks * 2 ^ l .b =
     mod-eq-of-lt (omega arith) in (

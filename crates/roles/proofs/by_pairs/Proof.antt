@@ -6,12 +6,12 @@ use borrow.Author.Needs.{needs}
 use Rattle.roles.proofs.by_pairs.Statement.{statement}
 use Rattle.roles.proofs.by_pairs.Tie as tie
 
-not-told-requires : tie.Need-not-told-requires
-not-told-requires c κs = search needs
+over-eight-requires : tie.Need-over-eight-requires
+over-eight-requires c κs = search needs
 
 returns : tie.Need-returns
 unfolding byPairs
-returns c = rw (c .before .if1 .taken) (c .not-told .ensures)
+returns c = rw (c .before .if1 .taken) (c .over-eight .ensures)
 
 bits-if-requires : tie.Need-bits-if-requires
 bits-if-requires c κs = search needs
@@ -35,7 +35,7 @@ pub by-pairs-spec : {M : Type 1} → statement M
 by-pairs-spec =
     tie.close
     (tie.spec
-    not-told-requires
+    over-eight-requires
     returns
     bits-if-requires
     add-marks
