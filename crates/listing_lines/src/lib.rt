@@ -45,6 +45,9 @@ fn put_stations(
     ensures { λ r. ⌜ Wrote (now (out .entry)) at (upto (fieldLine (now (row .entry)) (now (fields .entry)) m) (m + k)) (now (out .exit)) r ⌝ }
 {
     let o = put_channel(out, at, fields, 0, row, kinds, before, 1, m);
+    if k == 0 {
+        return o; // at 20 MHz always
+    }
     put_channel(out, o, fields, m, row, kinds, before, 2, k)
 }
 
@@ -83,6 +86,7 @@ pub fn put_listing(
     requires { ⌜ (bw ≤ 4) × (m + k ≤ length (now fields)) × Counted (now row) m k × (length (now row) ≤ 16) × (now kinds ≡ kindsOf (now row)) ⌝ }
     ensures { λ r. ⌜ Wrote (now (out .entry)) 0 (fieldsListing bw (now (row .entry)) (now (fields .entry)) m k) (now (out .exit)) r ⌝ }
 {
-    let before = records::numbers_before(kinds, row);
+    let mut before = [0u16; 17];
+    records::enter_numbers(&mut before, kinds, row);
     put_tabled(out, bw, fields, row, kinds, &before, m, k)
 }

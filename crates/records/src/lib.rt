@@ -155,13 +155,13 @@ pub fn listed_of(kind: u16, p: usize, v: u16) -> u16
 
 // ---- the numbers of the resources, for what is asked of every position
 
-// For each position, how many resources have a lower one for their lowest; past the last, how many there are.
-pub fn numbers_before(kinds: &[u16; 16], row: &[u16]) -> [u16; 17]
-    requires { ⌜ (length (now row) ≤ 16) × (now kinds ≡ kindsOf (now row)) ⌝ }
-    ensures { λ r. ⌜ r ≡ numbersOf (now (row .entry)) ⌝ }
+// For each position, how many resources have a lower one for their lowest; past the last, how many there are. In room that is lent, so that
+// nothing is copied.
+pub fn enter_numbers(before: &mut [u16; 17], kinds: &[u16; 16], row: &[u16])
+    requires { ⌜ (now before ≡ replicate 17 0) × (length (now row) ≤ 16) × (now kinds ≡ kindsOf (now row)) ⌝ }
+    ensures { λ _. ⌜ now (before .exit) ≡ numbersOf (now (row .entry)) ⌝ }
 {
     let n = row.len();
-    let mut before = [0u16; 17];
     let mut sum: u16 = 0;
     let mut p: usize = 0;
     while p < n {
@@ -170,6 +170,15 @@ pub fn numbers_before(kinds: &[u16; 16], row: &[u16]) -> [u16; 17]
         p += 1;
     }
     before[p] = sum;
+}
+
+// The same as a value.
+pub fn numbers_before(kinds: &[u16; 16], row: &[u16]) -> [u16; 17]
+    requires { ⌜ (length (now row) ≤ 16) × (now kinds ≡ kindsOf (now row)) ⌝ }
+    ensures { λ r. ⌜ r ≡ numbersOf (now (row .entry)) ⌝ }
+{
+    let mut before = [0u16; 17];
+    enter_numbers(&mut before, kinds, row);
     before
 }
 

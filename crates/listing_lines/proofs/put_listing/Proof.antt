@@ -1,10 +1,11 @@
 -- `listing_lines::put_listing` meets its contract.
+use mathlib.Core.Path.{refl}
 use borrow.Author.Needs.{needs}
 use Rattle.listing_lines.proofs.put_listing.Statement.{statement}
 use Rattle.listing_lines.proofs.put_listing.Tie as tie
 
-numbers-before-requires : tie.Need-numbers-before-requires
-numbers-before-requires c κs = search needs
+enter-numbers-requires : tie.Need-enter-numbers-requires
+enter-numbers-requires c κs = let s = c .before .before .before .before in (refl, s .pre .3, s .pre .4)
 
 put-tabled-requires : tie.Need-put-tabled-requires
 put-tabled-requires c κs = search needs
@@ -17,4 +18,4 @@ returns c = search needs
 
 pub put-listing-spec : {M : Type 1} → statement M
 put-listing-spec =
-    tie.close (tie.spec numbers-before-requires put-tabled-requires same-length returns)
+    tie.close (tie.spec enter-numbers-requires put-tabled-requires same-length returns)
