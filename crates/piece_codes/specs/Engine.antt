@@ -1,8 +1,8 @@
 -- Engine: pieces as numbers. The contracts of the code cite it; nobody has to believe it: `proofs/Codes.antt`.
-use mathlib.Core.Bool.{Bool, cond, _&&_}
+use mathlib.Core.Bool.{Bool, cond, not, _&&_}
 use mathlib.Core.List.{List, [], _∷_}
 use Prim.Native.Nat.{ℕ, _+_, _-_, _*_, _/_, _%_}
-use lib.Dec.{eqb}
+use lib.Dec.{ltb, eqb}
 use lib.ListN.{getD}
 use Rattle.resource.specs.declared.Size.the-variants.{S26, S52, S106, S242, S484, S996, S2x996}
 use Rattle.resource.specs.declared.Piece.{Piece}
@@ -92,3 +92,37 @@ eachOf k = getD (9 ∷ 4 ∷ 2 ∷ 2 ∷ 1 ∷ []) k 0
 
 unfoldable pub indexAt : ℕ → ℕ → ℕ
 indexAt q c = eachOf (c / 16) * q + c % 16 + cond (eqb (c / 16) 0) (q / 2) 0
+
+-- ---- the pieces of one run
+unfoldable pub isSingle : ℕ → ℕ → Bool
+isSingle n c = cond (eqb n 1) (not (eqb c 5) && ltb c 48) (not (eqb (c / 16) 3))
+
+-- their places in one list
+unfoldable pub placeOf : ℕ → ℕ → ℕ
+placeOf n c = c - 7 * (c / 16) + cond (eqb n 1) 40 0
+
+-- from the lowest byte: the first subcarrier, three bytes of the name, the last subcarrier, twice the index's step from position to position, the
+-- index in the first one, the name's length
+unfoldable pub entryOf : ℕ → ℕ
+entryOf d =
+    getD
+    (0 ∷ 144417665446195713 ∷ 144699252092056091 ∷ 144980847327851063
+    ∷ 145262433973711441 ∷ 145544024914539116 ∷ 145825615855366791 ∷ 146107202501227169
+    ∷ 146388797737022141 ∷ 146670384382882519 ∷ 144405682487178497 ∷ 144687389392123191
+    ∷ 144969207966217607 ∷ 145250914871162301 ∷ 0 ∷ 0
+    ∷ 0 ∷ 0 ∷ 0 ∷ 216459111312666881
+    ∷ 216741161814995335 ∷ 0 ∷ 0 ∷ 0
+    ∷ 0 ∷ 0 ∷ 0 ∷ 0
+    ∷ 0 ∷ 0 ∷ 0 ∷ 0
+    ∷ 0 ∷ 0 ∷ 0 ∷ 0
+    ∷ 0 ∷ 216457492043149824 ∷ 0 ∷ 0
+    ∷ 0 ∷ 144417691215999495 ∷ 144699277861859873 ∷ 144980868802687548
+    ∷ 145262455448547926 ∷ 0 ∷ 145825658805039761 ∷ 146107245450900139
+    ∷ 146388836391727814 ∷ 146670423037588192 ∷ 144405708256982279 ∷ 144687410866959676
+    ∷ 144969250915890577 ∷ 145250953525867974 ∷ 0 ∷ 0
+    ∷ 0 ∷ 0 ∷ 0 ∷ 216459132787503366
+    ∷ 216741204764668305 ∷ [])
+    d 0
+
+unfoldable pub entryAt : ℕ → ℕ → ℕ
+entryAt n c = entryOf (placeOf n c)

@@ -6,6 +6,7 @@ ghost use lib.Dec.{eqb};
 ghost use Prim.Native.Nat.{_≤_, _<_};
 ghost use Rattle.resource.specs.Engine.{edge};
 ghost use Rattle.piece_codes.specs.Engine.{codesOf, wideAt, narrowAt, wordAt, eachOf, indexAt};
+ghost use Rattle.piece_codes.specs.Engine.{isSingle, placeOf, entryOf, entryAt};
 
 // The codes of all pieces of a value that leaves its position to itself, seven bits each, the first lowest.
 pub fn codes_of(v: u16) -> u64
@@ -152,4 +153,76 @@ pub fn index_at(q: u32, c: u32) -> u32
         return all + q / 2;
     }
     all
+}
+
+// ---- the pieces of one run: all that their lines say, by one load
+
+// Whether the piece of this code is one run of subcarriers, in a channel of n positions.
+pub fn is_single(n: u32, c: u32) -> bool
+    ensures { λ r. ⌜ r ≡ isSingle n c ⌝ }
+{
+    if n == 1 {
+        return (c != 5) & (c < 48);
+    }
+    c / 16 != 3
+}
+
+// Its place among them: the codes side by side, and 40 further on at 20 MHz.
+fn place_of(n: u32, c: u32) -> u32
+    requires { ⌜ c < 128 ⌝ }
+    ensures { λ r. ⌜ (r ≡ placeOf n c) × (r < 128) ⌝ }
+{
+    let d = c - 7 * (c / 16);
+    if n == 1 {
+        return d + 40;
+    }
+    d
+}
+
+// From the lowest byte: its first subcarrier, three bytes of its name, its last subcarrier, twice its index's step from position to position,
+// its index in the first one, its name's length.
+fn entry_of(d: u32) -> u64
+    requires { ⌜ d < 128 ⌝ }
+    ensures { λ r. ⌜ r ≡ entryOf d ⌝ }
+{
+    match d {
+        1 => 0x201131a00363201,
+        2 => 0x20213340036321b,
+        3 => 0x203135000363237,
+        4 => 0x204136a00363251,
+        5 => 0x20513850036326c,
+        6 => 0x20613a000363287,
+        7 => 0x20713ba003632a1,
+        8 => 0x20813d6003632bd,
+        9 => 0x20913f0003632d7,
+        10 => 0x201083400323501,
+        11 => 0x202086a00323537,
+        12 => 0x20308ba00323587,
+        13 => 0x20408f0003235bd,
+        19 => 0x301046a36303101,
+        20 => 0x30204f036303187,
+        37 => 0x30102f132343200,
+        41 => 0x201132000363207,
+        42 => 0x202133a00363221,
+        43 => 0x20313550036323c,
+        44 => 0x204136f00363256,
+        46 => 0x20613aa00363291,
+        47 => 0x20713c4003632ab,
+        48 => 0x20813df003632c6,
+        49 => 0x20913f9003632e0,
+        50 => 0x201083a00323507,
+        51 => 0x202086f0032353c,
+        52 => 0x20308c400323591,
+        53 => 0x20408f9003235c6,
+        59 => 0x301046f36303106,
+        60 => 0x30204fa36303191,
+        _ => 0,
+    }
+}
+
+pub fn entry_at(n: u32, c: u32) -> u64
+    requires { ⌜ c < 128 ⌝ }
+    ensures { λ r. ⌜ r ≡ entryAt n c ⌝ }
+{
+    entry_of(place_of(n, c))
 }
