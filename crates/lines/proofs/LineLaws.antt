@@ -1,21 +1,21 @@
 -- What the line of a User field says, and how long its STA-ID is.
-use mathlib.Core.Path.{_≡_, refl, sym, ap, _∙_}
+use mathlib.Core.Path.{_≡_, refl, sym, ap, subst, _∙_}
 use mathlib.Core.Logic.{_≢_}
 use mathlib.Core.Bool.{Bool, true, false, not, cond}
-use mathlib.Core.List.{List, _++_, append-assoc}
+use mathlib.Core.List.{List, [], _∷_, _++_, append-assoc}
 use Prim.Native.Nat.{ℕ, _+_, _-_, _*_, _/_, _^_, _≤_, _<_}
 use native.Mathlib.Omega.{arith}
 use lib.Dec.{eqb}
-use lib.ListN.{length, take, getD}
+use lib.ListN.{length, take, getD, set}
 use lib.Seq.{take-append-seam}
 use borrow.Author.Tests.{eq-eqb, ne-eqb, eqb-true, eqb-false}
 use Rattle.text.specs.Text.{codes, dec, keyed, line, Wrote}
-use Rattle.text.proofs.Laws.{dec-fit, dec-digit, after}
+use Rattle.text.proofs.Laws.{dec-fit, dec-digit}
 use Rattle.stores.specs.Engine.{bytesOf, leadOf, digitsOf}
 use Rattle.stores.proofs.Laws.{joined, lead-most, digits-bytes, same, same-equal, bytes-length, bytes-append, over}
 use Rattle.resource.proofs.Test.{every-below}
 use Rattle.lines.specs.Lines.{assigned, idText, staLine, headText}
-use Rattle.lines.specs.Engine.{idWord, Ended, countsText}
+use Rattle.lines.specs.Engine.{idWord, Ended, Tailed, countsText}
 
 -- none is as long as a number of four digits
 pub id-short : (id : ℕ) → id < 10000 → length (idText id) ≤ 4
@@ -69,22 +69,34 @@ ended-after n w x l h =
     let e : w / 4294967296 - 2 + 4 ≡ 2 + w / 4294967296 = omega (arith, h .least) in
     rw (e, joined 2 (w / 4294967296) x w (omega arith), h .text)
 
-pub sta-written : {d e f g : List ℕ} {at o b q : ℕ} (id r w : ℕ) → id < 10000 → Ended r w
+-- the key of the resource, over whose end its number stands, and over that the end of the line
+tail-written : {d e f : List ℕ} {at o q : ℕ} (n w : ℕ) → Tailed n w
+    → Wrote d at (bytesOf 8 7165919078637728288) e o → Wrote e (at + (3 + w / 72057594037927936)) (bytesOf 8 w) f q
+    → let b = at + (3 + w / 72057594037927936) in Wrote d at (line (codes " resource=") n) (set f (b + 7) 10) (b + 8)
+tail-written {d} {e} {f} {at} n w h y z =
+    let j = 3 + w / 72057594037927936 in
+    let b = at + j in
+    let end : Wrote f (b + 7) (10 ∷ []) (set f (b + 7) 10) (b + 8) = record { bytes = refl; next = omega arith } in
+    let number = over (bytesOf 8 w) (10 ∷ []) 7 (omega arith) (omega arith) z end in
+    let key = over (codes " resourc") (bytesOf 7 w ++ (10 ∷ [])) j (omega (arith, h .most)) (omega (arith, h .least)) y number in
+    let said : take j (codes " resourc") ++ (bytesOf 7 w ++ (10 ∷ [])) ≡ line (codes " resource=") n =
+    sym (append-assoc (take j (codes " resourc")) (bytesOf 7 w) (10 ∷ [])) ∙ ap (λ (t : List ℕ). t ++ (10 ∷ [])) (h .text) in
+    subst (λ (t : List ℕ). Wrote d at t (set f (b + 7) 10) (b + 8)) said key
+
+pub sta-written : {d e f g : List ℕ} {at o s q : ℕ} (id r w m : ℕ) → id < 10000 → Tailed r w → m ≡ leadOf id
     → Wrote d at (bytesOf 8 (1029796979 + 4294967296 * idWord id)) e o
-    → Wrote e (at + (8 - leadOf id)) (bytesOf 8 7165919078637728288) f b
-    → Wrote f b (bytesOf (w / 4294967296 - 2 + 4) (15717 + 65536 * w)) g q
-    → Wrote d at (staLine id r) g q
+    → Wrote e (at + (8 - m)) (bytesOf 8 7165919078637728288) f s
+    → Wrote f (at + (8 - m) + (3 + w / 72057594037927936)) (bytesOf 8 w) g q
+    → let b = at + (8 - m) + (3 + w / 72057594037927936) in Wrote d at (staLine id r) (set g (b + 7) 10) (b + 8)
 unfolding staLine
-sta-written {at = at} id r w l h x y z =
-    let m = lead-most id in
-    let i : 8 - leadOf id ≡ 4 + (4 - leadOf id) = omega arith in
+sta-written {at = at} id r w m l h e x y z =
+    let few = lead-most id in
+    let i : 8 - m ≡ 4 + (4 - leadOf id) = omega arith in
     let name = 1029796979 + 4294967296 * idWord id in
-    let front : take (8 - leadOf id) (bytesOf 8 name) ≡ codes "sta=" ++ idText id =
-    take-bytes (8 - leadOf id) 8 name (omega arith)
-    ∙ rw (i, joined 4 (4 - leadOf id) 1029796979 (idWord id) (omega arith), id-bytes id l) refl in
-    let rest = codes " resourc" ++ (codes "e=" ++ (dec r ++ codes "\n")) in
-    let v = after y (rw (ended-after r w 15717 (omega arith) h) at z) in
-    rw front at (over (bytesOf 8 name) rest (8 - leadOf id) (omega arith) (omega arith) x v)
+    let front : take (8 - m) (bytesOf 8 name) ≡ codes "sta=" ++ idText id =
+    take-bytes (8 - m) 8 name (omega arith) ∙ rw (i, joined 4 (4 - leadOf id) 1029796979 (idWord id) (omega arith), id-bytes id l) refl in
+    let rest = line (codes " resource=") r in
+    rw front at (over (bytesOf 8 name) rest (8 - m) (omega arith) (omega arith) x (tail-written r w h y z))
 
 -- ---- the lines before the resources, in numbers of eight bytes
 bw-test : ℕ → Bool

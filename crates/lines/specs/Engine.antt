@@ -3,7 +3,8 @@
 use mathlib.Core.Path.{_≡_}
 use mathlib.Core.Bool.{cond}
 use mathlib.Core.List.{List, _++_}
-use Prim.Native.Nat.{ℕ, _/_, _≤_}
+use Prim.Native.Nat.{ℕ, _+_, _/_, _≤_}
+use lib.ListN.{take}
 use Rattle.text.specs.Text.{codes, dec}
 use Rattle.stores.specs.Engine.{bytesOf, digitsOf}
 use Rattle.lines.specs.Lines.{assigned}
@@ -17,6 +18,12 @@ pub record Ended (n w : ℕ) : Type 0 where
   pub text : bytesOf (w / 4294967296) w ≡ dec n ++ codes "\n"
   pub least : 2 ≤ w / 4294967296
   pub most : w / 4294967296 ≤ 4
+
+-- w has the last seven bytes of n after its key, and from bit 56 on how many digits n has
+pub record Tailed (n w : ℕ) : Type 0 where
+  pub text : take (3 + w / 72057594037927936) (codes " resourc") ++ bytesOf 7 w ≡ codes " resource=" ++ dec n
+  pub least : 1 ≤ w / 72057594037927936
+  pub most : w / 72057594037927936 ≤ 3
 
 -- the lines of the counts, but the resources'
 unfoldable pub countsText : ℕ → ℕ → ℕ → List ℕ

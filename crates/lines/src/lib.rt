@@ -5,7 +5,7 @@ ghost use lib.ListN.{length};
 ghost use mathlib.Core.List.{_++_};
 ghost use Rattle.text.specs.Text.{codes, dec, Wrote, line};
 ghost use Rattle.lines.specs.Lines.{assigned, idText, staLine, refusalText, headText};
-ghost use Rattle.lines.specs.Engine.{idWord, Ended, countsText};
+ghost use Rattle.lines.specs.Engine.{idWord, Ended, Tailed, countsText};
 
 // Whether a STA-ID is a station's: 2046 marks a resource that nobody has.
 pub fn is_assigned(id: u32) -> bool
@@ -48,7 +48,7 @@ fn put_sta_within(out: &mut [u8], at: usize, id: u32, resource: usize) -> usize
     put_none(out, at, resource)
 }
 
-// A number up to 144 with the end of its line after it, the first byte lowest, and from bit 32 on how many bytes that are: one load from a
+// A count up to 144 with the end of its line after it, the first byte lowest, and from bit 32 on how many bytes that are: one load from a
 // fixed table.
 fn ended_word(n: usize) -> u64
     requires { ⌜ n ≤ 144 ⌝ }
@@ -215,7 +215,163 @@ fn id_word(id: u32) -> u64
     1701736302 // none
 }
 
-// The same by whole stores, where there is room. What the first stores past its text is written over by the second.
+// The last seven bytes of a resource's number after its key, and from bit 56 on how many digits it has.
+fn tail_word(n: usize) -> u64
+    requires { ⌜ n ≤ 144 ⌝ }
+    ensures { λ r. ⌜ Tailed n r ⌝ }
+{
+    match n {
+        0 => 0x01303d656372756f,
+        1 => 0x01313d656372756f,
+        2 => 0x01323d656372756f,
+        3 => 0x01333d656372756f,
+        4 => 0x01343d656372756f,
+        5 => 0x01353d656372756f,
+        6 => 0x01363d656372756f,
+        7 => 0x01373d656372756f,
+        8 => 0x01383d656372756f,
+        9 => 0x01393d656372756f,
+        10 => 0x0230313d65637275,
+        11 => 0x0231313d65637275,
+        12 => 0x0232313d65637275,
+        13 => 0x0233313d65637275,
+        14 => 0x0234313d65637275,
+        15 => 0x0235313d65637275,
+        16 => 0x0236313d65637275,
+        17 => 0x0237313d65637275,
+        18 => 0x0238313d65637275,
+        19 => 0x0239313d65637275,
+        20 => 0x0230323d65637275,
+        21 => 0x0231323d65637275,
+        22 => 0x0232323d65637275,
+        23 => 0x0233323d65637275,
+        24 => 0x0234323d65637275,
+        25 => 0x0235323d65637275,
+        26 => 0x0236323d65637275,
+        27 => 0x0237323d65637275,
+        28 => 0x0238323d65637275,
+        29 => 0x0239323d65637275,
+        30 => 0x0230333d65637275,
+        31 => 0x0231333d65637275,
+        32 => 0x0232333d65637275,
+        33 => 0x0233333d65637275,
+        34 => 0x0234333d65637275,
+        35 => 0x0235333d65637275,
+        36 => 0x0236333d65637275,
+        37 => 0x0237333d65637275,
+        38 => 0x0238333d65637275,
+        39 => 0x0239333d65637275,
+        40 => 0x0230343d65637275,
+        41 => 0x0231343d65637275,
+        42 => 0x0232343d65637275,
+        43 => 0x0233343d65637275,
+        44 => 0x0234343d65637275,
+        45 => 0x0235343d65637275,
+        46 => 0x0236343d65637275,
+        47 => 0x0237343d65637275,
+        48 => 0x0238343d65637275,
+        49 => 0x0239343d65637275,
+        50 => 0x0230353d65637275,
+        51 => 0x0231353d65637275,
+        52 => 0x0232353d65637275,
+        53 => 0x0233353d65637275,
+        54 => 0x0234353d65637275,
+        55 => 0x0235353d65637275,
+        56 => 0x0236353d65637275,
+        57 => 0x0237353d65637275,
+        58 => 0x0238353d65637275,
+        59 => 0x0239353d65637275,
+        60 => 0x0230363d65637275,
+        61 => 0x0231363d65637275,
+        62 => 0x0232363d65637275,
+        63 => 0x0233363d65637275,
+        64 => 0x0234363d65637275,
+        65 => 0x0235363d65637275,
+        66 => 0x0236363d65637275,
+        67 => 0x0237363d65637275,
+        68 => 0x0238363d65637275,
+        69 => 0x0239363d65637275,
+        70 => 0x0230373d65637275,
+        71 => 0x0231373d65637275,
+        72 => 0x0232373d65637275,
+        73 => 0x0233373d65637275,
+        74 => 0x0234373d65637275,
+        75 => 0x0235373d65637275,
+        76 => 0x0236373d65637275,
+        77 => 0x0237373d65637275,
+        78 => 0x0238373d65637275,
+        79 => 0x0239373d65637275,
+        80 => 0x0230383d65637275,
+        81 => 0x0231383d65637275,
+        82 => 0x0232383d65637275,
+        83 => 0x0233383d65637275,
+        84 => 0x0234383d65637275,
+        85 => 0x0235383d65637275,
+        86 => 0x0236383d65637275,
+        87 => 0x0237383d65637275,
+        88 => 0x0238383d65637275,
+        89 => 0x0239383d65637275,
+        90 => 0x0230393d65637275,
+        91 => 0x0231393d65637275,
+        92 => 0x0232393d65637275,
+        93 => 0x0233393d65637275,
+        94 => 0x0234393d65637275,
+        95 => 0x0235393d65637275,
+        96 => 0x0236393d65637275,
+        97 => 0x0237393d65637275,
+        98 => 0x0238393d65637275,
+        99 => 0x0239393d65637275,
+        100 => 0x033030313d656372,
+        101 => 0x033130313d656372,
+        102 => 0x033230313d656372,
+        103 => 0x033330313d656372,
+        104 => 0x033430313d656372,
+        105 => 0x033530313d656372,
+        106 => 0x033630313d656372,
+        107 => 0x033730313d656372,
+        108 => 0x033830313d656372,
+        109 => 0x033930313d656372,
+        110 => 0x033031313d656372,
+        111 => 0x033131313d656372,
+        112 => 0x033231313d656372,
+        113 => 0x033331313d656372,
+        114 => 0x033431313d656372,
+        115 => 0x033531313d656372,
+        116 => 0x033631313d656372,
+        117 => 0x033731313d656372,
+        118 => 0x033831313d656372,
+        119 => 0x033931313d656372,
+        120 => 0x033032313d656372,
+        121 => 0x033132313d656372,
+        122 => 0x033232313d656372,
+        123 => 0x033332313d656372,
+        124 => 0x033432313d656372,
+        125 => 0x033532313d656372,
+        126 => 0x033632313d656372,
+        127 => 0x033732313d656372,
+        128 => 0x033832313d656372,
+        129 => 0x033932313d656372,
+        130 => 0x033033313d656372,
+        131 => 0x033133313d656372,
+        132 => 0x033233313d656372,
+        133 => 0x033333313d656372,
+        134 => 0x033433313d656372,
+        135 => 0x033533313d656372,
+        136 => 0x033633313d656372,
+        137 => 0x033733313d656372,
+        138 => 0x033833313d656372,
+        139 => 0x033933313d656372,
+        140 => 0x033034313d656372,
+        141 => 0x033134313d656372,
+        142 => 0x033234313d656372,
+        143 => 0x033334313d656372,
+        144 => 0x033434313d656372,
+        _ => 0,
+    }
+}
+
+// The same by whole stores, where there is room. What each stores past its text is written over by the next, and the number ends where its
+// line feed stands.
 fn put_sta_whole(out: &mut [u8], at: usize, id: u32, resource: usize) -> usize
     requires { ⌜ (at ≤ 80000) × (id < 10000) × (resource ≤ 144) × (at + 22 ≤ length (now out)) ⌝ }
     ensures { λ r. ⌜ Wrote (now (out .entry)) at (staLine id resource) (now (out .exit)) r ⌝ }
@@ -224,9 +380,12 @@ fn put_sta_whole(out: &mut [u8], at: usize, id: u32, resource: usize) -> usize
     let name = 1029796979 + 4294967296 * id_word(id); // sta=
     stores::put_eight(out, at, name);
     let a = at + (8 - stores::lead_of(id));
-    let b = stores::put_eight(out, a, 7165919078637728288); // " resourc"
-    let owner = ended_word(resource);
-    stores::put_by_fours(out, b, 15717 + 65536 * owner, (owner >> 32) as usize - 2) // e=
+    stores::put_eight(out, a, 7165919078637728288); // " resourc"
+    let tail = tail_word(resource);
+    let b = a + (3 + (tail >> 56) as usize);
+    stores::put_eight(out, b, tail);
+    out[b + 7] = 10;
+    b + 8
 }
 
 // The line of a User field.

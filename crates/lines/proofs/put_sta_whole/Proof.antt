@@ -1,5 +1,7 @@
 -- `lines::put_sta_whole` meets its contract.
 use native.Mathlib.Omega.{arith}
+use mathlib.Core.Path.{_∙_}
+use lib.ListN.{length-set}
 use Rattle.lines.proofs.LineLaws.{sta-written}
 use borrow.Author.Needs.{needs}
 use Rattle.lines.proofs.put_sta_whole.Statement.{statement}
@@ -29,37 +31,46 @@ add-a c = search needs
 put-eight-requires-2 : tie.Need-put-eight-requires-2
 put-eight-requires-2 c κs = search needs
 
-ended-word-requires : tie.Need-ended-word-requires
-ended-word-requires c κs = search needs
+tail-word-requires : tie.Need-tail-word-requires
+tail-word-requires c κs = search needs
 
-mul-put-by-fours : tie.Need-mul-put-by-fours
-mul-put-by-fours c = search needs
+add-b : tie.Need-add-b
+add-b c = search needs
 
-add-put-by-fours : tie.Need-add-put-by-fours
-add-put-by-fours c = search needs
+add-b-2 : tie.Need-add-b-2
+add-b-2 c = search needs
 
-sub-put-by-fours : tie.Need-sub-put-by-fours
-sub-put-by-fours c = search needs
+put-eight-requires-3 : tie.Need-put-eight-requires-3
+put-eight-requires-3 c κs = search needs
 
-put-by-fours-requires : tie.Need-put-by-fours-requires
-put-by-fours-requires c κs = search needs
+add-out : tie.Need-add-out
+add-out c = search needs
+
+slice-write-out : tie.Need-slice-write-out
+slice-write-out c = search needs
+
+add-result : tie.Need-add-result
+add-result c = search needs
 
 same-length : tie.Need-same-length
-same-length c = search needs
+same-length c =
+    let second = c .before .before .before .before .before .before .before in
+    let last = c .before .before .put-eight3 in
+    let first = second .before .before .before .before .before .put-eight in
+    length-set (last .last .0) _ 10 ∙ last .kept .0 ∙ second .put-eight2 .kept .0 ∙ first .kept .0
 
 returns : tie.Need-returns
 returns c =
-    let owner = c .before .before .before .before in
-    let second = owner .before .before .before in
+    let tailed = c .before .before .before .before in
+    let second = tailed .before .before .before in
     let first = second .before .before .before .before .before in
     let start = first .before .before .before .before in
-    let a = first .put-eight .ensures in
-    let b = second .put-eight2 .ensures in
-    let e = c .before .before .put-by-fours .ensures in
-    let x = rw (first .before .before .id-word .ensures .0) at (a .0) in
-    let y = rw (second .before .before .lead-of .ensures .0) at (b .0) in (
-      sta-written (start .args .id) (start .args .resource) (owner .ended-word .result) (start .pre .1) (owner .ended-word .ensures) x y (e .0),
-      omega (arith, b .1, e .1, owner .ended-word .ensures .most),
+    let w = tailed .tail-word in
+    let m = second .before .before .lead-of in
+    let x = rw (first .before .before .id-word .ensures .0) at (first .put-eight .ensures .0) in (
+      sta-written (start .args .id) (start .args .resource) (w .result) (m .result) (start .pre .1) (w .ensures) (m .ensures .0) x
+          (second .put-eight2 .ensures .0) (c .before .before .put-eight3 .ensures .0),
+      omega (arith, w .ensures .most),
     )
 
 pub put-sta-whole-spec : {M : Type 1} → statement M
@@ -74,10 +85,12 @@ put-sta-whole-spec =
     sub-a
     add-a
     put-eight-requires-2
-    ended-word-requires
-    mul-put-by-fours
-    add-put-by-fours
-    sub-put-by-fours
-    put-by-fours-requires
+    tail-word-requires
+    add-b
+    add-b-2
+    put-eight-requires-3
+    add-out
+    slice-write-out
+    add-result
     same-length
     returns)
