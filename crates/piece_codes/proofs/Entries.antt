@@ -69,9 +69,10 @@ entry b c l t =
       one = ltb-true w 65536 (t-true _ (both-left (ltb w 65536) (length-test x) few));
       few = leb→le _ _ (both-right (ltb w 65536) (length-test x) few);
       index = λ q h.
-          let i = every-below (index-test x c) 4 each q h in
-          (eqb→eq _ _ (both-left (eqb (stepped x q) (indexAt q c)) (ltb (stepped x q) 40) i),
-          ltb-true (stepped x q) 40 (t-true _ (both-right (eqb (stepped x q) (indexAt q c)) (ltb (stepped x q) 40) i)));
+          let i = every-below (index-test x c) 4 each q h in (
+            eqb→eq _ _ (both-left (eqb (stepped x q) (indexAt q c)) (ltb (stepped x q) 40) i),
+            ltb-true (stepped x q) 40 (t-true _ (both-right (eqb (stepped x q) (indexAt q c)) (ltb (stepped x q) 40) i)),
+          );
     }
 
 both : (a b : Bool) → T a → T b → T (a && b)

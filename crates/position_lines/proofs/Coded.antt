@@ -1,23 +1,30 @@
 -- The line of a piece by its code is the piece's.
 use mathlib.Core.Path.{_≡_, refl, sym, ap, _∙_}
-use mathlib.Core.Bool.{Bool, true, false, cond}
+use mathlib.Core.Bool.{Bool, true, false, cond, not, _&&_}
 use mathlib.Core.List.{List, [], _∷_, _++_, map, append-assoc}
-use Prim.Native.Nat.{ℕ, _+_, _/_, _%_, _≤_, _<_}
+use Prim.Native.Nat.{ℕ, _+_, _-_, _*_, _/_, _%_, _≤_, _<_}
 use native.Mathlib.Nat.{add-zero, zero-add}
 use native.Mathlib.Omega.{arith}
-use lib.Dec.{T, eqb, eqb→eq}
+use lib.Dec.{T, ltb, eqb, eqb→eq}
+use lib.IntN.{pos, _-ℤ_}
+use lib.ListN.{length}
 use borrow.Author.Tests.{eq-eqb, ne-eqb, eqb-true, eqb-false}
 use Rattle.text.specs.Text.{codes, signed, upto}
-use Rattle.resource.specs.Values.{fieldsOf, divides, pieceFields}
+use Rattle.stores.specs.Engine.{bytesOf, spacedWord}
+use Rattle.stores.proofs.Laws.{same, same-equal, word-bytes}
+use Rattle.resource.specs.Values.{fieldsOf, divides, pieceFields, ownPieces}
 use Rattle.resource.specs.Index.{isPiece, fromPositions, resourceAt}
 use Rattle.resource.specs.Tones.{Span}
-use Rattle.resource.specs.Engine.{spanOf, runOf}
+use Rattle.resource.specs.Engine.{spanOf, runOf, pieceAt}
 use Rattle.resource.proofs.Test.{wherever, met, below, every-below}
 use Rattle.resource.proofs.Fields.{fields-most}
-use Rattle.records.specs.Records.{inChannel}
-use Rattle.piece_codes.specs.Engine.{isCode, pieceOf, runsBy}
+use Rattle.resource.proofs.Pieces.{own-piece}
+use Rattle.records.specs.Records.{inChannel, pieceRecord}
+use Rattle.piece_codes.specs.Engine.{codeOf, isCode, pieceOf, runsBy, isSingle, placeOf, entryOf, entryAt}
+use Rattle.piece_codes.proofs.Codes.{code-back}
 use Rattle.resource_line.specs.ResourceLine.{comma, tonesText}
-use Rattle.resource_line.specs.Engine.{classOf}
+use Rattle.resource_line.specs.Engine.{className, classOf, keyOf, startText, namedText}
+use Rattle.position_lines.specs.Engine.{runsLine, codeLine}
 
 -- ---- its name
 class-test : ℕ → ℕ → Bool
@@ -79,3 +86,52 @@ piece-few v = go (divides v)
     go : (t : Bool) → cond t 1 (fieldsOf v) < 10
     go true = omega arith
     go false = omega (arith, fields-most v)
+
+-- ---- the line of a piece of one run
+name-test : ℕ → ℕ → Bool
+name-test n c =
+    wherever (isCode c && isSingle n c) (same (bytesOf (entryAt n c / 72057594037927936) (entryAt n c / 256 % 16777216)) (className (c / 16)))
+
+name-pass : (b : Bool) (c : ℕ) → c < 128 → T (name-test (cond b 1 2) c)
+unfolding name-test className isSingle entryAt placeOf entryOf isCode pieceOf isPiece fromPositions
+name-pass true c l = every-below (name-test 1) 128 tt c l
+name-pass false c l = every-below (name-test 2) 128 tt c l
+
+both : (a b : Bool) → T a → T b → T (a && b)
+both true b s t = t
+both false b s t = absurd s
+
+pub single-name : (n c : ℕ) → c < 128 → T (isCode c) → T (isSingle n c)
+    → bytesOf (entryAt n c / 72057594037927936) (entryAt n c / 256 % 16777216) ≡ className (c / 16)
+unfolding name-test isSingle entryAt placeOf
+single-name n c l t s = go (eqb n 1) s
+  where
+    go : (b : Bool) → T (cond b (not (eqb c 5) && ltb c 48) (not (eqb (c / 16) 3)))
+        → bytesOf (entryOf (c - 7 * (c / 16) + cond b 40 0) / 72057594037927936) (entryOf (c - 7 * (c / 16) + cond b 40 0) / 256 % 16777216)
+        ≡ className (c / 16)
+    go true u = same-equal _ _ (met (isCode c && isSingle 1 c) _ (name-pass true c l) (both (isCode c) (isSingle 1 c) t u))
+    go false u = same-equal _ _ (met (isCode c && isSingle 2 c) _ (name-pass false c l) (both (isCode c) (isSingle 2 c) t u))
+
+pub single-start : (name len k i g u : ℕ) → i < 40 → bytesOf len name ≡ className k
+    → namedText name len (spacedWord i) g u ≡ startText k i g u
+unfolding namedText startText keyOf
+single-start name len k i g u l e = rw (e, word-bytes i l)
+
+pub single-run : (n e w x : ℕ) → w < 65536 → x % 256 ≡ w % 256 → x / 4294967296 % 256 + 1 ≡ w % 256 + w / 256 % 256
+    → tonesText (map (spanOf n) (runsBy e w)) ++ codes "\n"
+    ≡ (signed (pos (e + x % 256) -ℤ pos (128 * n)) ++ codes ":") ++ (signed (pos (e + x / 4294967296 % 256) -ℤ pos (128 * n)) ++ codes "\n")
+single-run n e w x l f h =
+    let a : e + w % 256 ≡ e + x % 256 = omega (arith, f) in
+    let b : e + w % 256 + w / 256 % 256 - 1 ≡ e + x / 4294967296 % 256 = omega (arith, h) in
+    one-run n e w l
+    ∙ ap (λ (z : ℕ). (signed (pos (e + w % 256) -ℤ pos (128 * n)) ++ codes ":") ++ (signed (pos z -ℤ pos (128 * n)) ++ codes "\n")) b
+    ∙ ap (λ (z : ℕ). (signed (pos z -ℤ pos (128 * n)) ++ codes ":") ++ (signed (pos (e + x / 4294967296 % 256) -ℤ pos (128 * n)) ++ codes "\n")) a
+
+-- ---- the line of a code is the piece's
+pub code-line : (n p v k : ℕ) → k < length (ownPieces v)
+    → codeLine n p (codeOf (pieceAt v k)) (pieceFields v) ≡ runsLine n (pieceRecord (λ q. v) p (pieceAt v k))
+unfolding codeLine
+code-line n p v k l =
+    let o = own-piece v k l in
+    let b = code-back (pieceAt v k) (o .0) (o .1) in
+    rw (b .0, fields-sum p (pieceFields v))

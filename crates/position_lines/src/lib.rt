@@ -9,7 +9,7 @@ ghost use lib.ListN.{length};
 ghost use Rattle.text.specs.Text.{codes, Wrote};
 ghost use Rattle.resource.specs.Values.{pieceFields, ownPieces};
 ghost use Rattle.resource.specs.Engine.{spanOf, pieceAt, runsOf, held};
-ghost use Rattle.piece_codes.specs.Engine.{codeOf, isCode, runsBy};
+ghost use Rattle.piece_codes.specs.Engine.{codeOf, isCode, isSingle, runsBy};
 ghost use Rattle.resource_line.specs.ResourceLine.{tonesText};
 ghost use Rattle.kinds.specs.Kinds.{span};
 ghost use Rattle.records.specs.Records.{pieceRecord, lead, listAt};
@@ -67,30 +67,45 @@ fn put_coded(out: &mut [u8], at: usize, n: u32, p: u32, c: u32, users: u32) -> u
     put_word_tones(out, a, n, base, w)
 }
 
-// The line of the k-th piece of position p, whose value is v, by its code.
-fn put_coded_piece(
-    out: &mut [u8],
-    at: usize,
-    n: u16,
-    v: u16,
-    p: usize,
-    k: u16,
-    c: u32,
-    users: u32,
-) -> usize
-    requires { ⌜ (at ≤ 700000) × (n ≤ 16) × (p < 16) × (k < length (ownPieces v)) × (c ≡ codeOf (pieceAt v k)) × (users ≡ pieceFields v) ⌝ }
-    ensures { λ r. ⌜ Wrote (now (out .entry)) at (runsLine n (pieceRecord (λ q. v) p (pieceAt v k))) (now (out .exit)) r ⌝ }
-    ensures bounded { λ r. ⌜ r ≤ at + 460 ⌝ }
+// The line of the piece of this code, of one run: its subcarriers first, then what comes before.
+fn put_single(out: &mut [u8], at: usize, n: u32, p: u32, c: u32, users: u32) -> usize
+    requires { ⌜ (n ≤ 16) × (p < 16) × (c < 128) × T (isCode c) × (users < 10) × (at ≤ 700000) × (at + 70 ≤ length (now out)) × T (isSingle n c) ⌝ }
+    ensures { λ r. ⌜ Wrote (now (out .entry)) at (codeLine n p c users) (now (out .exit)) r ⌝ }
+    ensures bounded { λ r. ⌜ r ≤ at + 70 ⌝ }
 {
-    if out.len() < at + 70 {
-        return put_piece(out, at, n, v, p, k);
-    }
-    put_coded(out, at, n as u32, p as u32, c, users)
+    let x = piece_codes::entry_at(n, c);
+    let q = (p % 4) as u64;
+    let index = stores::spaced_of(((x >> 40) % 256 * q / 2 + (x >> 48) % 256) as u32);
+    let len = (x >> 56) as usize;
+    let a = at + (len + (index / 16777216) as usize + 34);
+    let base = piece_codes::base_of(n, p);
+    let e = stores::put_run(
+        out,
+        a,
+        base + (x % 256) as u32,
+        base + ((x >> 32) % 256) as u32,
+        128 * n,
+        b'\n',
+    );
+    resource_line::put_named(out, at, x / 256 % 16777216, len, index, p / 4, users);
+    e
 }
 
-// A line for each piece of position p, which is given to itself.
-fn put_pieces(out: &mut [u8], at: usize, n: u16, v: u16, p: usize) -> usize
-    requires { ⌜ (at ≤ 600000) × (n ≤ 16) × (p < 16) ⌝ }
+// The line of the piece of this code.
+fn put_coded_piece(out: &mut [u8], at: usize, n: u32, p: u32, c: u32, users: u32) -> usize
+    requires { ⌜ (n ≤ 16) × (p < 16) × (c < 128) × T (isCode c) × (users < 10) × (at ≤ 700000) × (at + 70 ≤ length (now out)) ⌝ }
+    ensures { λ r. ⌜ Wrote (now (out .entry)) at (codeLine n p c users) (now (out .exit)) r ⌝ }
+    ensures bounded { λ r. ⌜ r ≤ at + 70 ⌝ }
+{
+    if piece_codes::is_single(n, c) {
+        return put_single(out, at, n, p, c, users);
+    }
+    put_coded(out, at, n, p, c, users)
+}
+
+// A line for each piece of position p, which is given to itself, where there is room for nine.
+fn put_pieces_whole(out: &mut [u8], at: usize, n: u16, v: u16, p: usize) -> usize
+    requires { ⌜ (at ≤ 600000) × (n ≤ 16) × (p < 16) × (at + 630 ≤ length (now out)) ⌝ }
     ensures { λ r. ⌜ Wrote (now (out .entry)) at (runsLines n (listAt 0 (λ q. v) p)) (now (out .exit)) r ⌝ }
     ensures bounded { λ r. ⌜ r ≤ at + 460 * length (listAt 0 (λ q. v) p) ⌝ }
 {
@@ -100,11 +115,38 @@ fn put_pieces(out: &mut [u8], at: usize, n: u16, v: u16, p: usize) -> usize
     let mut e = at;
     let mut k: u16 = 0;
     while k < here {
-        e = put_coded_piece(out, e, n, v, p, k, (left % 128) as u32, users);
+        e = put_coded_piece(out, e, n as u32, p as u32, (left % 128) as u32, users);
         left /= 128;
         k += 1;
     }
     e
+}
+
+// The same into whatever room there is.
+fn put_pieces_within(out: &mut [u8], at: usize, n: u16, v: u16, p: usize) -> usize
+    requires { ⌜ (at ≤ 600000) × (n ≤ 16) × (p < 16) ⌝ }
+    ensures { λ r. ⌜ Wrote (now (out .entry)) at (runsLines n (listAt 0 (λ q. v) p)) (now (out .exit)) r ⌝ }
+    ensures bounded { λ r. ⌜ r ≤ at + 460 * length (listAt 0 (λ q. v) p) ⌝ }
+{
+    let here = resource::pieces_of(v);
+    let mut e = at;
+    let mut k: u16 = 0;
+    while k < here {
+        e = put_piece(out, e, n, v, p, k);
+        k += 1;
+    }
+    e
+}
+
+fn put_pieces(out: &mut [u8], at: usize, n: u16, v: u16, p: usize) -> usize
+    requires { ⌜ (at ≤ 600000) × (n ≤ 16) × (p < 16) ⌝ }
+    ensures { λ r. ⌜ Wrote (now (out .entry)) at (runsLines n (listAt 0 (λ q. v) p)) (now (out .exit)) r ⌝ }
+    ensures bounded { λ r. ⌜ r ≤ at + 460 * length (listAt 0 (λ q. v) p) ⌝ }
+{
+    if out.len() < at + 630 {
+        return put_pieces_within(out, at, n, v, p);
+    }
+    put_pieces_whole(out, at, n, v, p)
 }
 
 // The line of the larger resource of this kind, of which p is the lowest position, into whatever room there is.

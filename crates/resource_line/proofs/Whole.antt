@@ -125,6 +125,9 @@ named-stored {d} {e} {f} {g} {h} {at} {r} {s} {t} {o} name len index x u l k p q
     let j = bytes-length 8 (4027762 + 16777216 * name) in
     let v = length-append (codes " index=") (bytesOf n index ++ countsText x u) in
     let y = over (bytesOf 8 (4027762 + 16777216 * name)) (codes " index=" ++ (bytesOf n index ++ countsText x u)) (3 + len)
-        (omega (arith, j, l)) (omega (arith, j, v, c, few)) p b2 in
-    rw (take-bytes (3 + len) 8 (4027762 + 16777216 * name) (omega (arith, l)), named-key name len,
-    nest (codes "ru=") (bytesOf len name) (codes " index=") (bytesOf n index) (countsText x u)) at y
+    (omega (arith, j, l)) (omega (arith, j, v, c, few)) p b2 in
+    rw (
+      take-bytes (3 + len) 8 (4027762 + 16777216 * name) (omega (arith, l)),
+      named-key name len,
+      nest (codes "ru=") (bytesOf len name) (codes " index=") (bytesOf n index) (countsText x u),
+    ) at y

@@ -293,7 +293,15 @@ pub fn put_start(out: &mut [u8], at: usize, k: u32, i: u32, g: u32, users: u32) 
 }
 
 // A line up to its subcarriers, by a name of at most five bytes and by its index as `stores::spaced_of` has it.
-pub fn put_named(out: &mut [u8], at: usize, name: u64, len: usize, index: u32, g: u32, users: u32) -> usize
+pub fn put_named(
+    out: &mut [u8],
+    at: usize,
+    name: u64,
+    len: usize,
+    index: u32,
+    g: u32,
+    users: u32,
+) -> usize
     requires { ⌜ (name < 1099511627776) × (len ≤ 5) × (index / 16777216 ≤ 4) × (g < 10) × (users < 10) × (at ≤ 700000) × (at + 43 ≤ length (now out)) ⌝ }
     ensures { λ r. ⌜ Wrote (now (out .entry)) at (namedText name len index g users) (now (out .exit)) r ⌝ }
     ensures bounded { λ r. ⌜ r ≡ at + (len + index / 16777216 + 34) ⌝ }

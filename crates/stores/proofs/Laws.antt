@@ -468,10 +468,10 @@ digits-under {d} {e} {p} {r} n at l k w =
     let right : b ≡ dec n = rw (sym (pow-256 (leadOf n) (omega (arith, m)))) (digits n l) in
     let len = bytes-length (leadOf n) (fourOf n) in
     let u = last-bytes a b at (omega (arith, k, len)) (rw parts at w) in
-    record { under = λ s f from h q. rw right at (u .under s f from (omega (arith, h, len, m)) q); size = u .size; }
+    record { under = λ s f from h q. rw right at (u .under s f from (omega (arith, h, len, m)) q); size = u .size }
 
 pub under-weak : {d e t : List ℕ} {at r : ℕ} (m k : ℕ) → m ≤ k → Under m d at t e r → Under k d at t e r
-under-weak m k l p = record { under = λ s f from h q. p .under s f from (omega (arith, l, h)) q; size = p .size; }
+under-weak m k l p = record { under = λ s f from h q. p .under s f from (omega (arith, l, h)) q; size = p .size }
 
 pub one-under : (d : List ℕ) (at x : ℕ) → Under 0 d at (x ∷ []) (set d at x) (at + 1)
 one-under d at x =

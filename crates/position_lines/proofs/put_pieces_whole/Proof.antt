@@ -1,4 +1,4 @@
--- `position_lines::put_pieces` meets its contract.
+-- `position_lines::put_pieces_whole` meets its contract.
 use native.Mathlib.Omega.{arith}
 use mathlib.Core.Path.{_≡_, refl, sym, ap, _∙_}
 use Prim.Native.Nat.{ℕ, _+_, _-_, _*_, _/_, _%_, _≤_, _<_}
@@ -14,17 +14,19 @@ use Rattle.records.specs.Engine.{listed}
 use Rattle.records.proofs.Listing.{list-length, list-at, own-record}
 use Rattle.piece_codes.specs.Engine.{codeOf, packed, codesOf}
 use Rattle.piece_codes.proofs.Codes.{code-back, unpack}
+use Rattle.piece_codes.proofs.Codes.{code-is}
 use Rattle.position_lines.specs.Engine.{runsLine, runsLines}
+use Rattle.position_lines.proofs.Coded.{piece-few, code-line}
 use borrow.Author.Needs.{needs}
-use Rattle.position_lines.proofs.put_pieces.Statement.{statement}
-use Rattle.position_lines.proofs.put_pieces.Tie as tie
+use Rattle.position_lines.proofs.put_pieces_whole.Statement.{statement}
+use Rattle.position_lines.proofs.put_pieces_whole.Tie as tie
 
 abbrev Inv-loop : tie.InvT-loop
 Inv-loop out₀ at n v p here users left₀ e₀ k₀ out left e k =
     (k ≤ here)
     × (left ≡ packed (drop k (ownPieces v)))
     × Wrote out₀ at (upto (λ i. runsLine n (getD (listAt 0 (λ q. v) p) i blank)) k) out e
-    × (e ≤ at + 460 * k)
+    × (e ≤ at + 70 * k)
 
 abbrev μ-loop : tie.MeasureT-loop
 μ-loop out₀ at n v p here users left₀ e₀ k₀ out left e k = here - k
@@ -51,7 +53,10 @@ unfolding codesOf
 loop-holds c = (search needs, c .codes-of .ensures, no-item _ _ _, omega arith)
 
 cast-put-coded-piece : tie.Need-cast-put-coded-piece Inv-loop μ-loop
-cast-put-coded-piece c = omega arith
+cast-put-coded-piece c = search needs
+
+cast-put-coded-piece-2 : tie.Need-cast-put-coded-piece-2 Inv-loop μ-loop
+cast-put-coded-piece-2 c = omega arith
 
 put-coded-piece-requires : tie.Need-put-coded-piece-requires Inv-loop μ-loop
 put-coded-piece-requires c κs =
@@ -62,7 +67,18 @@ put-coded-piece-requires c κs =
     let m = up .before .pieces-of .ensures in
     let h : l .k < length (ownPieces (a .v)) = omega (arith, m, c .before .loop-test .taken) in
     let x = next (a .v) (l .k) h in
-    (omega (arith, own-most (a .v), s .pre .0, l .inv .3, h), s .pre .1, s .pre .2, h, rw (l .inv .1) (x .0), up .piece-fields .ensures)
+    let q = pieceAt (a .v) (l .k) in
+    let g = own-piece (a .v) (l .k) h in
+    let code : l .left % 128 ≡ codeOf q = rw (l .inv .1) (x .0) in
+    let room = kept (l .inv .2) in (
+      s .pre .1,
+      s .pre .2,
+      rw code (code-back q (g .0) (g .1) .1),
+      rw code (code-is q (g .0) (g .1)),
+      rw (up .piece-fields .ensures) (piece-few (a .v)),
+      omega (arith, own-most (a .v), s .pre .0, l .inv .3, h),
+      omega (arith, own-most (a .v), s .pre .3, l .inv .3, h, room),
+    )
 
 add-k : tie.Need-add-k Inv-loop μ-loop
 add-k c = search needs
@@ -83,7 +99,9 @@ loop-again c =
     let e : getD (listAt 0 (λ q. a .v) (a .p)) (l .k) blank ≡ pieceRecord (λ q. a .v) (a .p) (pieceAt (a .v) (l .k)) =
     list-at 0 (λ q. a .v) (a .p) (l .k) (omega (arith, m, n, t)) ∙ own-record 0 (λ q. a .v) (a .p) (l .k) refl in
     let o = c .before .before .put-coded-piece .ensures in
-    (omega (arith, t), rw (l .inv .1) (x .1), item _ _ (l .inv .2) (rw (ap (runsLine (a .n)) (sym e)) at (o .0)), omega (arith, o .1, l .inv .3))
+    let f = c .before .before .before .before .before .before .before .piece-fields in
+    let w = rw (ap (λ (z : ℕ). z % 128) (l .inv .1) ∙ x .0, f .ensures, code-line (a .n) (a .p) (a .v) (l .k) h, ap (runsLine (a .n)) (sym e)) at (o .0) in
+    (omega (arith, t), rw (l .inv .1) (x .1), item _ _ (l .inv .2) w, omega (arith, o .1, l .inv .3))
 
 same-length : tie.Need-same-length Inv-loop μ-loop
 same-length c = kept (c .before .loop .inv .2)
@@ -97,8 +115,8 @@ returns c =
     omega (arith, n, list-length 0 (λ q. a .v) (a .p), c .loop-test .left, c .before .loop .inv .0) in
     (rw e at (c .before .loop .inv .2), omega (arith, e, c .before .loop .inv .3))
 
-pub put-pieces-spec : {M : Type 1} → statement M
-put-pieces-spec =
+pub put-pieces-whole-spec : {M : Type 1} → statement M
+put-pieces-whole-spec =
     tie.close
     (tie.spec
     Inv-loop
@@ -109,6 +127,7 @@ put-pieces-spec =
     codes-of-requires
     loop-holds
     cast-put-coded-piece
+    cast-put-coded-piece-2
     put-coded-piece-requires
     add-k
     loop-less
