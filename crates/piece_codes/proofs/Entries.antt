@@ -45,7 +45,8 @@ pub record Entry (x w c : ℕ) : Type 0 where
   pub index : (q : ℕ) → q < 4 → (stepped x q ≡ indexAt q c) × (stepped x q < 40)
 
 entry-pass : (b : Bool) (c : ℕ) → c < 128 → T (entry-test b c)
-unfolding entry-test first-test last-test length-test index-test isSingle placeOf entryOf entryAt wordAt wideAt narrowAt isCode pieceOf isPiece fromPositions offset26 offset52 offset106 narrow26 narrow52 narrow106 indexAt eachOf
+unfolding entry-test first-test last-test length-test index-test isSingle placeOf entryOf entryAt wordAt wideAt narrowAt indexAt eachOf
+    isCode pieceOf isPiece fromPositions offset26 offset52 offset106 narrow26 narrow52 narrow106
 entry-pass true c l = every-below (entry-test true) 128 tt c l
 entry-pass false c l = every-below (entry-test false) 128 tt c l
 

@@ -9,19 +9,20 @@ use lib.Dec.{T, ltb, eqb, eqb→eq}
 use lib.IntN.{pos, _-ℤ_}
 use lib.ListN.{length}
 use borrow.Author.Tests.{eq-eqb, ne-eqb, eqb-true, eqb-false}
-use Rattle.text.specs.Text.{codes, signed, upto}
+use Rattle.text.specs.Text.{codes, dec, signed, upto}
 use Rattle.stores.specs.Engine.{bytesOf, spacedWord}
 use Rattle.stores.proofs.Laws.{same, same-equal, word-bytes}
 use Rattle.resource.specs.Values.{fieldsOf, divides, pieceFields, ownPieces}
 use Rattle.resource.specs.Index.{isPiece, fromPositions, resourceAt}
 use Rattle.resource.specs.Tones.{Span}
-use Rattle.resource.specs.Engine.{spanOf, runOf, pieceAt}
+use Rattle.resource.specs.declared.Run.{Run}
+use Rattle.resource.specs.Engine.{spanOf, runOf, runsOf, pieceAt}
 use Rattle.resource.proofs.Test.{wherever, met, below, every-below}
 use Rattle.resource.proofs.Fields.{fields-most}
 use Rattle.resource.proofs.Pieces.{own-piece}
 use Rattle.records.specs.Records.{inChannel, pieceRecord}
-use Rattle.piece_codes.specs.Engine.{codeOf, isCode, pieceOf, runsBy, isSingle, placeOf, entryOf, entryAt}
-use Rattle.piece_codes.proofs.Codes.{code-back}
+use Rattle.piece_codes.specs.Engine.{codeOf, isCode, pieceOf, runsBy, wordAt, narrowAt, isSingle, placeOf, entryOf, entryAt}
+use Rattle.piece_codes.proofs.Codes.{code-back, code-runs}
 use Rattle.resource_line.specs.ResourceLine.{comma, tonesText}
 use Rattle.resource_line.specs.Engine.{className, classOf, keyOf, startText, namedText}
 use Rattle.position_lines.specs.Engine.{runsLine, codeLine}
@@ -70,6 +71,16 @@ unfolding runsBy
 two-runs n e w l =
     rw (ne-eqb (w / 65536) 0 (λ (z : w / 65536 ≡ 0). omega (arith, z, l)))
     (two-spans (spanOf n (runOf (e + w % 256) (w / 256 % 256))) (spanOf n (runOf (e + w / 65536 % 256) (w / 65536 / 256))))
+
+text-20 : tonesText (map (spanOf 1) (runsBy 0 (wordAt 1 65))) ++ codes "\n" ≡ codes "-122:-2,2:122\n"
+unfolding tonesText upto comma signed dec runsBy wordAt narrowAt isCode pieceOf isPiece fromPositions
+text-20 = refl
+
+-- the 242's at 20 MHz
+pub whole-20 : (n p c : ℕ) → n ≡ 1 → c ≡ 65
+    → tonesText (map (spanOf n) (runsOf n (p / 4) (resourceAt (p % 4) (pieceOf c)))) ++ codes "\n" ≡ codes "-122:-2,2:122\n"
+unfolding isCode pieceOf isPiece fromPositions
+whole-20 n p c e f = rw (e, f) (ap (λ (rs : List Run). tonesText (map (spanOf 1) rs) ++ codes "\n") (code-runs 1 p 65 tt) ∙ text-20)
 
 -- ---- its fields
 pub fields-sum : (p f : ℕ) → inChannel 1 p f + inChannel 2 p f ≡ f

@@ -54,6 +54,16 @@ fn put_word_tones(out: &mut [u8], at: usize, n: u32, base: u32, w: u32) -> usize
     stores::put_span(out, a, lo2, hi2, zero, 10)
 }
 
+// The subcarriers of the 242 at 20 MHz, and the line's end: "-122:-2,2:122".
+fn put_whole_20(out: &mut [u8], at: usize) -> usize
+    requires { ⌜ (at ≤ 800000) × (at + 24 ≤ length (now out)) ⌝ }
+    ensures { λ r. ⌜ Wrote (now (out .entry)) at (codes "-122:-2,2:122\n") (now (out .exit)) r ⌝ }
+    ensures bounded { λ r. ⌜ r ≤ at + 24 ⌝ }
+{
+    let a = stores::put_eight(out, at, 0x2C322D3A3232312D); // -122:-2,
+    stores::put_by_fours(out, a, 0x0A3232313A32, 2) // 2:122 and a line feed
+}
+
 // The line of the piece of this code at position p, in a channel of n positions, by whole stores.
 fn put_coded(out: &mut [u8], at: usize, n: u32, p: u32, c: u32, users: u32) -> usize
     requires { ⌜ (n ≤ 16) × (p < 16) × (c < 128) × T (isCode c) × (users < 10) × (at ≤ 700000) × (at + 70 ≤ length (now out)) ⌝ }
@@ -62,6 +72,9 @@ fn put_coded(out: &mut [u8], at: usize, n: u32, p: u32, c: u32, users: u32) -> u
 {
     let i = piece_codes::index_at(p % 4, c);
     let a = resource_line::put_start(out, at, c / 16, i, p / 4, users);
+    if (n == 1) & (c == 65) {
+        return put_whole_20(out, a);
+    }
     let base = piece_codes::base_of(n, p);
     let w = piece_codes::word_at(n, c);
     put_word_tones(out, a, n, base, w)

@@ -15,7 +15,8 @@ use lib.IntN.{pos, _-ℤ_}
 use Rattle.text.specs.Text.{Wrote, codes, dec, signed}
 use Rattle.text.proofs.Laws.{after, kept, digit-alone, signed-low, signed-high}
 use Rattle.resource.proofs.Test.{both-left, both-right, below, every-below}
-use Rattle.stores.specs.Engine.{bytesOf, hundredsOf, pairOf, tensOf, valuesOf, zerosIn, fourOf, leadOf, digitsOf, endedOf, spacedOf, spacedWord, apart, minusIf, Over, Under}
+use Rattle.stores.specs.Engine.{bytesOf, hundredsOf, pairOf, tensOf, valuesOf, zerosIn, fourOf, leadOf, digitsOf, endedOf}
+use Rattle.stores.specs.Engine.{spacedOf, spacedWord, apart, minusIf, Over, Under}
 
 -- ---- stores
 set-before : (d : List ℕ) (i j x : ℕ) (t : List ℕ) → i < j → sets (set d i x) j t ≡ set (sets d j t) i x
