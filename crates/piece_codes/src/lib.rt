@@ -167,16 +167,22 @@ pub fn is_single(n: u32, c: u32) -> bool
     c / 16 != 3
 }
 
-// Its place among them: the codes side by side, and 40 further on at 20 MHz.
+// Where those at 20 MHz begin.
+fn shift_of(n: u32) -> u32
+    ensures { λ r. ⌜ (r ≡ cond (eqb n 1) 40 0) × (r ≤ 40) ⌝ }
+{
+    if n == 1 {
+        return 40;
+    }
+    0
+}
+
+// Its place among them: the codes side by side.
 fn place_of(n: u32, c: u32) -> u32
     requires { ⌜ c < 128 ⌝ }
     ensures { λ r. ⌜ (r ≡ placeOf n c) × (r < 128) ⌝ }
 {
-    let d = c - 7 * (c / 16);
-    if n == 1 {
-        return d + 40;
-    }
-    d
+    c - 7 * (c / 16) + shift_of(n)
 }
 
 // From the lowest byte: its first subcarrier, three bytes of its name, its last subcarrier, twice its index's step from position to position,
