@@ -21,9 +21,10 @@ use Rattle.kinds.proofs.Tests.{decided, refuted, not-both, is-false}
 use Rattle.kinds.proofs.Table.{high-named, wide-family, takes-known}
 use Rattle.kinds.proofs.Places.{place-segment}
 use Rattle.kinds.proofs.Fitting.{known}
-use Rattle.segments.specs.Engine.{segmentPlan, segmentKinds, rightAt, wrongAt, firstWrong}
+use Rattle.segments.specs.Engine.{segmentPlan, segmentKinds, rightAt, wrongAt, firstWrong, fourRight, firstFourWrong}
 use Rattle.segments.proofs.Only.{part-ends}
 use Rattle.segments.proofs.Found.{right-signals, signals-right}
+use Rattle.segments.proofs.Four.{four-right, right-four}
 use Rattle.spans.specs.Engine.{named, search, spansIn, partPlan}
 use Rattle.plan.specs.Answers.{segments, segmentEnd, SegmentPlan, SegmentPlanOfEight, partEnd, PartPlan, Held, Over}
 use Rattle.plan.specs.Answers.{Laid, LaidBySegments, Narrow, NarrowRow}
@@ -216,3 +217,30 @@ module _ (row : List ℕ) (narrow : NarrowRow row) where
   unfolding firstUnheld
   plain-held w e l = sym (least-none (λ s. not (heldBy row s)) (segments row)
       (λ t m. rw (decided (heldBy row t) (Held row t) (held-tested row t) (held-early t m (omega arith)))))
+
+  -- ---- the lowest whole segment that is wrong, where one is
+  pub four-unheld : (r : ℕ) → r ≡ firstFourWrong row → r < length row / 4 → r ≡ firstUnheld row
+  unfolding firstFourWrong
+  four-unheld r e l =
+      let a = not-less in
+      let b = not-more in
+      let f : r ≡ firstWrong row / 4 = omega arith in
+      f ∙ plain-unheld (firstWrong row) refl (omega arith)
+    where
+      right-early : (p : ℕ) → p < 4 * r → rightAt (at row) (length row) p ≡ true
+      right-early p m =
+          let u : p / 4 < r = omega arith in
+          let t = not-false _ (least-before (λ s. not (fourRight (at row) (4 * s))) (length row / 4) (p / 4) (omega (arith, e))) in
+          four-right (at row) (length row) (4 * (p / 4)) (omega arith) (omega arith) t p (omega arith) (omega arith)
+
+      not-less : 4 * r ≤ firstWrong row
+      not-less = ⊎-elim (λ (m : firstWrong row < 4 * r).
+          absurd (not-both (rightAt (at row) (length row) (firstWrong row)) (right-early (firstWrong row) m) (wrong-there (omega arith)))) (λ m. m)
+          (below-or (firstWrong row) (4 * r))
+
+      not-more : firstWrong row < 4 * r + 4
+      not-more = ⊎-elim (λ m. m) (λ (m : 4 * r + 4 ≤ firstWrong row).
+          absurd (not-both (fourRight (at row) (4 * r))
+          (right-four (at row) (length row) (4 * r) (omega arith) (omega arith) (λ p _ u. right-before p (omega arith)))
+          (not-true _ (rw (← e) at (least-holds (λ s. not (fourRight (at row) (4 * s))) (length row / 4) (omega (arith, e)))))))
+          (below-or (firstWrong row) (4 * r + 4))

@@ -375,12 +375,27 @@ fn counted(kinds: &[u16; 16], row: &[u16]) -> Rest
     }
 }
 
+// The lowest whole segment that is wrong, seen without a place, where no resource is wider than one; else their number.
+fn plainly_wrong(row: &[u16], wide: bool) -> usize
+    requires { ⌜ (length (now row) ≤ 16) × (wide ≡ anyWider (now row)) ⌝ }
+    ensures { λ r. ⌜ (r < length (now (row .entry)) / 4 → r ≡ firstUnheld (now (row .entry))) ⌝ }
+{
+    if wide {
+        return row.len() / 4;
+    }
+    segments::first_four_wrong(row)
+}
+
 // The plan, sought.
 pub fn seek(kinds: &mut [u16; 16], row: &[u16]) -> Rest
     requires { ⌜ length (now row) ≤ 16 ⌝ }
     ensures { λ r. ⌜ Tells (now (row .entry)) r (now (kinds .exit)) ⌝ }
 {
     let wide = has_wider(row);
+    let s = plainly_wrong(row, wide);
+    if s < row.len() / 4 {
+        return refused(7, s);
+    }
     let found = kinds_of(row, wide);
     let unheld = unheld_in(&found, row, wide);
     if unheld < (row.len() + 3) / 4 {

@@ -5,4 +5,5 @@ pub mod Chosen
 pub mod Only
 pub mod Found
 pub mod Entries
+pub mod Four
 pub mod Agree

@@ -61,3 +61,13 @@ wrongAt row p = not (rightAt (at row) (length row) p)
 -- the lowest position that is not right; the number of positions where there is none
 unfoldable pub firstWrong : List ℕ → ℕ
 firstWrong row = least (wrongAt row) (length row)
+
+-- the four positions from b on fit what their segment gives them to
+unfoldable pub fourRight : (ℕ → ℕ) → ℕ → Bool
+fourRight row b =
+    ((fitting (segmentPlan row b) b (row b) && fitting (segmentPlan row (b + 1)) (b + 1) (row (b + 1)))
+    && fitting (segmentPlan row (b + 2)) (b + 2) (row (b + 2))) && fitting (segmentPlan row (b + 3)) (b + 3) (row (b + 3))
+
+-- the lowest whole segment of which that is not so; their number where there is none
+unfoldable pub firstFourWrong : List ℕ → ℕ
+firstFourWrong row = least (λ s. not (fourRight (at row) (4 * s))) (length row / 4)

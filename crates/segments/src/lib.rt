@@ -9,6 +9,7 @@ ghost use Rattle.answer.specs.Lists.{at};
 ghost use Rattle.kinds.specs.Kinds.{family, span, takes, blankAt};
 ghost use Rattle.kinds.specs.Engine.{nameOf};
 ghost use Rattle.segments.specs.Engine.{orElse, firstNamed, tells, choose, segmentPlan, segmentKinds, Entered, fitting, within, firstWrong};
+ghost use Rattle.segments.specs.Engine.{fourRight, firstFourWrong};
 
 // ---- the segment's guess
 
@@ -223,4 +224,56 @@ pub fn first_wrong(kinds: &[u16; 16], row: &[u16]) -> usize
         p += 1;
     }
     p
+}
+
+// ---- the same of whole segments, without a place: most rows that are asked have a wrong one, and what is seen of four values at once waits for no branch
+
+// The value v may stand at position p, which is given to this kind, of those that a segment can hold.
+fn fits_at(kind: u16, p: usize, v: u16) -> bool
+    requires { ⌜ kind < 7 ⌝ }
+    ensures { λ r. ⌜ r ≡ fitting kind p v ⌝ }
+{
+    if kind == 0 {
+        return fits_alone(p, v);
+    }
+    fits_in(kind, place_of(kind, p), v)
+}
+
+// To what position p of the segment that begins at b is given, from the kind that is named, the segment's first value and the pair's.
+fn kind_by(row: &[u16], b: usize, p: usize, k: u16, u: u16, v: u16) -> u16
+    requires { ⌜ (b % 4 ≡ 0) × (b ≤ p) × (p < b + 4) × (k ≡ firstNamed 4 (at (now row)) b 4) × (u ≡ at (now row) b) × (v ≡ at (now row) (2 * (p / 2))) ⌝ }
+    ensures { λ r. ⌜ (r < 7) × (r ≡ segmentPlan (at (now (row .entry))) p) ⌝ }
+{
+    choice(k, u, v, p % 4)
+}
+
+// Each position of the segment that begins at b, which is whole, fits what it is given to.
+fn is_four_right(row: &[u16], b: usize) -> bool
+    requires { ⌜ (b % 4 ≡ 0) × (b < 4096) × (b + 3 < length (now row)) ⌝ }
+    ensures { λ r. ⌜ r ≡ fourRight (at (now (row .entry))) b ⌝ }
+{
+    let k = first_named(row, b);
+    let u = row[b];
+    let v = row[b + 2];
+    let first = fits_at(kind_by(row, b, b, k, u, u), b, u);
+    let second = fits_at(kind_by(row, b, b + 1, k, u, u), b + 1, row[b + 1]);
+    let third = fits_at(kind_by(row, b, b + 2, k, u, v), b + 2, v);
+    let fourth = fits_at(kind_by(row, b, b + 3, k, u, v), b + 3, row[b + 3]);
+    first & second & third & fourth
+}
+
+// The lowest whole segment of which that is not so; their number where there is none.
+pub fn first_four_wrong(row: &[u16]) -> usize
+    requires { ⌜ length (now row) ≤ 16 ⌝ }
+    ensures { λ r. ⌜ r ≡ firstFourWrong (now (row .entry)) ⌝ }
+{
+    let n = row.len() / 4;
+    let mut s: usize = 0;
+    while s < n {
+        if !is_four_right(row, 4 * s) {
+            return s;
+        }
+        s += 1;
+    }
+    s
 }
