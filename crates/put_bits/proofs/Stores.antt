@@ -198,33 +198,31 @@ module _ (s : List ℕ) (i a m v : ℕ) (b : a + m ≤ 32) where
 -- ---- eight bytes, by two stores of four: the second after the first, or so that it ends with the list
 module _ (s : List ℕ) (i j x : ℕ) (a : i ≤ j) (b : j ≤ i + 4) (l : j + 3 < length s) (e : j < i + 4 → j + 4 ≡ length s) where
   abbrev one : List ℕ
-  one = put s (8 * i) 32 (x % 2 ^ 32)
+  one = put s (8 * i) 32 x
 
   abbrev two : List ℕ
-  two = put one (8 * j) 32 (x / 2 ^ (8 * (j - i)) % 2 ^ 32)
+  two = put one (8 * j) 32 (x / 2 ^ (8 * (j - i)))
 
   in-halves : (k : ℕ) → k < 64 → 8 * i + k < 8 * length s → bit two (8 * i + k) ≡ x / 2 ^ k % 2
   in-halves k m n = go (decLt (8 * i + k) (8 * j)) (decLt (8 * i + k) (8 * j + 32))
     where
       go : Dec (8 * i + k < 8 * j) → Dec (8 * i + k < 8 * j + 32) → bit two (8 * i + k) ≡ x / 2 ^ k % 2
       go (yes h) r =
-          put-before one (8 * j) 32 (x / 2 ^ (8 * (j - i)) % 2 ^ 32) (8 * i + k) h
-          ∙ put-in s (8 * i) 32 (x % 2 ^ 32) k (omega arith) n
-          ∙ inner x k 1 32 (omega arith)
+          put-before one (8 * j) 32 (x / 2 ^ (8 * (j - i))) (8 * i + k) h
+          ∙ put-in s (8 * i) 32 x k (omega arith) n
       go (no h) (yes r) =
           let q = 8 * i + k - 8 * j in
           let f : 8 * j + q ≡ 8 * i + k = omega arith in
           let g : 8 * (j - i) + q ≡ k = omega arith in
-          (rw f at (put-in one (8 * j) 32 (x / 2 ^ (8 * (j - i)) % 2 ^ 32) q (omega arith) (omega (arith, put-length s (8 * i) 32 (x % 2 ^ 32)))))
-          ∙ inner (x / 2 ^ (8 * (j - i))) q 1 32 (omega arith)
+          (rw f at (put-in one (8 * j) 32 (x / 2 ^ (8 * (j - i))) q (omega arith) (omega (arith, put-length s (8 * i) 32 x))))
           ∙ ap (λ (y : ℕ). y % 2) (P.shr-shr x (8 * (j - i)) q)
           ∙ ap (λ (z : ℕ). x / 2 ^ z % 2) g
       go (no h) (no r) = absurd (let t : j + 4 ≡ length s = e (omega arith) in omega arith)
 
-  pub put-halves : put (put s (8 * i) 32 (x % 2 ^ 32)) (8 * j) 32 (x / 2 ^ (8 * (j - i)) % 2 ^ 32) ≡ put s (8 * i) 64 x
+  pub put-halves : put (put s (8 * i) 32 x) (8 * j) 32 (x / 2 ^ (8 * (j - i))) ≡ put s (8 * i) 64 x
   put-halves =
-      is-put s two (8 * i) 64 x (put-small one (8 * j) 32 (x / 2 ^ (8 * (j - i)) % 2 ^ 32))
-      (put-length one (8 * j) 32 (x / 2 ^ (8 * (j - i)) % 2 ^ 32) ∙ put-length s (8 * i) 32 (x % 2 ^ 32))
+      is-put s two (8 * i) 64 x (put-small one (8 * j) 32 (x / 2 ^ (8 * (j - i))))
+      (put-length one (8 * j) 32 (x / 2 ^ (8 * (j - i))) ∙ put-length s (8 * i) 32 x)
       in-halves
       (λ k m. put-before one (8 * j) 32 _ k (omega arith) ∙ put-before s (8 * i) 32 _ k m)
       (λ k m. put-after one (8 * j) 32 _ k (omega arith) ∙ put-after s (8 * i) 32 _ k (omega arith))

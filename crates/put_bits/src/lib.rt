@@ -46,8 +46,8 @@ fn put_parts(d: &mut [u8], at: usize, n: usize, v: u32)
     }
 }
 
-// The 32 bits from the start of byte i made those of w. The four stores compile to one.
-fn put_window(d: &mut [u8], i: usize, w: u32)
+// The 32 bits from the start of byte i made the lowest of w. The four stores compile to one.
+fn put_window(d: &mut [u8], i: usize, w: u64)
     requires { ⌜ (i + 3 < length (now d)) × Small (now d) ⌝ }
     ensures { λ _. ⌜ now (d .exit) ≡ put (now (d .entry)) (8 * i) 32 w ⌝ }
 {
@@ -71,8 +71,17 @@ pub fn put_eight(d: &mut [u8], i: usize, x: u64)
     ensures { λ _. ⌜ now (d .exit) ≡ put (now (d .entry)) (8 * i) 64 x ⌝ }
 {
     let j = half_at(i, d.len());
-    put_window(d, i, (x % 4294967296) as u32);
-    put_window(d, j, ((x >> (8 * (j - i))) % 4294967296) as u32);
+    put_window(d, i, x);
+    put_window(d, j, x >> (8 * (j - i)));
+}
+
+// The same where all eight bytes are there: one store.
+pub fn put_whole(d: &mut [u8], i: usize, x: u64)
+    requires { ⌜ (i + 7 < length (now d)) × (length (now d) < 2 ^ 63) ⌝ }
+    ensures { λ _. ⌜ now (d .exit) ≡ put (now (d .entry)) (8 * i) 64 x ⌝ }
+{
+    put_window(d, i, x);
+    put_window(d, i + 4, x / 4294967296);
 }
 
 // The n bits from `at` made those of v: through one window where its four bytes are there, as `field_at` reads them.
@@ -83,7 +92,7 @@ pub fn put_field(d: &mut [u8], at: usize, n: usize, v: u32)
     let i = at / 8;
     if (n <= 25) & (i + 3 < d.len()) {
         let w = merged(bits::window(d, i), at % 8, n, v);
-        put_window(d, i, w);
+        put_window(d, i, w as u64);
         return;
     }
     put_parts(d, at, n, v);

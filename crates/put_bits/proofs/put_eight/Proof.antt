@@ -14,9 +14,6 @@ use Rattle.put_bits.proofs.put_eight.Tie as tie
 half-at-requires : tie.Need-half-at-requires
 half-at-requires c κs = search needs
 
-cast-put-window : tie.Need-cast-put-window
-cast-put-window c = search needs
-
 put-window-requires : tie.Need-put-window-requires
 put-window-requires c κs = (c .before .before .before .pre .0, record { small = λ j. c .before .before .slice-known .given j .fits })
 
@@ -29,16 +26,13 @@ mul-put-window c = search needs
 shr-put-window : tie.Need-shr-put-window
 shr-put-window c = search needs
 
-cast-put-window-2 : tie.Need-cast-put-window-2
-cast-put-window-2 c = search needs
-
 put-window-requires-2 : tie.Need-put-window-requires-2
 put-window-requires-2 c κs =
     let a = c .before .before .before .before .before .before .before .args in (
       omega (
         arith,
         c .before .before .before .before .before .half-at .ensures .2,
-        put-length (a .d .now) (8 * a .i) 32 (a .x % 4294967296),
+        put-length (a .d .now) (8 * a .i) 32 (a .x),
         ap length
             (c .before .before .before .put-window .ensures),
       ),
@@ -54,7 +48,7 @@ returns c =
     let h = c .before .before .before .before .before .before .before .before .half-at .ensures in
     let j = c .before .before .before .before .before .before .before .before .half-at .result in
     c .before .before .put-window2 .ensures
-    ∙ ap (λ (t : List ℕ). put t (8 * j) 32 (a .x / 2 ^ (8 * (j - a .i)) % 4294967296)) (c .before .before .before .before .before .before .put-window .ensures)
+    ∙ ap (λ (t : List ℕ). put t (8 * j) 32 (a .x / 2 ^ (8 * (j - a .i)))) (c .before .before .before .before .before .before .put-window .ensures)
     ∙ put-halves (a .d .now) (a .i) j (a .x) (h .0) (h .1) (h .2) (h .3)
 
 pub put-eight-spec : {M : Type 1} → statement M
@@ -62,12 +56,10 @@ put-eight-spec =
     tie.close
     (tie.spec
     half-at-requires
-    cast-put-window
     put-window-requires
     sub-put-window
     mul-put-window
     shr-put-window
-    cast-put-window-2
     put-window-requires-2
     same-length
     returns)

@@ -35,6 +35,9 @@ merged-requires c κs =
     let t = fits-window (a .n) (a .at / 8) (length (a .d .now)) (c .before .before .if1 .taken) in
     (omega arith, t .0)
 
+cast-put-window : tie.Need-cast-put-window
+cast-put-window c = search needs
+
 put-window-requires : tie.Need-put-window-requires
 put-window-requires c κs =
     let slice-known = c .before .before .before .before .before .slice-known in
@@ -72,6 +75,7 @@ put-field-spec =
     add-if1
     window-requires
     merged-requires
+    cast-put-window
     put-window-requires
     same-length
     returns
