@@ -41,7 +41,7 @@ fn write_through(
         ≡ channelAfter bandwidth (wordsIn (now (words .entry))) (length (now (cc1 .entry))) (length (now (cc2 .entry))) 2 (now (cc2 .entry)) ⌝ }
 {
     word_bytes::get_words(local, words, n);
-    writer::write(bandwidth, &local[..n], cc1, cc2)
+    writer::write_own(bandwidth, &mut local[..n], cc1, cc2)
 }
 
 #[no_mangle]

@@ -14,18 +14,51 @@ use borrow.Author.Tests.{lt-ltb, le-ltb}
 use Rattle.bits.specs.Bits.{bit, field, put, Small}
 use Rattle.bits.proofs.Bytes.{same-bits}
 use Rattle.bits.proofs.Fields.{bit-end, field-bit, field-lt, field-part, field-split}
-use Rattle.bits.proofs.Windows.{field-low}
+use Rattle.bits.proofs.Windows.{field-rest}
 use Rattle.bits.proofs.Writes.{put-length, put-before, put-in}
 use Rattle.block.specs.Check.{check, Right}
 use Rattle.block.proofs.Word.{check-whole}
 use Rattle.register.specs.Engine.{checkFrom}
 use Rattle.channel.specs.Layout.{common, userAt, blockAt, blocks, covered, endOf}
 use Rattle.channel.proofs.Blocks.{user-even, user-odd}
-use Rattle.candidate.specs.Engine.{joined, sealedOf, Built, ClearedFrom}
+use Rattle.candidate.specs.Engine.{joined, sealedOf, Built, Ends, ClearedFrom}
 
--- ---- more bits
+-- ---- 64 bits stored from `from` on: the channel's n there, which end where more bits do, and zeros
 
-module _ (s d : List ℕ) (at held x w : ℕ) (b : Built s at held d) (e : field s at w ≡ x) (l : w ≤ 54) (h : at + w ≤ 8 * length s) where
+module _ (s d : List ℕ) (at from n end : ℕ) (b : Built s at d) (start : from ≤ at) (stop : from + n ≡ end) (few : 8 * ((end + 7) / 8) ≤ from + 64)
+    (h : end ≤ 8 * length s) where
+  abbrev word : ℕ
+  word = field s from n
+
+  word-past : (k : ℕ) → n ≤ k → word / 2 ^ k % 2 ≡ 0
+  word-past k m =
+      let z : 2 ^ n ≤ 2 ^ k = P.pow-mono {i = n} {j = k} m in
+      ap (λ (v : ℕ). v % 2) (div-eq-of-lt (omega (arith, field-lt s from n))) ∙ zero-mod 2
+
+  at-bit : (k : ℕ) → k < 64 → from + k < 8 * length s → bit (put d from 64 word) (from + k) ≡ word / 2 ^ k % 2
+  at-bit k m o = put-in d from 64 word k m (omega (arith, b .as-long))
+
+  below : (i : ℕ) → i < end → bit (put d from 64 word) i ≡ bit s i
+  below i m = go (decLt i from)
+    where
+      go : Dec (i < from) → bit (put d from 64 word) i ≡ bit s i
+      go (yes o) = put-before d from 64 word i o ∙ b .lower i (omega arith)
+      go (no o) =
+          let z : from + (i - from) ≡ i = omega arith in
+          rw z at (at-bit (i - from) (omega arith) (omega arith) ∙ field-bit s from n (i - from) (omega arith))
+
+  zeros : (i : ℕ) → end ≤ i → i < 8 * ((end + 7) / 8) → bit (put d from 64 word) i ≡ 0
+  zeros i m o =
+      let z : from + (i - from) ≡ i = omega arith in
+      rw z at (at-bit (i - from) (omega arith) (omega arith) ∙ word-past (i - from) (omega arith))
+
+  pub built-stored : Built s end (put d from 64 (field s from n))
+  built-stored = record { as-long = put-length d from 64 word ∙ b .as-long; lower = below; rest = zeros }
+
+-- ---- more bits, joined to what is held of the byte in which they start
+
+module _ (s d : List ℕ) (at held x w : ℕ) (b : Built s at d) (f : held ≡ field s (8 * (at / 8)) (at % 8)) (e : field s at w ≡ x) (l : w ≤ 54)
+    (h : at + w ≤ 8 * length s) where
   abbrev from : ℕ
   from = 8 * (at / 8)
 
@@ -36,67 +69,85 @@ module _ (s d : List ℕ) (at held x w : ℕ) (b : Built s at held d) (e : field
   unfolding joined
   word-is =
       let z : from + at % 8 ≡ at = omega arith in
-      ap₂ (λ (y v : ℕ). y + v * 2 ^ (at % 8)) (b .held-is) (sym e ∙ ap (λ (i : ℕ). field s i w) (sym z)) ∙ sym (field-split s from (at % 8) w)
+      ap₂ (λ (y v : ℕ). y + v * 2 ^ (at % 8)) f (sym e ∙ ap (λ (i : ℕ). field s i w) (sym z)) ∙ sym (field-split s from (at % 8) w)
 
-  word-bit : (k : ℕ) → k < width → joined at held x / 2 ^ k % 2 ≡ bit s (from + k)
-  word-bit k m = ap (λ (y : ℕ). y / 2 ^ k % 2) word-is ∙ field-bit s from width k m
+  pub built-more : Built s (at + w) (put d from 64 (joined at held x))
+  built-more = rw word-is (built-stored s d at from width (at + w) b (omega arith) (omega arith) (omega arith) h)
 
-  word-past : (k : ℕ) → width ≤ k → joined at held x / 2 ^ k % 2 ≡ 0
-  word-past k m =
-      let y : joined at held x < 2 ^ width = rw word-is (field-lt s from width) in
-      let z : 2 ^ width ≤ 2 ^ k = P.pow-mono {i = width} {j = k} m in
-      ap (λ (v : ℕ). v % 2) (div-eq-of-lt (omega arith)) ∙ zero-mod 2
+-- what is held of that byte, by the last ten bits
+pub held-of : (s d : List ℕ) (at ten : ℕ) → Ends s at ten d → 10 ≤ at → ten / 2 ^ (10 - at % 8) ≡ field s (8 * (at / 8)) (at % 8)
+held-of s d at ten b l =
+    let e : at - 10 + (10 - at % 8) ≡ 8 * (at / 8) = omega arith in
+    let f : 10 - (10 - at % 8) ≡ at % 8 = omega arith in
+    ap (λ (y : ℕ). y / 2 ^ (10 - at % 8)) (b .last-ten)
+    ∙ field-rest s (at - 10) 10 (10 - at % 8) (omega arith)
+    ∙ ap₂ (λ (i n : ℕ). field s i n) e f
 
-  at-bit : (k : ℕ) → k < 64 → from + k < 8 * length s → bit (put d from 64 (joined at held x)) (from + k) ≡ joined at held x / 2 ^ k % 2
-  at-bit k m n = put-in d from 64 (joined at held x) k m (omega (arith, b .as-long))
+-- the last ten of w bits more
+pub next-ten : (s : List ℕ) (at w x : ℕ) → field s at w ≡ x → 10 ≤ w → x / 2 ^ (w - 10) ≡ field s (at + w - 10) 10
+next-ten s at w x e l =
+    let f : at + (w - 10) ≡ at + w - 10 = omega arith in
+    let g : w - (w - 10) ≡ 10 = omega arith in
+    ap (λ (y : ℕ). y / 2 ^ (w - 10)) (sym e) ∙ field-rest s at w (w - 10) (omega arith) ∙ ap₂ (λ (i n : ℕ). field s i n) f g
 
-  below : (i : ℕ) → i < at + w → bit (put d from 64 (joined at held x)) i ≡ bit s i
-  below i m = go (decLt i from)
-    where
-      go : Dec (i < from) → bit (put d from 64 (joined at held x)) i ≡ bit s i
-      go (yes n) = put-before d from 64 (joined at held x) i n ∙ b .lower i (omega arith)
-      go (no n) =
-          let z : from + (i - from) ≡ i = omega arith in
-          rw z at (at-bit (i - from) (omega arith) (omega arith) ∙ word-bit (i - from) (omega arith))
+pub pushed : (s d d' : List ℕ) (at ten x w r : ℕ) → Ends s at ten d → field s at w ≡ x → 10 ≤ at → 10 ≤ w → w ≤ 54 → at + w ≤ 8 * length s
+    → r ≡ x / 2 ^ (w - 10) → d' ≡ put d (8 * (at / 8)) 64 (joined at (ten / 2 ^ (10 - at % 8)) x) → Ends s (at + w) r d'
+pushed s d d' at ten x w r b e l m n h f g =
+    record {
+      built = rw g (built-more s d at _ x w (b .built) (held-of s d at ten b l) e n h);
+      last-ten = f ∙ next-ten s at w x e m;
+    }
 
-  zeros : (i : ℕ) → at + w ≤ i → i < 8 * ((at + w + 7) / 8) → bit (put d from 64 (joined at held x)) i ≡ 0
-  zeros i m n =
-      let z : from + (i - from) ≡ i = omega arith in
-      rw z at (at-bit (i - from) (omega arith) (omega arith) ∙ word-past (i - from) (omega arith))
+-- both are less than 2 ^ 10, and the first than its byte has bits there
+pub held-less : (i ten : ℕ) → ten < 2 ^ 10 → ten / 2 ^ (10 - i % 8) < 2 ^ (i % 8)
+held-less i ten l =
+    let e : 10 ≡ i % 8 + (10 - i % 8) = omega arith in
+    P.shr-lt (i % 8) (10 - i % 8) (subst (λ (k : ℕ). ten < 2 ^ k) e l)
 
-  next-held : joined at held x / 2 ^ (8 * (width / 8)) ≡ field s (8 * ((at + w) / 8)) ((at + w) % 8)
-  next-held =
-      let c = 8 * (width / 8) in
-      let f : (at + w) % 8 ≡ width - c = omega arith in
-      let g : from + c ≡ 8 * ((at + w) / 8) = omega arith in
-      let k : width ≡ width - c + c = omega arith in
-      let y : joined at held x < 2 ^ (width - c + c) = subst (λ (n : ℕ). joined at held x < 2 ^ n) k (rw word-is (field-lt s from width)) in
-      sym (mod-eq-of-lt (P.shr-lt (width - c) c y))
-      ∙ ap (λ (v : ℕ). v / 2 ^ c % 2 ^ (width - c)) word-is
-      ∙ field-part s from width c (width - c) (omega arith)
-      ∙ ap₂ (λ (i n : ℕ). field s i n) g (sym f)
+pub ten-less : (w x : ℕ) → 10 ≤ w → x < 2 ^ w → x / 2 ^ (w - 10) < 2 ^ 10
+ten-less w x m l =
+    let e : w ≡ 10 + (w - 10) = omega arith in
+    P.shr-lt 10 (w - 10) (subst (λ (k : ℕ). x < 2 ^ k) e l)
 
-  pub built-more : Built s (at + w) (joined at held x / 2 ^ (8 * (width / 8))) (put d from 64 (joined at held x))
-  built-more = record {
-    as-long = put-length d from 64 (joined at held x) ∙ b .as-long;
-    lower = below;
-    rest = zeros;
-    held-is = next-held;
-  }
+-- a block of two fields, in the eight bytes that end with it
+pub pair-pushed : (s d d' : List ℕ) (at ten x r : ℕ) → Ends s at ten d → field s at 54 ≡ x → 10 ≤ at → at + 54 ≤ 8 * length s
+    → r ≡ x / 2 ^ 44 → d' ≡ put d (8 * ((at + 61) / 8 - 8)) 64 ((ten + x * 2 ^ 10) / 2 ^ (7 - (at + 61) % 8)) → Ends s (at + 54) r d'
+pair-pushed s d d' at ten x r b e l h f g =
+    record {
+      built =
+          rw (g, word)
+          (built-stored s d at (8 * ((at + 61) / 8 - 8)) (64 - k) (at + 54) (b .built) (omega arith) (omega arith) (omega arith) h);
+      last-ten = f ∙ next-ten s at 54 x e (omega arith);
+    }
+  where
+    k : ℕ
+    k = 7 - (at + 61) % 8
 
-pub built-none : (s d : List ℕ) → length d ≡ length s → Built s 0 0 d
-unfolding field
-built-none s d e = record { as-long = e; lower = λ i l. absurd (omega arith); rest = λ i l m. absurd (omega arith); held-is = refl }
+    word : (ten + x * 2 ^ 10) / 2 ^ k ≡ field s (8 * ((at + 61) / 8 - 8)) (64 - k)
+    word =
+        let y : at - 10 + 10 ≡ at = omega arith in
+        let z : at - 10 + k ≡ 8 * ((at + 61) / 8 - 8) = omega arith in
+        ap (λ (v : ℕ). v / 2 ^ k)
+        (ap₂ (λ (a c : ℕ). a + c * 2 ^ 10) (b .last-ten) (sym e ∙ ap (λ (i : ℕ). field s i 54) (sym y)) ∙ sym (field-split s (at - 10) 10 54))
+        ∙ field-rest s (at - 10) 64 k (omega arith)
+        ∙ ap (λ (i : ℕ). field s i (64 - k)) z
 
-pub built-held : (s d : List ℕ) (at held : ℕ) → Built s at held d → held < 2 ^ (at % 8)
-built-held s d at held b = rw (b .held-is) (field-lt s (8 * (at / 8)) (at % 8))
+-- the first bits
+pub built-first : (s d d' : List ℕ) (w x r : ℕ) → length d ≡ length s → field s 0 w ≡ x → 10 ≤ w → w ≤ 54 → w ≤ 8 * length s
+    → r ≡ x / 2 ^ (w - 10) → d' ≡ put d (8 * 0) 64 x → Ends s w r d'
+unfolding field joined
+built-first s d d' w x r n e l m h f g =
+    let z : 0 + w ≡ w = omega arith in
+    let j : joined 0 0 x ≡ x = omega arith in
+    let b : Built s 0 d = record { as-long = n; lower = λ i l. absurd (omega arith); rest = λ i l m. absurd (omega arith) } in
+    record { built = rw (g, ← j) (rw z at (built-more s d 0 0 x w b refl e m (omega arith))); last-ten = f ∙ (rw z at (next-ten s 0 w x e l)) }
 
 -- ---- the last bits, and zeros after them
 
-pub built-all : (s d d' : List ℕ) (at held : ℕ) → Built s at held d → ClearedFrom d ((at + 7) / 8) d' → ((i : ℕ) → at ≤ i → bit s i ≡ 0)
+pub built-all : (s d d' : List ℕ) (at : ℕ) → Built s at d → ClearedFrom d ((at + 7) / 8) d' → ((i : ℕ) → at ≤ i → bit s i ≡ 0)
     → Small s → Small d' → d' ≡ s
 unfolding bit
-built-all s d d' at held b c z p q =
+built-all s d d' at b c z p q =
     same-bits d' s q p (c .same-length ∙ b .as-long) (λ i l. go i (decLt i at) (decLt (i / 8) ((at + 7) / 8)))
   where
     kept : (i : ℕ) → i / 8 < (at + 7) / 8 → bit d' i ≡ bit d i
@@ -139,6 +190,11 @@ sealed-less x n l =
     below c m h k =
         let e : suc c * m ≤ 16 * m = native.Mathlib.Nat.mul-le-mul-right m h in
         omega (arith, native.Mathlib.Nat.suc-mul c m)
+
+-- its check
+pub sealed-check : (x n : ℕ) → x < 2 ^ n → sealedOf x n / 2 ^ n ≡ checkFrom 255 x n
+unfolding sealedOf
+sealed-check x n l = ap (λ (y : ℕ). y / 2 ^ n) (omega arith) ∙ P.high (checkFrom 255 x n) n l
 
 -- the fields of a block of two
 pub pair-field : (s : List ℕ) (bw b f g : ℕ) → field s (userAt bw (2 * b)) 22 ≡ f → field s (userAt bw (2 * b + 1)) 22 ≡ g

@@ -1,17 +1,19 @@
 -- A common field as numbers: the values of nine bits gathered, and that they are a field of the channel.
 use mathlib.Core.Path.{_≡_, refl, sym, _∙_, ap, ap₂}
+use mathlib.Core.Bool.{true}
 use mathlib.Core.List.{List}
 use Prim.Native.Nat.{ℕ, zero, suc, _+_, _*_, _%_, _^_, _≤_, _<_}
 use native.Mathlib.Nat.{mod-lt, mod-eq-of-lt, mul-suc}
 use native.Mathlib.Numerals.{add-one}
 use native.Mathlib.Omega.{arith}
-use lib.Pow.{pow-add, pow-mono, shl-exact}
+use lib.Pow.{pow-add, pow-mono, pow-pos, shl-exact}
+use borrow.Author.Tests.{lt-ltb, le-ltb, ne-eqb}
 use Rattle.answer.specs.Lists.{at}
 use Rattle.bits.specs.Bits.{field}
 use Rattle.bits.proofs.Fields.{field-lt, field-split}
-use Rattle.channel.specs.Layout.{firsts, seconds}
-use Rattle.channel.proofs.Laws.{firsts-le, seconds-le}
-use Rattle.candidate.specs.Engine.{gathered, firstOf, secondOf}
+use Rattle.channel.specs.Layout.{firsts, seconds, firstBits, secondAt, secondBits, hasSecond}
+use Rattle.frame_words.specs.Words.{positionIn}
+use Rattle.candidate.specs.Engine.{gathered, firstOf, secondOf, sealedOf, secondPart}
 
 step-lt : (g v m : ℕ) → g < m → v < 512 → g + v * m < 512 * m
 step-lt g v m l h =
@@ -52,21 +54,6 @@ field-gathered s i x (suc n) h =
     ∙ field-split s i (9 * n) 9
     ∙ ap₂ (λ (a b : ℕ). a + b * 2 ^ (9 * n)) (field-gathered s i x n (λ k l. h k (omega arith))) v
 
-pub first-lt : (bw v : ℕ) (x : ℕ → ℕ) → firstOf bw v x < 2 ^ 35
-unfolding firstOf
-first-lt bw v x =
-    let a : gathered x (firsts bw) < 2 ^ (9 * firsts bw) = gathered-lt x (firsts bw) in
-    let b : 2 ^ (9 * firsts bw) ≤ 2 ^ 18 = pow-mono {i = 9 * firsts bw} {j = 18} (omega (arith, firsts-le bw)) in
-    omega (arith, mod-lt v {m = 2 ^ 17} (omega arith))
-
-pub second-lt : (bw : ℕ) (x : ℕ → ℕ) → secondOf bw x < 2 ^ 54
-unfolding secondOf
-second-lt bw x =
-    let f : ℕ → ℕ = λ k. x (firsts bw + k) in
-    let a : gathered f (seconds bw) < 2 ^ (9 * seconds bw) = gathered-lt f (seconds bw) in
-    let b : 2 ^ (9 * seconds bw) ≤ 2 ^ 54 = pow-mono {i = 9 * seconds bw} {j = 54} (omega (arith, seconds-le bw)) in
-    omega arith
-
 -- a turn of that loop at 64 bits, of at most six values
 pub gathered-turn : (x : ℕ → ℕ) (k : ℕ) → k < 6 → gathered x k + x k % 512 * 2 ^ (9 * k) % 2 ^ 64 ≡ gathered x (k + 1)
 gathered-turn x k l =
@@ -79,15 +66,63 @@ gathered-below x k l =
     let b : 2 ^ (9 * k) ≤ 2 ^ 54 = pow-mono {i = 9 * k} {j = 54} (omega arith) in
     omega arith
 
-pub first-is : (bw v g : ℕ) (x : ℕ → ℕ) → g ≡ gathered x (firsts bw) → v % 131072 + g * 2 ^ 17 % 2 ^ 64 ≡ firstOf bw v x
-unfolding firstOf
-first-is bw v g x e =
-    let l : g < 2 ^ 54 = rw e (gathered-below x (firsts bw) (omega (arith, firsts-le bw))) in
-    let m : gathered x (firsts bw) < 2 ^ (9 * firsts bw) = gathered-lt x (firsts bw) in
-    let b : 2 ^ (9 * firsts bw) ≤ 2 ^ 18 = pow-mono {i = 9 * firsts bw} {j = 18} (omega (arith, firsts-le bw)) in
-    ap (λ (y : ℕ). v % 131072 + y) (shl-exact {a = g} 18 17 64 (omega arith) (omega arith)) ∙ rw e
+-- the first part, by the bandwidth: how many values it has, how many bits its check covers
+pub first-narrow : (bw : ℕ) → bw < 2 → (firsts bw ≡ 1) × (firstBits bw ≡ 26)
+unfolding firsts firstBits
+first-narrow bw l = rw (lt-ltb bw 2 l) (refl, refl)
 
-pub second-is : (bw g p : ℕ) (row : List ℕ) (x : ℕ → ℕ) → ((k : ℕ) → at row (2 * k + p) ≡ x (firsts bw + k))
-    → g ≡ gathered (λ k. at row (2 * k + p)) (seconds bw) → g ≡ secondOf bw x
-unfolding secondOf
-second-is bw g p row x h e = e ∙ gathered-cong (λ k. at row (2 * k + p)) (λ k. x (firsts bw + k)) (seconds bw) (λ k l. h k)
+pub first-wide : (bw : ℕ) → 2 ≤ bw → (firsts bw ≡ 2) × (firstBits bw ≡ 35)
+unfolding firsts firstBits
+first-wide bw l = rw (le-ltb bw 2 l) (refl, refl)
+
+pub first-is : (v g : ℕ) (x : ℕ → ℕ) (n : ℕ) → n ≤ 2 → g ≡ gathered x n
+    → (v % 131072 + g * 2 ^ 17 % 2 ^ 64 < 2 ^ (17 + 9 * n)) × (v % 131072 + g * 2 ^ 17 % 2 ^ 64 ≡ v % 2 ^ 17 + gathered x n * 2 ^ 17)
+first-is v g x n l e =
+    let m : gathered x n < 2 ^ (9 * n) = gathered-lt x n in
+    let b : 2 ^ (9 * n) ≤ 2 ^ 18 = pow-mono {i = 9 * n} {j = 18} (omega arith) in
+    let p : 2 ^ (17 + 9 * n) ≡ 2 ^ 17 * 2 ^ (9 * n) = pow-add 2 17 (9 * n) in
+    let f : v % 131072 + g * 2 ^ 17 % 2 ^ 64 ≡ v % 2 ^ 17 + gathered x n * 2 ^ 17 =
+    ap (λ (y : ℕ). v % 131072 + y) (shl-exact {a = g} 18 17 64 (omega arith) (omega arith)) ∙ rw e in
+    (rw (f, p) (omega (arith, mod-lt v {m = 2 ^ 17} (omega arith))), f)
+
+pub first-less : (bw v : ℕ) (x : ℕ → ℕ) → firstOf bw v x < 2 ^ firstBits bw
+unfolding firstOf firstBits
+first-less bw v x =
+    let n = firsts bw in
+    let m : gathered x n < 2 ^ (9 * n) = gathered-lt x n in
+    rw (pow-add 2 17 (9 * n)) (omega (arith, mod-lt v {m = 2 ^ 17} (omega arith)))
+
+pub second-less : (bw : ℕ) (x : ℕ → ℕ) → secondOf bw x < 2 ^ secondBits bw
+unfolding secondOf secondBits
+second-less bw x = gathered-lt (λ k. x (firsts bw + k)) (seconds bw)
+
+-- a part with its check leaves its tail's room
+wider : (r n m : ℕ) → r < 2 ^ (n + 4) → n + 10 ≡ m → r < 2 ^ m
+wider r n m l e = let b : 2 ^ (n + 4) ≤ 2 ^ m = pow-mono {i = n + 4} {j = m} (omega arith) in omega arith
+
+pub first-of-is : (bw v : ℕ) (x : ℕ → ℕ) (n m g r : ℕ) → firsts bw ≡ n → firstBits bw ≡ m → g ≡ v % 2 ^ 17 + gathered x n * 2 ^ 17 → r < 2 ^ (m + 4)
+    → r ≡ sealedOf g m → (r < 2 ^ secondAt bw) × (r ≡ sealedOf (firstOf bw v x) (firstBits bw))
+unfolding firstOf secondAt
+first-of-is bw v x n m g r e f q l h = (wider r m (firstBits bw + 10) l (omega arith), rw (e, f) (h ∙ rw q))
+
+-- the second, of the values after the first part's
+pub second-three : (bw : ℕ) → bw ≡ 3 → (firsts bw ≡ 2) × (seconds bw ≡ 2) × (secondBits bw ≡ 18) × (hasSecond bw ≡ true)
+unfolding firsts seconds secondBits hasSecond
+second-three bw e = rw e (refl, refl, refl, refl)
+
+pub second-four : (bw : ℕ) → bw ≡ 4 → (firsts bw ≡ 2) × (seconds bw ≡ 6) × (secondBits bw ≡ 54) × (hasSecond bw ≡ true)
+unfolding firsts seconds secondBits hasSecond
+second-four bw e = rw e (refl, refl, refl, refl)
+
+pub second-part-is : (bw : ℕ) (row : List ℕ) (c n m g r : ℕ) → (firsts bw ≡ 2) × (seconds bw ≡ n) × (secondBits bw ≡ m) × (hasSecond bw ≡ true) → 1 ≤ c
+    → g ≡ gathered (λ k. at row (2 * k + (3 + c))) n → r < 2 ^ (m + 4) → r ≡ sealedOf g m
+    → (r < 2 ^ (secondBits bw + 10)) × (r ≡ secondPart bw (λ k. at row (positionIn c k)))
+unfolding secondPart secondOf
+second-part-is bw row c n m g r e o q l h =
+    let p : gathered (λ k. at row (2 * k + (3 + c))) n ≡ gathered (λ k. at row (positionIn c (2 + k))) n =
+    gathered-cong (λ k. at row (2 * k + (3 + c))) (λ k. at row (positionIn c (2 + k))) n (λ k l. ap (at row) (omega arith)) in
+    (wider r m (secondBits bw + 10) l (omega (arith, e .2)), rw (e .0, e .1, e .2, e .3) (h ∙ ap (λ (y : ℕ). sealedOf y m) (q ∙ p)))
+
+pub second-none : (bw : ℕ) (x : ℕ → ℕ) → (bw ≡ 3 → ⊥) → (bw ≡ 4 → ⊥) → (0 < 2 ^ (secondBits bw + 10)) × (0 ≡ secondPart bw x)
+unfolding secondPart hasSecond seconds
+second-none bw x p q = (pow-pos (secondBits bw + 10), rw (ne-eqb bw 3 p, ne-eqb bw 4 q) refl)

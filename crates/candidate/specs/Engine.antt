@@ -6,15 +6,15 @@
 use mathlib.Core.Path.{_≡_}
 use mathlib.Core.Bool.{true, cond}
 use mathlib.Core.List.{List}
-use Prim.Native.Nat.{ℕ, zero, suc, _+_, _*_, _/_, _%_, _^_, _≤_, _<_}
+use Prim.Native.Nat.{ℕ, zero, suc, _+_, _-_, _*_, _/_, _%_, _^_, _≤_, _<_}
 use lib.Dec.{eqb}
 use lib.ListN.{length, replicate}
-use Rattle.bits.specs.Bits.{bit, field, put}
+use Rattle.bits.specs.Bits.{bit, field, put, Small}
 use Rattle.register.specs.Engine.{checkFrom}
 use Rattle.block.specs.Check.{check}
 use Rattle.resource.specs.Values.{fieldsOf}
 use Rattle.channel.specs.Layout.{present, firsts, seconds, firstBits, secondAt, secondBits, hasSecond, subfieldsIn, valueAt, total, userAt, blockAt, blocks}
-use Rattle.channel.specs.Layout.{covered}
+use Rattle.channel.specs.Layout.{covered, endOf}
 use Rattle.answer.specs.Lists.{at}
 use Rattle.words.specs.Engine.{overflowOf, valueOf, userField}
 use Rattle.frame_words.specs.Words.{positionIn}
@@ -108,12 +108,44 @@ joined i held x = held + x * 2 ^ (i % 8)
 unfoldable pub sealedOf : ℕ → ℕ → ℕ
 sealedOf x n = x + checkFrom 255 x n * 2 ^ n
 
--- d has the first i bits of the channel s, and zeros up to the end of the byte; of this byte's bits those before i are held in a number too
-pub record Built (s : List ℕ) (i held : ℕ) (d : List ℕ) : Type 0 where
+-- the second part of a common field with its check, none where there is none
+unfoldable pub secondPart : ℕ → (ℕ → ℕ) → ℕ
+secondPart bw x = cond (hasSecond bw) (sealedOf (secondOf bw x) (secondBits bw)) 0
+
+-- those of channel c
+unfoldable pub firstPartIn : ℕ → List ℕ → ℕ → ℕ
+firstPartIn bw w c = sealedOf (firstOf bw (overflowIn w) (valueIn w c)) (firstBits bw)
+
+unfoldable pub secondPartIn : ℕ → List ℕ → ℕ → ℕ
+secondPartIn bw w c = secondPart bw (valueIn w c)
+
+-- d has the first i bits of the channel s, and zeros up to the end of the byte
+pub record Built (s : List ℕ) (i : ℕ) (d : List ℕ) : Type 0 where
   pub as-long : length d ≡ length s
   pub lower : (j : ℕ) → j < i → bit d j ≡ bit s j
   pub rest : (j : ℕ) → i ≤ j → j < 8 * ((i + 7) / 8) → bit d j ≡ 0
-  pub held-is : held ≡ field s (8 * (i / 8)) (i % 8)
+
+-- and the last ten of them are held in a number
+pub record Ends (s : List ℕ) (i ten : ℕ) (d : List ℕ) : Type 0 where
+  pub built : Built s i d
+  pub last-ten : ten ≡ field s (i - 10) 10
+
+-- every number is one of 22 bits
+pub record Narrow (f : List ℕ) : Type 0 where
+  pub narrow : (i : ℕ) → at f i < 2 ^ 22
+
+-- s has blocks of these User fields, with their checks and tails
+pub record Blocks (bw : ℕ) (f s : List ℕ) : Type 0 where
+  pub pairs : (b : ℕ) → 2 * b + 1 < length f → field s (blockAt bw b) 54 ≡ sealedOf (at f (2 * b) + at f (2 * b + 1) * 2 ^ 22) 44
+  pub last : length f % 2 ≡ 1 → field s (blockAt bw (length f / 2)) 32 ≡ sealedOf (at f (length f - 1)) 22
+
+-- s has these parts and User fields, and zeros after them
+pub record Made (bw first second : ℕ) (f s : List ℕ) : Type 0 where
+  pub the-first : field s 0 (secondAt bw) ≡ first
+  pub the-second : hasSecond bw ≡ true → field s (secondAt bw) (secondBits bw + 10) ≡ second
+  pub the-blocks : Blocks bw f s
+  pub past : (i : ℕ) → endOf bw (length f) ≤ i → bit s i ≡ 0
+  pub bytes : Small s
 
 -- e is d with zeros from byte k on
 pub record ClearedFrom (d : List ℕ) (k : ℕ) (e : List ℕ) : Type 0 where
@@ -121,18 +153,14 @@ pub record ClearedFrom (d : List ℕ) (k : ℕ) (e : List ℕ) : Type 0 where
   pub before : (i : ℕ) → i < k → at e i ≡ at d i
   pub past : (i : ℕ) → k ≤ i → at e i ≡ 0
 
--- what is lent for channel c: a bandwidth that has it, words with its row, and its bytes
-pub record Lent (bw : ℕ) (w row : List ℕ) (c : ℕ) (d : List ℕ) : Type 0 where
+-- what is told of channel c: a bandwidth that has it, and words with its row
+pub record Lent (bw : ℕ) (w row : List ℕ) (c : ℕ) : Type 0 where
   pub known : bw ≤ 4
   pub first-or-second : (1 ≤ c) × (c ≤ 2)
   pub there : present bw c ≡ true
   pub the-row : (k : ℕ) → k < subfieldsIn bw c → (positionIn c k < length row) × (at row (positionIn c k) ≡ valueIn w c k)
-  pub the-bytes : length d ≡ bytesIn bw w c
 
--- its n User fields have their words from `first` on
-pub record Users (bw : ℕ) (w : List ℕ) (c first n : ℕ) : Type 0 where
-  pub counted : n ≡ countIn bw w c
-  pub starts : first ≡ firstIn bw w c
-  pub few : n ≤ 72
-  pub early : first ≤ 82
-  pub inside : first + n ≤ length w
+-- f are its User fields, as numbers
+pub record FieldsIn (bw : ℕ) (w : List ℕ) (c : ℕ) (f : List ℕ) : Type 0 where
+  pub counted : length f ≡ countIn bw w c
+  pub each : (i : ℕ) → i < length f → at f i ≡ fieldIn bw w c i

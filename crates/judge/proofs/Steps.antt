@@ -1,32 +1,31 @@
 -- The steps of the judgement, for the code.
 use mathlib.Core.Path.{_≡_, refl, sym, _∙_, ap}
-use mathlib.Core.Bool.{Bool, true, false, _&&_, true≢false}
+use mathlib.Core.Bool.{Bool, true, false, cond, _&&_, true≢false}
 use mathlib.Core.List.{List}
 use mathlib.Core.Logic.{⊎-elim}
 use Prim.Native.Nat.{ℕ, zero, suc, _+_, _-_, _*_, _/_, _%_, _^_, _≤_, _<_}
 use native.Mathlib.Decide.{decLt, ℕ-discrete}
-use native.Mathlib.Nat.{div-one}
+use native.Mathlib.Nat.{div-one, zero-div}
 use native.Mathlib.Omega.{arith}
-use lib.Dec.{eqb}
+use lib.Dec.{eqb, ltb}
 use lib.ListN.{length, getD, set, take, length-set}
 use lib.Seq.{getD-set-same, getD-set-other, getD-take, length-take-le}
-use borrow.Author.Tests.{eq-eqb, eqb-true, ne-eqb}
+use borrow.Author.Tests.{eq-eqb, eqb-true, ne-eqb, ltb-true, ltb-false}
 use Rattle.answer.specs.Decides.{Decides}
 use Rattle.answer.specs.Every.{every}
 use Rattle.answer.specs.Lists.{at, Front}
 use Rattle.answer.proofs.Every.{both-left, both-right, every-next, every-at, all-every}
 use Rattle.answer.proofs.Lists.{build-is, length-build, getD-build}
 use Rattle.register.specs.Engine.{checkFrom}
-use Rattle.channel.specs.Layout.{positions, firstBits, firsts, seconds, subfields, subfieldsIn}
-use Rattle.channel.proofs.Counts.{halves}
-use Rattle.channel.proofs.Laws.{present-1, place-1}
+use Rattle.channel.specs.Layout.{positions, present, firstBits, secondBits, seconds, hasSecond, subfieldsIn}
+use Rattle.channel.proofs.Laws.{present-1, place-1, place-2}
 use Rattle.header_values.specs.Header.{known}
 use Rattle.words.specs.Words.{secondWord}
 use Rattle.words.specs.Engine.{valueOf}
 use Rattle.frame_words.specs.Words.{positionIn}
-use Rattle.candidate.specs.Engine.{gathered, firstOf, secondOf, overflowIn, valueIn}
-use Rattle.candidate.proofs.Held.{all-subfields, holds-1}
-use Rattle.candidate.proofs.Numbers.{gathered-cong}
+use Rattle.candidate.specs.Engine.{firstOf, secondOf, sealedOf, secondPart, firstPartIn, secondPartIn, Lent, overflowIn, valueIn}
+use Rattle.candidate.proofs.Joined.{sealed-check}
+use Rattle.candidate.proofs.Numbers.{first-less, second-less}
 use Rattle.judge.specs.Engine.{Overflow, firstFrom, threeFrom, Header, rowIn, firstCheck, secondCheck, Checked}
 use Rattle.judge.proofs.Words.{decides, both}
 
@@ -147,36 +146,65 @@ row-front bw w r n e l p =
     rw (← e)
     (build-is (valueOf w) 0 (take n r) n (length-take-le n r l) (λ i m. getD-take n r i 0 m ∙ p .front i (omega arith)))
 
--- ---- the numbers of channel 1's common field, by the row
+-- ---- the second part is there at 160 and 320 MHz
+
+has-none : (bw : ℕ) → bw < 3 → hasSecond bw ≡ false
+unfolding hasSecond seconds
+has-none bw l = rw (ne-eqb bw 3 (λ e. omega arith), ne-eqb bw 4 (λ e. omega arith))
+
+pub has-second : (bw : ℕ) → 3 ≤ bw → bw ≤ 4 → hasSecond bw ≡ true
+unfolding hasSecond seconds
+has-second bw h l = go (decLt bw 4)
+  where
+    go : Dec (bw < 4) → ltb 0 (cond (eqb bw 3) 2 (cond (eqb bw 4) 6 0)) ≡ true
+    go (yes m) = let e : bw ≡ 3 = omega arith in rw e refl
+    go (no m) = let e : bw ≡ 4 = omega arith in rw e refl
+
+-- ---- what the row tells
 
 pub row-size : (bw : ℕ) (w : List ℕ) → length (rowIn bw w) ≡ positions bw
 unfolding rowIn
 row-size bw w = length-build (valueOf w) (positions bw)
 
-pub room-for : (bw : ℕ) (w : List ℕ) (r : List ℕ) → bw ≤ 4 → r ≡ rowIn bw w → 2 * subfields bw + 1 ≤ length r + 2
-unfolding subfieldsIn
-room-for bw w r l e =
-    let h : (positions bw + 1) / 2 ≡ subfields bw = rw (present-1 bw) at (halves bw l .0) in
-    rw (e, row-size bw w) (omega arith)
-
-on-row : (bw : ℕ) (w : List ℕ) (r : List ℕ) (k : ℕ) → bw ≤ 4 → r ≡ rowIn bw w → k < subfields bw → at r (positionIn 1 k) ≡ valueIn w 1 k
+-- what is told of a channel
+pub lent : (bw : ℕ) (w row : List ℕ) (c : ℕ) → bw ≤ 4 → 1 ≤ c → c ≤ 2 → present bw c ≡ true → row ≡ rowIn bw w → Lent bw w row c
 unfolding valueIn rowIn
-on-row bw w r k l e m =
-    let h : k < subfieldsIn bw 1 = rw (all-subfields bw w 1 (holds-1 bw w)) m in
-    rw e (getD-build (valueOf w) (positions bw) (positionIn 1 k) 0 (omega (arith, place-1 bw k l h)))
+lent bw w row c l p q h e = record {
+  known = l;
+  first-or-second = (p, q);
+  there = h;
+  the-row = λ k m. (rw (e, length-build (valueOf w) (positions bw)) (place k m), rw e (getD-build (valueOf w) (positions bw) (positionIn c k) 0 (place k m)));
+}
+  where
+    place : (k : ℕ) → k < subfieldsIn bw c → positionIn c k < positions bw
+    place k m = go (ℕ-discrete c 1)
+      where
+        one : (c : ℕ) → c ≡ 1 → k < subfieldsIn bw c → positionIn c k < positions bw
+        one c z n = let o : k < subfieldsIn bw 1 = rw z at n in rw z (omega (arith, place-1 bw k l o))
 
-pub first-on-row : (bw : ℕ) (w : List ℕ) (r : List ℕ) (v : ℕ) → bw ≤ 4 → r ≡ rowIn bw w → firstOf bw v (λ k. at r (positionIn 1 k)) ≡ firstOf bw v (valueIn w 1)
-unfolding firstOf subfields
-first-on-row bw w r v l e =
-    ap (λ (g : ℕ). v % 2 ^ 17 + g * 2 ^ 17)
-    (gathered-cong (λ k. at r (positionIn 1 k)) (valueIn w 1) (firsts bw) (λ k m. on-row bw w r k l e (unfold subfields in omega arith)))
+        two : (c : ℕ) → c ≡ 2 → k < subfieldsIn bw c → positionIn c k < positions bw
+        two c z n = let o : k < subfieldsIn bw 2 = rw z at n in rw z (omega (arith, place-2 bw k l o))
 
-pub second-on-row : (bw : ℕ) (w : List ℕ) (r : List ℕ) → bw ≤ 4 → r ≡ rowIn bw w → secondOf bw (λ k. at r (positionIn 1 k)) ≡ secondOf bw (valueIn w 1)
-unfolding secondOf
-second-on-row bw w r l e =
-    gathered-cong (λ k. at r (positionIn 1 (firsts bw + k))) (λ k. valueIn w 1 (firsts bw + k)) (seconds bw)
-    (λ k m. on-row bw w r (firsts bw + k) l e (unfold subfields in omega arith))
+        go : Dec (c ≡ 1) → positionIn c k < positions bw
+        go (yes z) = one c z m
+        go (no z) = two c (omega arith) m
 
-pub first-check : (bw : ℕ) (w : List ℕ) (x n : ℕ) → x ≡ firstOf bw (overflowIn w) (valueIn w 1) → n ≡ firstBits bw → checkFrom 255 x n ≡ firstCheck bw w
-unfolding firstCheck
-first-check bw w x n e f = rw (e, f)
+pub lent-1 : (bw : ℕ) (w row : List ℕ) → bw ≤ 4 → row ≡ rowIn bw w → Lent bw w row 1
+lent-1 bw w row l e = lent bw w row 1 l (omega arith) (omega arith) (present-1 bw) e
+
+-- ---- the checks, of its parts
+
+pub first-check : (bw : ℕ) (w : List ℕ) (x n : ℕ) → x ≡ firstPartIn bw w 1 → n ≡ firstBits bw → x / 2 ^ n ≡ firstCheck bw w
+unfolding firstPartIn firstCheck
+first-check bw w x n e f = rw (e, f) (sealed-check (firstOf bw (overflowIn w) (valueIn w 1)) (firstBits bw) (first-less bw (overflowIn w) (valueIn w 1)))
+
+pub second-check : (bw : ℕ) (w : List ℕ) (y n : ℕ) → bw ≤ 4 → y ≡ secondPartIn bw w 1 → n ≡ secondBits bw → y / 2 ^ n ≡ secondWord bw (secondCheck bw w)
+unfolding secondPartIn secondPart secondCheck secondWord
+second-check bw w y n l e f = rw (e, f) (go (ltb bw 3) refl)
+  where
+    x : ℕ
+    x = secondOf bw (valueIn w 1)
+
+    go : (t : Bool) → ltb bw 3 ≡ t → cond (hasSecond bw) (sealedOf x (secondBits bw)) 0 / 2 ^ secondBits bw ≡ cond t 0 (checkFrom 255 x (secondBits bw))
+    go true g = rw (has-none bw (ltb-true bw 3 g)) (zero-div (2 ^ secondBits bw))
+    go false g = rw (has-second bw (ltb-false bw 3 g) l) (sealed-check x (secondBits bw) (second-less bw (valueIn w 1)))

@@ -58,7 +58,7 @@ use Rattle.judge.specs.Engine.{formatted, formatIn, Formatted, stationOn
 use Rattle.candidate.proofs.Said.{said-overflow, said-field}
 use Rattle.judge.proofs.Said.{first-ten, second-ten, count-1, count-2, row-is}
 use Rattle.judge.proofs.Words.{decides, both, few-size, top-part, formatted-made, made-formatted, station-bits}
-use Rattle.judge.proofs.Steps.{value-at}
+use Rattle.judge.proofs.Steps.{value-at, has-second}
 use Rattle.plan.proofs.Carried.{plan-carried}
 use Rattle.judge.proofs.Sealed.{candidate-sealed}
 
@@ -87,14 +87,6 @@ overflow-top v t l =
 check-small : (r x n : ℕ) → checkFrom r x n < 2 ^ 10
 unfolding checkFrom
 check-small r x n = omega arith
-
-has-second : (bw : ℕ) → 3 ≤ bw → bw ≤ 4 → hasSecond bw ≡ true
-unfolding hasSecond seconds
-has-second bw h l = go (decLt bw 4)
-  where
-    go : Dec (bw < 4) → ltb 0 (cond (eqb bw 3) 2 (cond (eqb bw 4) 6 0)) ≡ true
-    go (yes m) = let e : bw ≡ 3 = omega arith in rw e refl
-    go (no m) = let e : bw ≡ 4 = omega arith in rw e refl
 
 module _ (bw : ℕ) (w : List ℕ) (l : bw ≤ 4) where
   abbrev a : List ℕ

@@ -13,14 +13,14 @@ use Rattle.answer.specs.Least.{least}
 use Rattle.answer.specs.Lists.{build, at}
 use Rattle.register.specs.Engine.{checkFrom}
 use Rattle.plan.specs.Engine.{planOutcome}
-use Rattle.channel.specs.Layout.{positions, firstBits, secondBits}
+use Rattle.channel.specs.Layout.{positions, firstBits, secondAt, secondBits}
 use Rattle.stations.specs.Engine.{anyRepeated}
 use Rattle.header_values.specs.Header.{known}
 use Rattle.words.specs.Words.{overflowWord, secondWord}
 use Rattle.words.specs.Engine.{overflowOf, valueOf}
 use Rattle.halves.specs.Table.{outcome11}
 use Rattle.frame_words.specs.Words.{positionIn, giver, sharedAt, wordsOf}
-use Rattle.candidate.specs.Engine.{firstOf, secondOf, overflowIn, valueIn, countIn, candidate}
+use Rattle.candidate.specs.Engine.{firstOf, secondOf, firstPartIn, secondPartIn, overflowIn, valueIn, countIn, candidate}
 
 -- whether two lists of words are the same: as long, and different nowhere
 unfoldable pub unlike : List ℕ → List ℕ → ℕ → Bool
@@ -73,6 +73,12 @@ secondCheck bw w = checkFrom 255 (secondOf bw (valueIn w 1)) (secondBits bw)
 pub record Checked (bw : ℕ) (w : List ℕ) : Type 0 where
   pub first : at w 1 / 2 ^ 22 ≡ firstCheck bw w
   pub second : at w 8 ≡ secondWord bw (secondCheck bw w)
+
+-- numbers that begin the writing of what they tell: the overflow, and the parts of channel 1's common field
+pub record Begun (bw : ℕ) (w : List ℕ) (v x y : ℕ) : Type 0 where
+  pub the-overflow : v ≡ overflowIn w
+  pub the-first : (x < 2 ^ secondAt bw) × (x ≡ firstPartIn bw w 1)
+  pub the-second : (y < 2 ^ (secondBits bw + 10)) × (y ≡ secondPartIn bw w 1)
 
 -- ---- the User words
 

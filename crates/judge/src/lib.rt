@@ -13,18 +13,20 @@ ghost use Rattle.answer.specs.Lists.{at, Front};
 ghost use Rattle.channel.specs.Layout.{positions};
 ghost use Rattle.stations.specs.Stations.{repeated};
 ghost use Rattle.stations.specs.Engine.{anyRepeated};
-ghost use Rattle.words.specs.Words.{secondWord};
 ghost use Rattle.words.specs.Engine.{valueOf};
 ghost use Rattle.frame_words.specs.Engine.{Formats};
-ghost use Rattle.candidate.specs.Engine.{countIn, candidate};
-ghost use Rattle.judge.specs.Engine.{readsTo, Overflow, firstFrom, threeFrom, Header, rowIn, secondCheck, Checked};
+ghost use Rattle.candidate.specs.Engine.{firstPartIn, secondPartIn, countIn, candidate};
+ghost use Rattle.judge.specs.Engine.{readsTo, Overflow, firstFrom, threeFrom, Header, rowIn, Checked, Begun};
 ghost use Rattle.judge.specs.Engine.{formatted, formatIn, Formatted, stationOn};
 
-// Whether the words are told, and then the User fields of each channel.
+// Whether the words are told; and then the User fields of each channel, the overflow, and the parts of channel 1's common field.
 pub struct Verdict {
     pub told: bool,
     pub fields1: usize,
     pub fields2: usize,
+    pub overflow: u32,
+    pub first: u64,
+    pub second: u64,
 }
 
 // ---- the first ten words
@@ -110,27 +112,13 @@ pub fn take_row(row: &mut [u16; 16], bw: u32, words: &[u32]) -> bool
     true
 }
 
-// data[7], of the row.
-fn second_word(bw: u32, row: &[u16], words: &[u32]) -> u32
-    requires { ⌜ (bw ≤ 4) × (now row ≡ rowIn bw (now words)) ⌝ }
-    ensures { λ r. ⌜ r ≡ secondWord bw (secondCheck bw (now (words .entry))) ⌝ }
-{
-    if bw < 3 {
-        return 0;
-    }
-    let x = candidate::second_of(bw, row, 1);
-    register::check_of(255, x, channel::second_bits(bw))
-}
-
-// The checks are those of channel 1.
-fn are_checked(bw: u32, row: &[u16], words: &[u32]) -> bool
-    requires { ⌜ (bw ≤ 4) × (10 ≤ length (now words)) × (now row ≡ rowIn bw (now words)) ⌝ }
+// The checks are those of channel 1, of which these are the parts.
+fn are_checked(bw: u32, words: &[u32], first: u64, second: u64) -> bool
+    requires { ⌜ (bw ≤ 4) × (10 ≤ length (now words)) × (first ≡ firstPartIn bw (now words) 1) × (second ≡ secondPartIn bw (now words) 1) ⌝ }
     ensures { λ r. ⌜ Decides r (Checked bw (now (words .entry))) ⌝ }
 {
-    let x = candidate::first_of(bw, words::overflow_of(words[1]), row, 1);
-    let first = register::check_of(255, x, channel::first_bits(bw));
-    let second = second_word(bw, row, words);
-    (words[1] / 4194304 == first) & (words[8] == second)
+    ((words[1] / 4194304) as u64 == first >> channel::first_bits(bw))
+        & (words[8] as u64 == second >> channel::second_bits(bw))
 }
 
 // ---- the User words
@@ -282,6 +270,9 @@ fn untold() -> Verdict
         told: false,
         fields1: 0,
         fields2: 0,
+        overflow: 0,
+        first: 0,
+        second: 0,
     }
 }
 
@@ -289,9 +280,13 @@ fn untold() -> Verdict
 pub fn judge(bw: u32, words: &[u32], row: &[u16]) -> Verdict
     requires { ⌜ (bw ≤ 4) × (10 ≤ length (now words)) × Header bw (positions bw) (now words) × (now row ≡ rowIn bw (now words)) ⌝ }
     ensures { λ r. ⌜ r .told ≡ readsTo bw (candidate bw (now (words .entry)) 1) (candidate bw (now (words .entry)) 2) (now (words .entry)) ⌝ }
-    ensures { λ r. ⌜ (r .told ≡ true → (r .fields1 ≡ countIn bw (now (words .entry)) 1) × (r .fields2 ≡ countIn bw (now (words .entry)) 2)) ⌝ }
+    ensures { λ r. ⌜ (r .told ≡ true → (r .fields1 ≡ countIn bw (now (words .entry)) 1) × (r .fields2 ≡ countIn bw (now (words .entry)) 2)
+        × Begun bw (now (words .entry)) (r .overflow) (r .first) (r .second)) ⌝ }
 {
-    if !are_checked(bw, row, words) {
+    let overflow = words::overflow_of(words[1]);
+    let first = candidate::first_part(bw, overflow, row, 1);
+    let second = candidate::second_part(bw, row, 1);
+    if !are_checked(bw, words, first, second) {
         return untold();
     }
     let plan = plan::plan_of(row);
@@ -311,5 +306,8 @@ pub fn judge(bw: u32, words: &[u32], row: &[u16]) -> Verdict
         told: !any_again(words, n + m),
         fields1: n,
         fields2: m,
+        overflow,
+        first,
+        second,
     }
 }

@@ -2,3 +2,4 @@ pub mod Worked
 pub mod Room
 pub mod Result
 pub mod Inverse
+pub mod Engine

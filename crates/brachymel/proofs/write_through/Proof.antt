@@ -13,17 +13,17 @@ use Rattle.brachymel.proofs.write_through.Tie as tie
 get-words-requires : tie.Need-get-words-requires
 get-words-requires c κs = search needs
 
-slice-reshare-prefix-write : tie.Need-slice-reshare-prefix-write
-slice-reshare-prefix-write c = search needs
+slice-relend-prefix-write-own : tie.Need-slice-relend-prefix-write-own
+slice-relend-prefix-write-own c = search needs
 
-slice-aggregate-write : tie.Need-slice-aggregate-write
-slice-aggregate-write c =
+slice-aggregate-write-own : tie.Need-slice-aggregate-write-own
+slice-aggregate-write-own c =
     let s = c .before .before .before .before .before .before .before .before .before .args in
     let l = ap length (c .before .before .before .get-words .ensures) ∙ filled-length (wordAt (s .words .now)) (s .n) (s .local .now) (omega arith) in
     sym (length-take-le (s .n) _ (omega arith))
 
-write-requires : tie.Need-write-requires
-write-requires c κs = search needs
+write-own-requires : tie.Need-write-own-requires
+write-own-requires c κs = search needs
 
 same-length : tie.Need-same-length
 same-length c = search needs
@@ -36,21 +36,22 @@ same-length-3 c = search needs
 
 returns : tie.Need-returns
 returns c =
-    let pre = c .before .before .before .before .before .before .before .before .before .before .before .before .before .before .before .before .pre in
-    let get-words = c .before .before .before .before .before .before .before .before .before .before .get-words in
-    let s = c .before .before .before .before .before .before .before .before .before .before .before .before .before .before .before .before .args in
+    let f = c .before .before .before .before .before .before .before .before .before .before .before .before in
+    let get-words = f .get-words in
+    let pre = f .before .before .before .before .before .before .pre in
+    let s = f .before .before .before .before .before .before .args in
     let e =
     ap (take (s .n)) (get-words .ensures) ∙ take-filled (wordAt (s .words .now)) (s .n) (s .local .now) ∙ ap (build (wordAt (s .words .now))) (pre .1) in
-    rw e at (c .before .before .before .before .write .ensures)
+    rw e at (c .before .before .before .before .before .before .write-own .ensures)
 
 pub write-through-spec : {M : Type 1} → statement M
 write-through-spec =
     tie.close
     (tie.spec
     get-words-requires
-    slice-reshare-prefix-write
-    slice-aggregate-write
-    write-requires
+    slice-relend-prefix-write-own
+    slice-aggregate-write-own
+    write-own-requires
     same-length
     same-length-2
     same-length-3

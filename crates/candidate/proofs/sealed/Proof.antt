@@ -1,6 +1,6 @@
 -- `candidate::sealed` meets its contract.
 use native.Mathlib.Omega.{arith}
-use Rattle.candidate.proofs.Joined.{sealed-word}
+use Rattle.candidate.proofs.Joined.{sealed-word, sealed-less}
 use borrow.Author.Needs.{needs}
 use Rattle.candidate.proofs.sealed.Statement.{statement}
 use Rattle.candidate.proofs.sealed.Tie as tie
@@ -24,7 +24,7 @@ returns : tie.Need-returns
 returns c =
     let a = c .before .args in
     let e = sealed-word (a .x) (a .n) (c .check-of .result) (c .before .pre .0) (c .before .pre .1) (c .check-of .ensures) in
-    (rw (e .0) (e .1), e .0)
+    (rw (e .0) (sealed-less (a .x) (a .n) (c .before .pre .1)), e .0)
 
 pub sealed-spec : {M : Type 1} → statement M
 sealed-spec = tie.close (tie.spec check-of-requires cast-result shl-result add-result returns)

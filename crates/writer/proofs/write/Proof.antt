@@ -1,15 +1,13 @@
 -- `writer::write` meets its contract.
 use Prim.Native.Nat.{_≤_}
-use mathlib.Core.Path.{sym, _∙_}
+use mathlib.Core.Path.{refl, sym, _∙_, ap}
 use native.Mathlib.Omega.{arith}
-use lib.ListN.{length}
+use lib.ListN.{length, take}
 use lib.Seq.{length-take-le}
-use borrow.Author.Tests.{not-true, not-false}
-use Rattle.judge.specs.Engine.{Told}
-use Rattle.judge.proofs.Steps.{row-front}
-use Rattle.judge.proofs.Told.{not-told}
+use Rattle.answer.specs.Lists.{at}
+use Rattle.answer.proofs.Lists.{build-is, filled-length, take-filled}
 use Rattle.writer.specs.Result.{writeAnswer, channelAfter}
-use Rattle.writer.proofs.Steps.{one-outcome, thirteen-outcome}
+use Rattle.writer.proofs.Steps.{one-outcome, thirteen-outcome, not-so-many}
 use borrow.Author.Needs.{needs}
 use Rattle.writer.proofs.write.Statement.{statement}
 use Rattle.writer.proofs.write.Tie as tie
@@ -24,83 +22,37 @@ returns c =
     let e = one-outcome (a .bandwidth) (a .words .now) (length (a .cc1 .now)) (length (a .cc2 .now)) (omega arith) in
     (c .refused .ensures ∙ rw e, (rw e, rw e))
 
-take-row-requires : tie.Need-take-row-requires
-take-row-requires c κs = search needs
-
 refused-requires-2 : tie.Need-refused-requires-2
 refused-requires-2 c κs = search needs
 
 returns-2 : tie.Need-returns-2
 unfolding writeAnswer channelAfter
 returns-2 c =
-    let a = c .before .before .before .before .before .before .before .before .args in
+    let a = c .before .before .before .before .before .before .args in
     let l : a .bandwidth ≤ 4 = omega arith in
-    let r = c .before .before .take-row .ensures .0 in
-    let f = not-told (a .bandwidth) (a .words .now) l (λ t. r .no (not-true _ (c .before .if2 .taken)) (omega (arith, t .counted), t .the-header)) in
-    let e = thirteen-outcome (a .bandwidth) (a .words .now) (length (a .cc1 .now)) (length (a .cc2 .now)) l (sym f) in
+    let e =
+    thirteen-outcome (a .bandwidth) (a .words .now) (length (a .cc1 .now)) (length (a .cc2 .now)) l
+    (not-so-many (a .bandwidth) (a .words .now) l (c .before .if2 .taken)) in
     (c .refused2 .ensures ∙ rw e, (rw e, rw e))
 
-positions-of-requires : tie.Need-positions-of-requires
-positions-of-requires c κs = search needs
+slice-aggregate-copy-words : tie.Need-slice-aggregate-copy-words
+slice-aggregate-copy-words c = search needs
 
-array-share-prefix-row : tie.Need-array-share-prefix-row
-array-share-prefix-row c = omega (arith, c .positions-of .ensures .1, c .before .before .take-row .ensures .1 .0)
+copy-words-requires : tie.Need-copy-words-requires
+copy-words-requires c κs = search needs
 
-slice-aggregate-judge : tie.Need-slice-aggregate-judge
-slice-aggregate-judge c =
-    sym
-    (length-take-le _ (c .before .before .before .take-row .last .0)
-    (omega (arith, c .before .positions-of .ensures .1, c .before .before .before .take-row .ensures .1 .0)))
+array-borrow-prefix-own : tie.Need-array-borrow-prefix-own
+array-borrow-prefix-own c = search needs
 
-judge-requires : tie.Need-judge-requires
-judge-requires c κs =
+slice-aggregate-write-own : tie.Need-slice-aggregate-write-own
+slice-aggregate-write-own c =
     let a = c .before .before .before .before .before .before .before .before .before .args in
-    let r = c .before .before .before .take-row .ensures in
-    let t = not-false _ (c .before .before .if2 .left) in
-    let h = r .0 .yes t in
-    let n = c .before .positions-of .ensures in (
-      omega arith,
-      h .0,
-      h .1,
-      row-front (a .bandwidth) (a .words .now) _ (c .before .positions-of .result) (n .0) (omega (arith, n .1, r .1 .0)) (r .1 .1 t),
-    )
+    let f = c .before .before .copy-words in
+    let l = ap length (f .ensures) ∙ filled-length (at (a .words .now)) (length (a .words .now)) _ (omega arith) in
+    sym (length-take-le (length (a .words .now)) _ (omega arith))
 
-refused-requires-3 : tie.Need-refused-requires-3
-refused-requires-3 c κs = search needs
-
-returns-3 : tie.Need-returns-3
-unfolding writeAnswer channelAfter
-returns-3 c =
-    let a = c .before .before .before .before .before .before .before .before .before .before .before .before .before .args in
-    let e =
-    thirteen-outcome (a .bandwidth) (a .words .now) (length (a .cc1 .now)) (length (a .cc2 .now)) (omega arith)
-    (sym (c .before .before .before .judge .ensures .0) ∙ not-true _ (c .before .if3 .taken)) in
-    (c .refused3 .ensures ∙ rw e, (rw e, rw e))
-
-array-share-prefix-row-2 : tie.Need-array-share-prefix-row-2
-array-share-prefix-row-2 c =
-    omega (arith, c .before .before .before .before .positions-of .ensures .1, c .before .before .before .before .before .before .take-row .ensures .1 .0)
-
-slice-aggregate-write-told : tie.Need-slice-aggregate-write-told
-slice-aggregate-write-told c =
-    let r = c .before .before .before .before .before .before .before .take-row in
-    sym (length-take-le _ (r .last .0) (omega (arith, c .before .before .before .before .before .positions-of .ensures .1, r .ensures .1 .0)))
-
-write-told-requires : tie.Need-write-told-requires
-write-told-requires c κs =
-    let a = c .before .before .before .before .before .before .before .before .before .before .before .before .before .before .before .args in
-    let t = not-false _ (c .before .before .before .if3 .left) in
-    let v = c .before .before .before .before .before .judge .ensures in
-    let n = v .1 t in
-    let r = c .before .before .before .before .before .before .before .before .before .take-row .ensures in
-    let p = c .before .before .before .before .before .before .before .positions-of .ensures in (
-      omega arith,
-      row-front (a .bandwidth) (a .words .now) _ (c .before .before .before .before .before .before .before .positions-of .result) (p .0)
-          (omega (arith, p .1, r .1 .0)) (r .1 .1 (not-false _ (c .before .before .before .before .before .before .before .before .if2 .left))),
-      sym (v .0) ∙ t,
-      n .0,
-      n .1,
-    )
+write-own-requires : tie.Need-write-own-requires
+write-own-requires c κs = search needs
 
 same-length : tie.Need-same-length
 same-length c = search needs
@@ -108,8 +60,15 @@ same-length c = search needs
 same-length-2 : tie.Need-same-length-2
 same-length-2 c = search needs
 
-returns-4 : tie.Need-returns-4
-returns-4 c = c .before .before .before .before .write-told .ensures
+returns-3 : tie.Need-returns-3
+returns-3 c =
+    let a = c .before .before .before .before .before .before .before .before .before .before .before .before .before .before .before .before .before .args in
+    let w = a .words .now in
+    let e =
+    ap (take (length w)) (c .before .before .before .before .before .before .before .before .before .before .copy-words .ensures)
+    ∙ take-filled (at w) (length w) _
+    ∙ sym (build-is (at w) 0 w (length w) refl (λ i m. refl)) in
+    rw e at (c .before .before .before .before .before .write-own .ensures)
 
 pub write-spec : {M : Type 1} → statement M
 write-spec =
@@ -117,18 +76,13 @@ write-spec =
     (tie.spec
     refused-requires
     returns
-    take-row-requires
     refused-requires-2
     returns-2
-    positions-of-requires
-    array-share-prefix-row
-    slice-aggregate-judge
-    judge-requires
-    refused-requires-3
-    returns-3
-    array-share-prefix-row-2
-    slice-aggregate-write-told
-    write-told-requires
+    slice-aggregate-copy-words
+    copy-words-requires
+    array-borrow-prefix-own
+    slice-aggregate-write-own
+    write-own-requires
     same-length
     same-length-2
-    returns-4)
+    returns-3)

@@ -1,12 +1,15 @@
 -- `writer::write_told` meets its contract.
+use Prim.Native.Nat.{_+_, _≤_}
 use mathlib.Core.Path.{_≡_, sym, _∙_}
 use native.Mathlib.Omega.{arith}
 use lib.ListN.{length}
 use Rattle.channel.proofs.Laws.{present-1}
-use Rattle.candidate.specs.Engine.{needed}
-use Rattle.candidate.proofs.Held.{count-in-le, candidate-length}
+use Rattle.candidate.specs.Engine.{countIn, needed}
+use Rattle.candidate.proofs.Held.{count-in-le, present-length}
+use Rattle.judge.proofs.Told.{told-decides}
+use Rattle.writer.specs.Engine.{Given}
 use Rattle.writer.specs.Result.{writeOutcome, writeAnswer, channelAfter}
-use Rattle.writer.proofs.Steps.{needed-is, told-outcome, Room, writing-room, bytes-1, bytes-2, users-1, users-2}
+use Rattle.writer.proofs.Steps.{needed-is, told-outcome, Room, writing-room, from, given-turned}
 use borrow.Author.Needs.{needs}
 use Rattle.writer.proofs.write_told.Statement.{statement}
 use Rattle.writer.proofs.write_told.Tie as tie
@@ -52,39 +55,50 @@ returns c =
     let e = judged (c .before .before .before) ∙ c .before .outcome .given .1 in
     (rw e, (rw e, rw e))
 
+-- how many words there are
+counted : (c : tie.After-enum-told)
+    → let a = c .before .before .before .before .before .before .before .before .args in
+    length (a .words .now) ≡ 10 + (countIn (a .bw) (a .words .now) 1 + countIn (a .bw) (a .words .now) 2)
+counted c =
+    let s = c .before .before .before .before .before .before .before .before in
+    told-decides (s .args .bw) (s .args .words .now) (s .pre .0) .yes (s .pre .2) .counted
+
+-- what both channels are put from
+given : (c : tie.After-turn-users)
+    → let a = c .before .before .before .before .before .before .before .before .before .before .args in
+    let need = c .before .before .before .before .before .bytes-for .result in
+    Given (a .bw) (a .words .now) (a .row .now) (from 10 (c .turn-users .last .0)) (a .n) need (a .overflow)
+    (a .first) (a .second)
+given c =
+    let s = c .before .before .before .before .before .before .before .before .before .before in
+    let a = s .args in
+    given-turned (a .bw) (a .words .now) (c .turn-users .last .0) (a .row .now) (a .n) (a .m) _ _ _ _ (s .pre .0) (s .pre .1) (s .pre .3)
+    (counted (c .before .before)) (c .turn-users .kept .0) (c .turn-users .ensures) (the-need (c .before .before .before .before .before)) (s .pre .5)
+
 enum-told : tie.Need-enum-told
 enum-told c = search needs
 
-put-channel-requires : tie.Need-put-channel-requires
-put-channel-requires c κs =
-    let s = c .before .before .before .before .before .before .before .before .before in
-    let a = s .args in
-    let e = bytes-1 (a .bw) (a .words .now) _ (the-need (c .before .before .before .before)) in (
-      s .pre .0,
-      omega arith,
-      omega arith,
-      present-1 (a .bw),
-      s .pre .1,
-      users-1 (a .bw) (a .words .now) (s .pre .0) (s .pre .2) (a .n) (s .pre .3),
-      e,
-      rw (e ∙ sym (candidate-length (a .bw) (a .words .now) 1)) (room (c .before) .room-1),
-    )
+turn-users-requires : tie.Need-turn-users-requires
+turn-users-requires c κs = search needs
 
-add-put-other : tie.Need-add-put-other
-add-put-other c =
-    let s = c .before .before .before .before .before .before .before .before .before .before .before .before .before in
-    omega (arith, s .pre .3, count-in-le (s .args .bw) (s .args .words .now) 1)
+sub-put-both : tie.Need-sub-put-both
+sub-put-both c = omega (arith, c .before .before .turn-users .kept .0, counted (c .before .before .before .before))
 
-put-other-requires : tie.Need-put-other-requires
-put-other-requires c κs =
-    let s = c .before .before .before .before .before .before .before .before .before .before .before .before .before in
-    let a = s .args in (
-      s .pre .0,
-      s .pre .1,
-      users-2 (a .bw) (a .words .now) (s .pre .0) (s .pre .2) (a .n) (a .m) (s .pre .3) (s .pre .4),
-      λ h.
-          let e = bytes-2 (a .bw) (a .words .now) _ (the-need (c .before .before .before .before .before .before .before .before)) h in
-          (e, rw (e ∙ sym (candidate-length (a .bw) (a .words .now) 2)) (room (c .before .before .before .before .before) .room-2)),
+part-put-both-start : tie.Need-part-put-both-start
+part-put-both-start c = omega (arith, c .before .before .before .turn-users .kept .0, counted (c .before .before .before .before .before))
+
+part-put-both-end : tie.Need-part-put-both-end
+part-put-both-end c = search needs
+
+put-both-requires : tie.Need-put-both-requires
+put-both-requires c κs =
+    let a = c .before .before .before .before .before .before .before .before .before .before .before .before .before .before .before .before .args in
+    let w = a .words .now in
+    let r = room (c .before .before .before .before .before .before .before .before) in
+    let n = the-need (c .before .before .before .before .before .before .before .before .before .before .before) in (
+      (w, given (c .before .before .before .before .before .before)),
+      omega (arith, n, present-length (a .bw) w 1 (present-1 (a .bw)), r .room-1),
+      λ h. omega (arith, n, present-length (a .bw) w 2 h, r .room-2),
     )
 
 same-length : tie.Need-same-length
@@ -93,15 +107,18 @@ same-length c = search needs
 same-length-2 : tie.Need-same-length-2
 same-length-2 c = search needs
 
+same-length-3 : tie.Need-same-length-3
+same-length-3 c = search needs
+
 returns-2 : tie.Need-returns-2
 unfolding writeAnswer channelAfter
 returns-2 c =
-    let e =
-    judged (c .before .before .before .before .before .before .before .before .before .before)
-    ∙ c .before .before .before .before .before .before .before .before .enum-told .given .1 in (
-      rw (e, the-need (c .before .before .before .before .before .before .before .before .before .before .before)),
-      (rw e (c .before .before .before .before .before .before .put-channel .ensures), rw e (c .before .before .put-other .ensures)),
-    )
+    let t = c .before .before .before .before .before .before .before .before .before .before .before in
+    let a = t .before .before .before .before .before .before .before .before .before .before .args in
+    let e = judged (t .before .before .before .before) ∙ t .before .before .enum-told .given .1 in
+    let g = given t in
+    let p = c .before .before .before .before .put-both .ensures in
+    (rw (e, the-need (t .before .before .before .before .before)), (rw e (p .0 (a .words .now) g), rw e (p .1 (a .words .now) g)))
 
 pub write-told-spec : {M : Type 1} → statement M
 write-told-spec =
@@ -112,9 +129,12 @@ write-told-spec =
     enum-known-outcome
     returns
     enum-told
-    put-channel-requires
-    add-put-other
-    put-other-requires
+    turn-users-requires
+    sub-put-both
+    part-put-both-start
+    part-put-both-end
+    put-both-requires
     same-length
     same-length-2
+    same-length-3
     returns-2)
