@@ -35,9 +35,10 @@ longest-of-requires c κs = let t = c .before .before .before .before .before .b
 
 put-listing-requires : tie.Need-put-listing-requires
 put-listing-requires c κs =
-    let q = c .before .before .before .before .before .before .before .before .before .before .before .before .before .before .before .pre in
+    let u = c .before .before .before .before .before .before .before .before in
+    let q = u .before .before .before .before .before .before .before .pre in
     let h = q .0 in
-    (h .known, omega (arith, q .1, c .before .before .before .before .before .before .before .before .check-users .kept .0), counted h, few h, h .given .the-kinds)
+    (h .known, omega (arith, q .1, u .check-users .kept .0), counted h, few h, h .given .the-kinds)
 
 same-length-2 : tie.Need-same-length-2
 same-length-2 c = search needs
@@ -66,9 +67,10 @@ slice-aggregate-put-listing c = search needs
 
 put-listing-requires-2 : tie.Need-put-listing-requires-2
 put-listing-requires-2 c κs =
-    let q = c .before .before .before .before .before .before .before .before .before .before .before .before .before .before .before .pre in
+    let u = c .before .before .before .before .before .before .before .before in
+    let q = u .before .before .before .before .before .before .before .pre in
     let h = q .0 in
-    (h .known, omega (arith, q .1, c .before .before .before .before .before .before .before .before .check-users .kept .0), counted h, few h, h .given .the-kinds)
+    (h .known, omega (arith, q .1, u .check-users .kept .0), counted h, few h, h .given .the-kinds)
 
 same-length-4 : tie.Need-same-length-4
 same-length-4 c = search needs
