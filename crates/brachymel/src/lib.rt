@@ -2,12 +2,9 @@
 use answer::Answer;
 use answer::Outcome;
 ghost use mathlib.Core.Path.{_≡_};
-ghost use Prim.Native.Nat.{_/_, _≤_};
 ghost use lib.ListN.{length};
-ghost use Rattle.word_bytes.specs.Bytes.{wordsIn};
 ghost use Rattle.byte_reader.specs.Bytes.{bytesReadAnswer, readBytes};
 ghost use Rattle.brachymel.specs.Bytes.{bytesWriteAnswer, writeChannel};
-ghost use Rattle.writer.specs.Result.{writeAnswer, channelAfter};
 ghost use Rattle.listed.specs.Listing.{listAnswer, listAfter};
 ghost use Rattle.compared.specs.Text.{compareAnswer, compareAfter};
 ghost use Rattle.trigger.specs.Reading.{entryAnswer, recordRead};
@@ -22,26 +19,6 @@ pub extern "C" fn brachymel_read(bandwidth: u32, cc1: &[u8], cc2: &[u8], words: 
     ensures { λ _. ⌜ now (words .exit) ≡ readBytes bandwidth (now (cc1 .entry)) (now (cc2 .entry)) (now (words .entry)) ⌝ }
 {
     byte_reader::read(bandwidth, cc1, cc2, words)
-}
-
-// The writing, of n words and through words of its own.
-fn write_through(
-    bandwidth: u32,
-    words: &[u8],
-    n: usize,
-    cc1: &mut [u8],
-    cc2: &mut [u8],
-    local: &mut [u32],
-) -> Answer
-    requires { ⌜ (n ≤ length (now local)) × (n ≡ length (now words) / 4) ⌝ }
-    ensures { λ r. ⌜ r ≡ writeAnswer bandwidth (wordsIn (now (words .entry))) (length (now (cc1 .entry))) (length (now (cc2 .entry))) ⌝ }
-    ensures { λ _. ⌜ now (cc1 .exit)
-        ≡ channelAfter bandwidth (wordsIn (now (words .entry))) (length (now (cc1 .entry))) (length (now (cc2 .entry))) 1 (now (cc1 .entry)) ⌝ }
-    ensures { λ _. ⌜ now (cc2 .exit)
-        ≡ channelAfter bandwidth (wordsIn (now (words .entry))) (length (now (cc1 .entry))) (length (now (cc2 .entry))) 2 (now (cc2 .entry)) ⌝ }
-{
-    word_bytes::get_words(local, words, n);
-    writer::write_own(bandwidth, &mut local[..n], cc1, cc2)
 }
 
 #[no_mangle]
@@ -62,8 +39,7 @@ pub extern "C" fn brachymel_write(
     if let Outcome::Refuse(x) = early {
         return x;
     }
-    let mut local = [0u32; 154];
-    write_through(bandwidth, words, n, cc1, cc2, &mut local)
+    writer::write_bytes(bandwidth, words, cc1, cc2)
 }
 
 #[no_mangle]

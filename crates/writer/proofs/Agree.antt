@@ -1,4 +1,4 @@
--- What the contract of `write` leaves open: nothing.
+-- What the contracts of `write` and `write_bytes` leave open: nothing.
 use mathlib.Core.Path.{_≡_, sym, _∙_}
 use lib.ListN.{length}
 use denote.Ref.{now}
@@ -6,11 +6,17 @@ use Rattle.answer.proofs.Order.{after-answered}
 use Rattle.candidate.specs.Engine.{needed, candidate}
 use Rattle.writer.specs.Result.{writeOutcome, front, writeAnswer, channelAfter}
 use Rattle.writer.proofs.write.Reads as write
+use Rattle.writer.proofs.write_bytes.Reads as write_bytes
 
 -- any two answers, and any two states of both lent channels afterwards, that `write` allows for one input
 pub write-agrees : (κs : _) (a : _) (r r' : _) (s s' : _) → write.Post κs a r s → write.Post κs a r' s'
     → (r ≡ r') × (now (s .1 .1 .0) ≡ now (s' .1 .1 .0)) × (now (s .1 .1 .1 .0) ≡ now (s' .1 .1 .1 .0))
 write-agrees κs a r r' s s' p q = (p .0 ∙ sym (q .0), p .1 .0 ∙ sym (q .1 .0), p .1 .1 ∙ sym (q .1 .1))
+
+-- the same of words that are lent as bytes
+pub write-bytes-agrees : (κs : _) (a : _) (r r' : _) (s s' : _) → write_bytes.Post κs a r s → write_bytes.Post κs a r' s'
+    → (r ≡ r') × (now (s .1 .1 .0) ≡ now (s' .1 .1 .0)) × (now (s .1 .1 .1 .0) ≡ now (s' .1 .1 .1 .0))
+write-bytes-agrees κs a r r' s s' p q = (p .0 ∙ sym (q .0), p .1 .0 ∙ sym (q .1 .0), p .1 .1 ∙ sym (q .1 .1))
 
 -- "Every refusal writes nothing": with any number but 0 both lent channels are as they were
 pub write-keeps : (κs : _) (a : _) (r : _) (s : _) → write.Post κs a r s → (r .number ≡ 0 → ⊥)

@@ -6,9 +6,10 @@ ghost use mathlib.Core.Path.{_≡_};
 ghost use mathlib.Core.Bool.{true};
 ghost use mathlib.Core.List.{List};
 ghost use Rattle.answer.specs.Answer.{no};
-ghost use Prim.Native.Nat.{ℕ, _+_, _*_, _^_, _≤_, _<_};
+ghost use Prim.Native.Nat.{ℕ, _+_, _*_, _/_, _^_, _≤_, _<_};
 ghost use lib.ListN.{length};
 ghost use Rattle.answer.specs.Lists.{filled, at};
+ghost use Rattle.word_bytes.specs.Bytes.{wordsIn};
 ghost use Rattle.channel.specs.Layout.{present, secondAt, secondBits, subfields, endOf};
 ghost use Rattle.candidate.specs.Engine.{Narrow, Made, FieldsIn, overflowIn, countIn, needed, candidate};
 ghost use Rattle.judge.specs.Engine.{readsTo, rowIn, Begun};
@@ -145,7 +146,7 @@ fn write_told(
 }
 
 // As `write`, from words that need not be kept: their User words are made fields where they stand.
-pub fn write_own(bandwidth: u32, words: &mut [u32], cc1: &mut [u8], cc2: &mut [u8]) -> Answer
+fn write_own(bandwidth: u32, words: &mut [u32], cc1: &mut [u8], cc2: &mut [u8]) -> Answer
     ensures { λ r. ⌜ r ≡ writeAnswer bandwidth (now (words .entry)) (length (now (cc1 .entry))) (length (now (cc2 .entry))) ⌝ }
     ensures { λ _. ⌜ now (cc1 .exit)
         ≡ channelAfter bandwidth (now (words .entry)) (length (now (cc1 .entry))) (length (now (cc2 .entry))) 1 (now (cc1 .entry)) ⌝ }
@@ -210,4 +211,40 @@ pub fn write(bandwidth: u32, words: &[u32], cc1: &mut [u8], cc2: &mut [u8]) -> A
     let mut own = [0u32; 154];
     copy_words(&mut own, words);
     write_own(bandwidth, &mut own[..n], cc1, cc2)
+}
+
+// ---- of words that are lent as bytes, of each the lowest first
+
+// The writing, of n words and through words of its own.
+fn write_through(
+    bandwidth: u32,
+    words: &[u8],
+    n: usize,
+    cc1: &mut [u8],
+    cc2: &mut [u8],
+    local: &mut [u32],
+) -> Answer
+    requires { ⌜ (n ≤ length (now local)) × (n ≡ length (now words) / 4) ⌝ }
+    ensures { λ r. ⌜ r ≡ writeAnswer bandwidth (wordsIn (now (words .entry))) (length (now (cc1 .entry))) (length (now (cc2 .entry))) ⌝ }
+    ensures { λ _. ⌜ now (cc1 .exit)
+        ≡ channelAfter bandwidth (wordsIn (now (words .entry))) (length (now (cc1 .entry))) (length (now (cc2 .entry))) 1 (now (cc1 .entry)) ⌝ }
+    ensures { λ _. ⌜ now (cc2 .exit)
+        ≡ channelAfter bandwidth (wordsIn (now (words .entry))) (length (now (cc1 .entry))) (length (now (cc2 .entry))) 2 (now (cc2 .entry)) ⌝ }
+{
+    word_bytes::get_words(local, words, n);
+    write_own(bandwidth, &mut local[..n], cc1, cc2)
+}
+
+// As `write`, of words that are lent as bytes and are no more than a frame has.
+pub fn write_bytes(bandwidth: u32, words: &[u8], cc1: &mut [u8], cc2: &mut [u8]) -> Answer
+    requires { ⌜ length (now words) / 4 ≤ 154 ⌝ }
+    ensures { λ r. ⌜ r ≡ writeAnswer bandwidth (wordsIn (now (words .entry))) (length (now (cc1 .entry))) (length (now (cc2 .entry))) ⌝ }
+    ensures { λ _. ⌜ now (cc1 .exit)
+        ≡ channelAfter bandwidth (wordsIn (now (words .entry))) (length (now (cc1 .entry))) (length (now (cc2 .entry))) 1 (now (cc1 .entry)) ⌝ }
+    ensures { λ _. ⌜ now (cc2 .exit)
+        ≡ channelAfter bandwidth (wordsIn (now (words .entry))) (length (now (cc1 .entry))) (length (now (cc2 .entry))) 2 (now (cc2 .entry)) ⌝ }
+{
+    let n = words.len() / 4;
+    let mut local = [0u32; 154];
+    write_through(bandwidth, words, n, cc1, cc2, &mut local)
 }

@@ -27,17 +27,12 @@ returns c =
 enum-told : tie.Need-enum-told
 enum-told c = search needs
 
-slice-aggregate-write-through : tie.Need-slice-aggregate-write-through
-slice-aggregate-write-through c = search needs
-
-write-through-requires : tie.Need-write-through-requires
-write-through-requires c κs =
-    let refused-early = c .before .before .before .before .before .refused-early in
-    let s = c .before .before .before .before .before .before .before .before .before .args in (
-      few-words (s .bandwidth) (length (s .words .now)) (length (s .words .now) / 4)
-          (sym (refused-early .ensures) ∙ c .before .before .before .enum-told .given .1),
-      refl,
-    )
+write-bytes-requires : tie.Need-write-bytes-requires
+write-bytes-requires c κs =
+    let refused-early = c .before .before .before .before .refused-early in
+    let s = c .before .before .before .before .before .before .before .before .args in
+    few-words (s .bandwidth) (length (s .words .now)) (length (s .words .now) / 4)
+    (sym (refused-early .ensures) ∙ c .before .before .enum-told .given .1)
 
 same-length : tie.Need-same-length
 same-length c = search needs
@@ -48,12 +43,12 @@ same-length-2 c = search needs
 returns-2 : tie.Need-returns-2
 unfolding bytesWriteAnswer writeChannel writeAnswer channelAfter
 returns-2 c =
-    let refused-early = c .before .before .before .before .before .before .before .before .before .before .before .refused-early in
-    let enum-told = c .before .before .before .before .before .before .before .before .before .enum-told in
-    let write-through = c .before .before .before .before .before .write-through in
-    let s = c .before .before .before .before .before .before .before .before .before .before .before .before .before .before .before .args in
+    let refused-early = c .before .before .before .before .before .before .before .before .before .refused-early in
+    let enum-told = c .before .before .before .before .before .before .before .enum-told in
+    let write-bytes = c .before .before .before .before .write-bytes in
+    let s = c .before .before .before .before .before .before .before .before .before .before .before .before .before .args in
     let f = early-passes (s .bandwidth) (s .words .now) (length (s .cc1 .now)) (length (s .cc2 .now)) (sym (refused-early .ensures) ∙ enum-told .given .1) in
-    rw f (write-through .ensures)
+    rw f (write-bytes .ensures)
 
 pub brachymel-write-spec : {M : Type 1} → statement M
 brachymel-write-spec =
@@ -63,8 +58,7 @@ brachymel-write-spec =
     enum-known-early
     returns
     enum-told
-    slice-aggregate-write-through
-    write-through-requires
+    write-bytes-requires
     same-length
     same-length-2
     returns-2)

@@ -1,4 +1,4 @@
--- `brachymel::write_through` meets its contract.
+-- `writer::write_through` meets its contract.
 use Rattle.word_bytes.specs.Bytes.{wordAt}
 use Rattle.answer.specs.Lists.{build}
 use Rattle.answer.proofs.Lists.{filled-length, take-filled}
@@ -7,8 +7,8 @@ use lib.ListN.{length, take}
 use native.Mathlib.Omega.{arith}
 use mathlib.Core.Path.{sym, _∙_, ap}
 use borrow.Author.Needs.{needs}
-use Rattle.brachymel.proofs.write_through.Statement.{statement}
-use Rattle.brachymel.proofs.write_through.Tie as tie
+use Rattle.writer.proofs.write_through.Statement.{statement}
+use Rattle.writer.proofs.write_through.Tie as tie
 
 get-words-requires : tie.Need-get-words-requires
 get-words-requires c κs = search needs
