@@ -28,13 +28,13 @@ fn stations_of(fields: &[u32], t: usize) -> [u16; 144]
 // ---- whether any stands again: a bit for each STA-ID, in words of 64, and one answer gathered over all
 
 // Whether a STA-ID that may not stand again has its bit in its word of the marks.
-pub fn is_marked(w: u64, id: u16) -> bool
+fn is_marked(w: u64, id: u16) -> bool
     ensures { λ r. ⌜ r ≡ (ltb 0 id && leb id 2006) && eqb (w / 2 ^ (id % 64) % 2) 1 ⌝ }
 {
     (0 < id) & (id <= 2006) & ((w >> (id % 64)) % 2 == 1)
 }
 
-pub fn with_mark(w: u64, id: u16) -> u64
+fn with_mark(w: u64, id: u16) -> u64
     ensures { λ r. ⌜ r ≡ bitOr w (2 ^ (id % 64)) ⌝ }
 {
     w | (1 << (id % 64))
