@@ -1,5 +1,4 @@
-# Read by the scripts here and in bench/: the compilers, and how a program for x86-64 is run. Works on
-# x86-64 and on Arm.
+# Read by the scripts here and in bench/: the compilers, and the files that go together.
 
 is_here() { # COMMAND, or a file by its path
     command -v "$1" >/dev/null 2>&1 || [ -f "$1" ]
@@ -18,30 +17,10 @@ need() { # COMMAND PACKAGE..
     is_here "$wanted" || { echo "there is no $wanted: install the packages $*"; exit 2; }
 }
 
-# Sets kit, what the kit of `rt` has for this machine, and emulator, which is empty where none is needed.
-find_kit() {
-    machine=$(uname -m) emulator=''
-    kit=${RATTLE_HOME:-$(dirname "$(readlink -f "$(command -v rt)")")/..}/on/$machine/toolchain
-    [ "$machine" = x86_64 ] || emulator=$kit/bin/qemu-x86_64
-    [ -z "$emulator" ] || [ -x "$emulator" ] || { echo "the kit of rt has no emulator for $machine"; exit 2; }
-}
-
-# Sets as_kit, the words before a program of `rt` that run it as `rt` does: under the kit's C library.
-run_as_kit() {
-    find_kit
-    as_kit="$emulator $kit/lib/ld-linux-x86-64.so.2 --library-path $kit/lib"
-}
-
-# The library is for x86-64, and so is all that links with it. Sets x86_cc, the compiler with its flags.
+# The library is for x86-64, and so is all that links with it.
 for_x86_64() {
-    find_kit
-    if [ "$machine" = x86_64 ]; then
-        need cc gcc libc6-dev
-        x86_cc=cc
-    else
-        need x86_64-linux-gnu-gcc gcc-x86-64-linux-gnu libc6-dev-amd64-cross
-        x86_cc='x86_64-linux-gnu-gcc -static'
-    fi
+    [ "$(uname -m)" = x86_64 ] || { echo "the library is for x86-64, and this machine is $(uname -m)"; exit 2; }
+    need cc gcc libc6-dev
 }
 
 flags='-std=c99 -Wall -Wextra -Werror -O2'
