@@ -8,7 +8,21 @@ use Rattle.bits.specs.Bits.{bit, field, put, Small}
 use Rattle.register.specs.Engine.{check_from}
 use Rattle.block.specs.Check.{check}
 use Rattle.resource.specs.Values.{fields_of}
-use Rattle.channel.specs.Layout.{present, firsts, seconds, first_bits, second_at, second_bits, has_second, subfields_in, value_at, total, user_at, block_at, blocks}
+use Rattle.channel.specs.Layout.{
+  present,
+  firsts,
+  seconds,
+  first_bits,
+  second_at,
+  second_bits,
+  has_second,
+  subfields_in,
+  value_at,
+  total,
+  user_at,
+  block_at,
+  blocks,
+}
 use Rattle.channel.specs.Layout.{covered, end_of}
 use Rattle.answer.specs.Lists.{at}
 use Rattle.words.specs.Engine.{overflow_of, value_of, user_field}

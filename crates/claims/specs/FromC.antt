@@ -1,7 +1,7 @@
 -- The second demand, the third and the listing, of the calls from C.
 --
 -- 01, "What comes back": "The capture software is written in C and calls reader and writer with numbers and bytes, words then being
--- little_endian. For the reader's room only whole words count; a word text not divisible by four gives the writer's 13."
+-- little-endian. For the reader's room only whole words count; a word text not divisible by four gives the writer's 13."
 --
 -- Calls of `brachymel_read`, `brachymel_write` and `brachymel_list` are `Calls.antt`'s: all that their contracts allow.
 use Rattle.std.specs.Prelude.{◌≡◌, true, List, ℕ, ◌*◌, ◌/◌, ◌%◌, ◌≤◌, length, take, drop}
@@ -57,7 +57,7 @@ pub record AcceptsBytes (bw : ℕ) (a b t₀ t : List ℕ) : Type 0 where
 
 -- ---- the second demand
 pub record SecondFromC : Type 1 where
-  -- "words then being little_endian", and words and bytes each other's
+  -- "words then being little-endian", and words and bytes each other's
   pub little_endian : Inverse
   -- each call is one that the contract of `reader::read` or `writer::write` allows, in words
   pub reads_words : (c : Call) → CReads c → Reads (in_words c)

@@ -1,5 +1,5 @@
 -- What is held of the differences (02, T-06): "the exact differences out".
-use Rattle.std.specs.Prelude.{◌≡◌, Bool, true, false, cond, ℕ, ◌-◌, ◌<◌, eqb, length, get_or}
+use Rattle.std.specs.Prelude.{◌≡◌, true, false, cond, ℕ, ◌-◌, ◌<◌, eqb, length, get_or}
 use mathlib.Core.List.{List, [], ◌∷◌, map, Memᴰ}
 use Rattle.answer.specs.declared.Outcome.TheVariants.{Pass}
 use Rattle.halves.specs.Table.{outcome11}

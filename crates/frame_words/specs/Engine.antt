@@ -1,7 +1,6 @@
 -- Engine: what the words of a frame are made from beside its bytes, its row and the formats of its positions. The contracts of the code cite
 -- it; nobody has to believe it.
 use Rattle.std.specs.Prelude.{◌≡◌, List, [], ◌∷◌, cond, ℕ, ◌-◌, ◌/◌, ◌%◌, ◌^◌, ◌<◌, eqb, ltb, length, get_or}
-use Rattle.kinds.specs.Fields.{shared}
 use Rattle.channel.specs.Layout.{subfields_in, value}
 use Rattle.words.specs.Words.{triple_word}
 use Rattle.frame_words.specs.Words.{position_in, shared_at, user_word_at}

@@ -11,7 +11,7 @@ use Rattle.plan.specs.declared.Rest.{Rest}
 use Rattle.answer.specs.Lists.{at}
 use Rattle.plan.specs.Engine.{plan_outcome, plan_of, with_kinds}
 use Rattle.channel.specs.Layout.{present, common, row, row_in16}
-use Rattle.halves.specs.Table.{check1, check2, check3, check4, check5, check6, check9, check10, check11, outcome6}
+use Rattle.halves.specs.Table.{check1, check2, check3, check4, check5, check9, check10, check11, outcome6}
 use Rattle.halves.specs.declared.Planned.{Planned}
 
 -- 1 to 3

@@ -1,7 +1,32 @@
 -- Engine: the only plan that can signal a row, sought "in the whole width, then in each half, down to one segment" (02, T-07), its tests, and
 -- the plan as a value that the code makes. The contracts of the code cite it; nobody has to believe it: `Worked.antt` says what it is, and
 -- `proofs/Worked.antt` shows it.
-use Rattle.std.specs.Prelude.{◌≡◌, Bool, true, cond, not, ◌||◌, ◌&&◌, List, ℕ, zero, suc, ◌+◌, ◌-◌, ◌*◌, ◌/◌, ◌%◌, ◌^◌, ◌≤◌, ◌<◌, ltb, leb, eqb, length, replicate}
+use Rattle.std.specs.Prelude.{
+  ◌≡◌,
+  Bool,
+  true,
+  cond,
+  not,
+  ◌||◌,
+  ◌&&◌,
+  List,
+  ℕ,
+  zero,
+  suc,
+  ◌+◌,
+  ◌-◌,
+  ◌*◌,
+  ◌/◌,
+  ◌%◌,
+  ◌^◌,
+  ◌≤◌,
+  ◌<◌,
+  ltb,
+  leb,
+  eqb,
+  length,
+  replicate,
+}
 use Rattle.answer.specs.Answer.{no, refuse_if, ◌or◌}
 use Rattle.answer.specs.Least.{least}
 use Rattle.answer.specs.declared.Outcome.{Outcome}

@@ -1,6 +1,6 @@
 -- The row's plan and 01's answers 7 and 8, as functions. An engine works them out, and nobody has to believe it: beside them stands what they are
 -- (`Worked`), in the words of `Signals.antt` and `Answers.antt`, and `proofs/Worked.antt` shows it of every row (`worked`).
-use Rattle.std.specs.Prelude.{◌≡◌, Bool, not, List, ℕ, ◌*◌, ◌<◌, min, ltb, length}
+use Rattle.std.specs.Prelude.{◌≡◌, Bool, not, List, ℕ, ◌*◌, ◌<◌, ltb, length}
 use Rattle.answer.specs.Answer.{no, refuse_if, ◌or◌}
 use Rattle.answer.specs.Least.{least}
 use Rattle.answer.specs.Lists.{at}

@@ -1,5 +1,5 @@
 -- Whose User field is whose (01, "Values of the RU Allocation subfield" and "What a plan is"), for any plan o.
-use Rattle.std.specs.Prelude.{◌≡◌, cond, List, [], ◌∷◌, ℕ, zero, suc, ◌+◌, ◌%◌, ◌<◌, eqb, length}
+use Rattle.std.specs.Prelude.{◌≡◌, cond, List, [], ◌∷◌, ℕ, suc, ◌+◌, ◌%◌, ◌<◌, eqb, length}
 use Rattle.resource.specs.Values.{pieces, fields_of}
 use Rattle.kinds.specs.Kinds.{itself, span}
 use Rattle.kinds.specs.Signals.{Place}

@@ -4,7 +4,7 @@ use Rattle.std.specs.Prelude.{◌≡◌, List, ℕ, ◌<◌, length}
 use Rattle.answer.specs.Lists.{at}
 use Rattle.plan.specs.Worked.{the_plan}
 use Rattle.records.specs.Records.{records_of}
-use Rattle.records.specs.Owns.{fields_before, Owns}
+use Rattle.records.specs.Owns.{Owns}
 use Rattle.records.specs.Engine.{owner_of}
 
 -- the number, from 0, of the resource of the row's plan that owns field j of channel c

@@ -1,6 +1,31 @@
 -- Engine: how the code finds the pieces of a position, and the subcarriers of a resource as it counts them: natural numbers from the channel's
 -- lower edge. The contracts of the code cite it; nobody has to believe it: `proofs/Starts.antt`, `proofs/Agree.antt`.
-use Rattle.std.specs.Prelude.{Bool, cond, ◌&&◌, List, [], ◌∷◌, ◌++◌, ℕ, zero, suc, ◌+◌, ◌-◌, ◌*◌, ◌/◌, ◌%◌, ◌^◌, eqb, ℤ, pos, ◌-ℤ◌, length, take, get_or, replicate}
+use Rattle.std.specs.Prelude.{
+  Bool,
+  cond,
+  ◌&&◌,
+  List,
+  [],
+  ◌∷◌,
+  ◌++◌,
+  ℕ,
+  zero,
+  suc,
+  ◌+◌,
+  ◌-◌,
+  ◌*◌,
+  ◌/◌,
+  ◌%◌,
+  ◌^◌,
+  eqb,
+  ℤ,
+  pos,
+  ◌-ℤ◌,
+  length,
+  take,
+  get_or,
+  replicate,
+}
 use Rattle.resource.specs.declared.Size.{Size}
 use Rattle.resource.specs.declared.Size.TheVariants.{S26, S52, S106, S242, S484, S996, S2x996}
 use Rattle.resource.specs.declared.Pairing.{Pairing}

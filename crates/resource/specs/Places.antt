@@ -1,6 +1,6 @@
 -- The places of a resource of whole positions (01, "What a plan is"; 02, T-07): which of the positions that it lies among, counted from 0,
 -- are its own, as a number that has the bit j where place j is.
-use Rattle.std.specs.Prelude.{cond, ℕ, ◌+◌, ◌-◌, ◌*◌, ◌^◌, leb}
+use Rattle.std.specs.Prelude.{cond, ℕ, ◌-◌, ◌*◌, ◌^◌, leb}
 use Rattle.resource.specs.declared.Pairing.{Pairing}
 use Rattle.resource.specs.declared.Pairing.TheVariants.{P106And26, P484And242, P996And484, P3x996, P2x996And484, P3x996And484}
 

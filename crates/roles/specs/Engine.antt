@@ -1,6 +1,6 @@
 -- Engine: what the roles of a segment's four values tell. The contracts of the code cite it; nobody has to believe it: `proofs/Told.antt`
 -- shows that what they tell is a plan of the segment, and how many fields its resources have.
-use Rattle.std.specs.Prelude.{◌≡◌, Bool, true, cond, not, ◌||◌, ◌&&◌, List, [], ◌∷◌, ℕ, ◌+◌, ◌*◌, ◌/◌, ◌%◌, ◌^◌, ◌≤◌, ◌<◌, ltb, leb, eqb, get_or}
+use Rattle.std.specs.Prelude.{◌≡◌, Bool, true, cond, ◌||◌, ◌&&◌, List, [], ◌∷◌, ℕ, ◌+◌, ◌*◌, ◌/◌, ◌%◌, ◌^◌, ◌≤◌, ◌<◌, ltb, leb, eqb, get_or}
 use Rattle.std.specs.Int.Bits.{bit_and, bit_or}
 use Rattle.kinds.specs.Kinds.{family, span, takes, must_name}
 use Rattle.kinds.specs.Signals.{Place}

@@ -6,7 +6,6 @@ use Rattle.bits.specs.Bits.{bit}
 use Rattle.channel.specs.Layout.{present, count, end_of}
 use Rattle.reader.specs.Result as R
 use Rattle.candidate.specs.Length.{bytes_for}
-use Rattle.writer.specs.Result.{write_answer}
 
 -- ---- reading, from its contract's equations
 
