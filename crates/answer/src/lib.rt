@@ -1,10 +1,12 @@
 // What every call of the project answers, and the order in which its checks speak.
+#![tactic(auto)]
+
 ghost use Rattle.std.specs.Prelude.{◌≡◌};
 ghost use Rattle.answer.specs.Answer.{no, refuse_if, ◌or◌};
 
 // 01, "What comes back": "returns number, channel, place". The layout is C's.
 #[repr(C)]
-#[derive(Drop)]
+#[derive(Clone, Copy)]
 pub struct Answer {
     pub number: u32,
     pub channel: u32,
@@ -12,7 +14,7 @@ pub struct Answer {
 }
 
 // What the checks so far have come to.
-#[derive(Drop)]
+#[derive(Clone, Copy)]
 pub enum Outcome {
     Pass,
     Refuse(Answer),

@@ -1,5 +1,7 @@
 // Bits and fields of a byte slice, lowest bit first, read. Past the end every bit reads as 0, so no function here asks that a range
 // lies in its slice.
+#![tactic(auto)]
+
 ghost use Rattle.std.specs.Prelude.{◌≡◌, ◌+◌, ◌-◌, ◌*◌, ◌%◌, ◌^◌, ◌≤◌, ◌<◌, get_or, length};
 ghost use Rattle.bits.specs.Bits.{bit, field};
 

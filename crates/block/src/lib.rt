@@ -1,4 +1,6 @@
 // The four-bit check and the tail of one block of bits.
+#![tactic(auto)]
+
 ghost use Rattle.std.specs.Prelude.{◌≡◌, ◌+◌, ◌^◌, ◌<◌};
 ghost use Rattle.block.specs.Check.{check, right};
 

@@ -1,4 +1,6 @@
 // Both halves of a reading: 1 to 11, and the plan of a frame that passes them.
+#![tactic(auto)]
+
 ghost use Rattle.std.specs.Prelude.{◌≡◌};
 ghost use Rattle.both_halves.specs.Engine.{accepted_plan};
 

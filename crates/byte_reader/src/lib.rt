@@ -1,4 +1,6 @@
 // The reader for C: the words of an accepted frame straight as bytes, of each the lowest first. `reader` has the table and the words.
+#![tactic(auto)]
+
 ghost use Rattle.std.specs.Prelude.{◌≡◌, ◌+◌, ◌/◌, ◌≤◌, length};
 ghost use Rattle.answer.specs.Lists.{filled};
 ghost use Rattle.channel.specs.Layout.{count, user_of};

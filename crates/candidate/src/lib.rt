@@ -1,4 +1,6 @@
 // The only channels that given words can come from.
+#![tactic(auto)]
+
 ghost use Rattle.std.specs.Prelude.{◌≡◌, true, List, ℕ, ◌+◌, ◌*◌, ◌/◌, ◌%◌, ◌^◌, ◌<◌, ◌≤◌, length};
 ghost use Rattle.answer.specs.Lists.{at};
 ghost use Rattle.bits.specs.Bits.{field};

@@ -1,4 +1,6 @@
 // The text of two captures, read (02, T-06): six lines, or the first that is wrong.
+#![tactic(auto)]
+
 ghost use Rattle.std.specs.Prelude.{◌≡◌, ◌+◌, ◌≤◌, length, drop};
 ghost use Rattle.answer.specs.Lists.{filled};
 ghost use Rattle.input.specs.Engine.{three_lines, second_at, byte_of};
@@ -7,7 +9,7 @@ ghost use Rattle.captures.specs.Engine.{past_of, then_second, six_lines, two_par
 use input::Parsed;
 
 // A capture that was read: where it starts in the text, its bandwidth digit, the pairs of its second and third lines.
-#[derive(Drop)]
+#[derive(Clone, Copy)]
 pub struct Capture {
     pub at: usize,
     pub bw: u32,

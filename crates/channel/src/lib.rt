@@ -1,4 +1,6 @@
 // Where everything lies in a channel, by bandwidth code: its fields, its row of values, its User fields and blocks.
+#![tactic(auto)]
+
 ghost use Rattle.std.specs.Prelude.{◌≡◌, true, ◌+◌, ◌*◌, ◌≤◌, length};
 ghost use Rattle.answer.specs.Lists.{filled};
 ghost use Rattle.bits.specs.Bits.{field};
@@ -7,7 +9,7 @@ ghost use Rattle.channel.specs.Layout.{positions, present, firsts, seconds, firs
 ghost use Rattle.channel.specs.Layout.{subfields_in, value_at, value, user_at, block_at, covered, end_of};
 
 // The common fields of a frame: each part of each channel, with its check and tail, in the lowest bits of a number.
-#[derive(Drop)]
+#[derive(Clone, Copy)]
 pub struct Parts {
     pub first1: u64,
     pub first2: u64,

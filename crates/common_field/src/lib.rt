@@ -1,4 +1,6 @@
 // The answers 5 and 6: an overflow that may not be or that the channels do not share, and a value of one channel that is not carried.
+#![tactic(auto)]
+
 ghost use Rattle.std.specs.Prelude.{◌≡◌, ◌+◌, ◌^◌, ◌≤◌, ◌<◌};
 ghost use Rattle.answer.specs.Least.{least};
 ghost use Rattle.bits.specs.Bits.{differs};

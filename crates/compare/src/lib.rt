@@ -1,4 +1,6 @@
 // Two frames compared (02, T-06): what one says and the other does not, as lines of text.
+#![tactic(auto)]
+
 ghost use Rattle.std.specs.Prelude.{◌≡◌, ◌+◌, ◌*◌, ◌≤◌, ◌<◌, length, get_or};
 ghost use Rattle.answer.specs.Lists.{at as nth};
 ghost use Rattle.text.specs.Text.{Wrote, upto};

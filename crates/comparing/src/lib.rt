@@ -1,4 +1,6 @@
 // What the program writes for the text of two captures (02, T-06).
+#![tactic(auto)]
+
 ghost use Rattle.std.specs.Prelude.{◌≤◌};
 ghost use Rattle.text.specs.Text.{Wrote};
 ghost use Rattle.captures.specs.Engine.{first_bytes, second_bytes};

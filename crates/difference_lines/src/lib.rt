@@ -1,4 +1,6 @@
 // The lines of a comparison beside those of its resources (02, T-06), into a lent buffer.
+#![tactic(auto)]
+
 ghost use Rattle.std.specs.Prelude.{◌≡◌, [], ◌∷◌, ◌+◌, ◌%◌, ◌≤◌, ◌<◌};
 ghost use Rattle.text.specs.Text.{Wrote};
 ghost use Rattle.answer.specs.Answer.{no};

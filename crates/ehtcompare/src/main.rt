@@ -1,24 +1,28 @@
 // The program: standard input's two captures to the differences of their frames, or to a refusal's three lines (02, T-06).
+#![tactic(auto)]
+
 ghost use Rattle.std.specs.Prelude.{◌≤◌, length};
 
-use libc::{STDIN_FILENO, STDOUT_FILENO};
+use std::io;
+use std::io::Read;
 
-// One byte more than both captures may have is enough to tell that they are too long.
-fn run(text: &mut [u8], out: &mut [u8])
+// Standard input. One byte more than both captures may have is enough to tell that they are too long.
+fn read_text(rt: &HostRuntime) -> io::Result<Vec<u8>> {
+    let mut text = Vec::new(rt.alloc());
+    rt.reader().take(16385).read_to_end(&mut text)?;
+    Ok(text)
+}
+
+fn run(rt: &HostRuntime, text: &[u8], out: &mut [u8]) -> io::Result<()>
     requires { 29466 ≤ length out.old }
 {
-    let n = io::read_full(STDIN_FILENO, text);
-    let m = comparing::respond(&text[..n], out);
-    io::write_all(STDOUT_FILENO, &out[..m]);
+    let n = comparing::respond(text, out);
+    rt.write_all(&out[..n])
 }
 
-// As references to arrays, so that no proof has to count their bytes. No comparison has more than 29,466.
-fn lend(text: &mut [u8; 16385], out: &mut [u8; 29466]) {
-    run(text, out);
-}
-
-fn main() {
-    let mut text = [0; 16385];
+// No comparison has more than 29,466 bytes.
+fn main(rt: HostRuntime) -> io::Result<()> {
+    let text = read_text(&rt)?;
     let mut out = [0; 29466];
-    lend(&mut text, &mut out);
+    run(&rt, &text, &mut out)
 }

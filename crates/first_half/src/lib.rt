@@ -1,6 +1,8 @@
 // The first half of a reading: 1 to 8, and the plan of a frame that passes them. Each check is run only where the earlier ones pass.
 // What each says of a frame that passes is seen without a place: from the lengths, and from the common fields as numbers, each read once. A place is
 // looked for only where there is one.
+#![tactic(auto)]
+
 ghost use Rattle.std.specs.Prelude.{◌≡◌, ◌≤◌, ◌<◌, length, take, replicate};
 ghost use Rattle.answer.specs.Answer.{no, ◌or◌};
 ghost use Rattle.resource.specs.Values.{carried};

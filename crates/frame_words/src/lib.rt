@@ -1,5 +1,7 @@
 // The radiotap words of a frame, of its first channel's overflow and checks, its row, and its User fields as numbers, which become words where
 // they stand. The bytes that the fields were read from are lent for what is promised of them alone.
+#![tactic(auto)]
+
 ghost use Rattle.std.specs.Prelude.{◌≡◌, ◌++◌, ◌+◌, ◌*◌, ◌≤◌, length, drop};
 ghost use Rattle.answer.specs.Lists.{at, filled, Front};
 ghost use Rattle.channel.specs.Layout.{second_at, second_bits, count, user, user_of};

@@ -1,5 +1,7 @@
 // No code but what the first half hands on: 01's table up to 11, in the two halves of a reading (specs/), and what passing them says
 // (proofs/).
+#![tactic(auto)]
+
 use answer::Outcome;
 
 // What the first half tells of a frame: the outcome of 1 to 8 and, where it passes, its row, 0 past it, and the row's plan.

@@ -1,4 +1,6 @@
 // Known by the bandwidth, and the LTF size and GI of a GI+LTF.
+#![tactic(auto)]
+
 ghost use Rattle.std.specs.Prelude.{◌≡◌, ◌<◌};
 ghost use Rattle.header_values.specs.Header.{known, ltf_size_of, gi_of};
 

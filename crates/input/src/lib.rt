@@ -1,4 +1,6 @@
 // The program's text, read (01, "Listing"): three lines, or the first that is wrong.
+#![tactic(auto)]
+
 ghost use Rattle.std.specs.Prelude.{◌≡◌, ◌+◌, ◌-◌, ◌*◌, ◌≤◌, ◌<◌, length, drop, get_or};
 ghost use Rattle.text.specs.Text.{codes};
 ghost use Rattle.answer.specs.Lists.{filled};

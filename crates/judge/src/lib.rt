@@ -1,6 +1,8 @@
 // 13, asked of the words as they stand: whether channels that are accepted read to exactly these (01, "What comes back"). What 1 to 11 ask of channels
 // that are built of words is in the words themselves: their counts, the plan of their row, the formats and the STA-IDs of their User words. Lengths and
 // checks of what is built are right, and a row with a plan has no value that is not carried.
+#![tactic(auto)]
+
 ghost use Rattle.std.specs.Prelude.{◌≡◌, true, false, cond, ◌&&◌, ◌+◌, ◌%◌, ◌^◌, ◌≤◌, ◌<◌, eqb, ltb, leb, length, replicate};
 ghost use Rattle.answer.specs.Decides.{Decides};
 ghost use Rattle.answer.specs.Every.{every};

@@ -1,5 +1,7 @@
 // The kinds of resource that a position can be given to, as one table (01, "What a plan is"; 02, T-07), and the User fields of a
 // resource. A kind is its line in the table of specs/Kinds.antt: line 0 is the position itself, and 36 is none.
+#![tactic(auto)]
+
 ghost use Rattle.std.specs.Prelude.{◌≡◌, cond, eqb, ◌+◌, ◌*◌, ◌/◌, ◌%◌, ◌≤◌, ◌<◌};
 ghost use Rattle.answer.specs.Lists.{at};
 ghost use Rattle.kinds.specs.Kinds.{family, span, mask, takes, blank_at};

@@ -1,5 +1,7 @@
 // The line of a resource that is larger than a position (01, "Listing"), by whole stores: its subcarriers by its places, segment by segment,
 // and no list of runs is held.
+#![tactic(auto)]
+
 ghost use Rattle.std.specs.Prelude.{◌≡◌, map, ◌+◌, ◌/◌, ◌%◌, ◌≤◌, ◌<◌, length};
 ghost use Rattle.text.specs.Text.{Wrote};
 ghost use Rattle.resource.specs.Engine.{edge, span_of, the242_if, places_runs, spread_runs};

@@ -1,4 +1,6 @@
 // The answers 2, 3 and 9, each of one channel: too long, or cut short; and where its bits ran out.
+#![tactic(auto)]
+
 ghost use Rattle.std.specs.Prelude.{◌≡◌, ◌*◌, ◌≤◌, ◌<◌, length};
 ghost use Rattle.bits.specs.Bits.{lacks};
 ghost use Rattle.channel.specs.Layout.{common, count, end_of};

@@ -1,4 +1,6 @@
 // The lines of a listing beside those of its resources, into a lent buffer.
+#![tactic(auto)]
+
 ghost use Rattle.std.specs.Prelude.{◌≡◌, ◌+◌, ◌≤◌, ◌<◌, length, ◌++◌};
 ghost use Rattle.text.specs.Text.{codes, dec, Wrote, line};
 ghost use Rattle.lines.specs.Lines.{assigned, id_text, sta_line, refusal_text, head_text};

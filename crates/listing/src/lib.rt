@@ -1,4 +1,6 @@
 // A frame's listing (01, "Listing") into a lent buffer: 1 to 11 as the reader, then 23.
+#![tactic(auto)]
+
 ghost use Rattle.std.specs.Prelude.{◌≡◌, ◌+◌, ◌≤◌, length};
 ghost use Rattle.both_halves.specs.Engine.{Handed};
 ghost use Rattle.listing_size.specs.Longest.{longest_at};

@@ -1,4 +1,6 @@
 // All lines of an accepted frame's listing (01, "Listing"), into a lent buffer.
+#![tactic(auto)]
+
 ghost use Rattle.std.specs.Prelude.{◌≡◌, ◌+◌, ◌*◌, ◌≤◌, length};
 ghost use Rattle.text.specs.Text.{Wrote, upto};
 ghost use Rattle.plan.specs.Engine.{kinds_of};

@@ -1,5 +1,7 @@
 // A resource as the 26s that it takes of its segment, 36 bits, and the pairs of such masks that meet. No subcarrier is walked: two resources
 // that share a subcarrier share one of these.
+#![tactic(auto)]
+
 ghost use Rattle.std.specs.Prelude.{◌≡◌, ◌+◌, ◌*◌, ◌≤◌, ◌<◌, length, take};
 ghost use Rattle.answer.specs.Lists.{at};
 ghost use Rattle.answer.specs.Tally.{tally};

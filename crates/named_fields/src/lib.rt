@@ -1,4 +1,6 @@
 // The named fields of a channel in sending order: how many there are, and how wide each is.
+#![tactic(auto)]
+
 ghost use Rattle.std.specs.Prelude.{◌≡◌, ◌≤◌, ◌<◌, length};
 ghost use Rattle.answer.specs.Lists.{at};
 ghost use Rattle.channel.specs.Fields.{overflow_widths, checked_widths, second_widths, user_widths, widths};

@@ -1,4 +1,6 @@
 // The lines of the resources that only one of two plans has (02, T-06: "resources only in one"), in one walk over the positions of both.
+#![tactic(auto)]
+
 ghost use Rattle.std.specs.Prelude.{◌≡◌, ◌+◌, ◌*◌, ◌≤◌, ◌<◌, length};
 ghost use Rattle.text.specs.Text.{Wrote, upto};
 ghost use Rattle.resource.specs.Values.{own_pieces};

@@ -1,4 +1,6 @@
 // The pairs of entries of a Trigger frame that share a subcarrier (02, T-02): those whose masks meet (`masks`).
+#![tactic(auto)]
+
 ghost use Rattle.std.specs.Prelude.{◌≡◌, ◌++◌, ◌+◌, ◌*◌, ◌/◌, ◌≤◌, ◌<◌, ltb, length, take, drop};
 ghost use Rattle.answer.specs.Answer.{no, refuse_if, ◌or◌, answer_at, after, passes};
 ghost use Rattle.answer.specs.Lists.{at, filled};

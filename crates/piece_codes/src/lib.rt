@@ -1,5 +1,7 @@
 // The pieces of a value as numbers, so that what a line says of a piece is a load from a fixed table: a piece's code is its place among those
 // of its kind, and 16 for each kind before.
+#![tactic(auto)]
+
 ghost use Rattle.std.specs.Prelude.{◌≡◌, cond, eqb, ◌≤◌, ◌<◌};
 ghost use Rattle.resource.specs.Engine.{edge};
 ghost use Rattle.piece_codes.specs.Engine.{codes_of, wide_at, narrow_at, word_at, each_of, index_at};

@@ -1,6 +1,8 @@
 // The plan of a row of RU Allocation values (01, "What a plan is"; 02, T-07), made once: to what each position is given, whose User
 // fields share a resource, how many each channel has, and the answers 7 and 8. A kind of resource is its line in the table of crate
 // `kinds`: line 0 is the position itself, and 36 is none.
+#![tactic(auto)]
+
 ghost use Rattle.std.specs.Prelude.{◌≡◌, ◌⊎◌, false, cond, eqb, leb, ℕ, ◌+◌, ◌-◌, ◌*◌, ◌/◌, ◌%◌, ◌^◌, ◌≤◌, ◌<◌, min, length, replicate};
 ghost use Rattle.answer.specs.Answer.{no};
 ghost use Rattle.answer.specs.Lists.{at};

@@ -1,5 +1,7 @@
 // A channel walked from its first bit to its padding: over plain bytes and a bit number, and through a reading position that carries
 // its channel's bytes with it (01, "Bandwidth and channels").
+#![tactic(auto)]
+
 ghost use Rattle.std.specs.Prelude.{◌≡◌, ◌+◌, ◌*◌, ◌≤◌, ◌<◌, ◌^◌, length};
 ghost use Rattle.bits.specs.Bits.{field};
 ghost use Rattle.position.specs.Walk.{read_at, left_at, common_at, users_at, first_lacking, blocks_at, whole};
@@ -13,7 +15,7 @@ pub enum Field {
 }
 
 // A common field: its overflow, its values, 0 past them, how many User fields these give, and the bit after its last tail.
-#[derive(Drop)]
+#[derive(Clone, Copy)]
 pub struct CommonField {
     pub overflow: u32,
     pub values: [u16; 8],
@@ -173,7 +175,7 @@ pub fn walk(bw: u32, s: &[u8]) -> Channel
 // ---- through a position
 
 // A place in a channel, with the channel's bytes.
-#[derive(Drop)]
+#[derive(Clone, Copy)]
 pub struct Position<'a> {
     pub channel: &'a [u8],
     pub bit: usize,

@@ -1,4 +1,6 @@
 // Fields of a byte slice written, lowest bit first. A bit past the end is dropped, so no function here asks that a range lies in its slice.
+#![tactic(auto)]
+
 ghost use Rattle.std.specs.Prelude.{◌≡◌, ◌+◌, ◌-◌, ◌*◌, ◌%◌, ◌^◌, ◌≤◌, ◌<◌, min, length};
 ghost use Rattle.bits.specs.Bits.{put, Small};
 ghost use Rattle.put_bits.specs.Engine.{merge};

@@ -1,4 +1,6 @@
 // The reader: any bandwidth code, any bytes and any room to one answer, and the radiotap words of an accepted frame.
+#![tactic(auto)]
+
 ghost use Rattle.std.specs.Prelude.{◌≡◌, ◌+◌, ◌≤◌, length};
 ghost use Rattle.answer.specs.Answer.{◌or◌};
 ghost use Rattle.reader.specs.Table.{no_room};

@@ -1,4 +1,6 @@
 // What is refused of a record of a Trigger's entry, by its numbers (02, T-02).
+#![tactic(auto)]
+
 ghost use Rattle.std.specs.Prelude.{◌≡◌, length};
 ghost use Rattle.record_refusals.specs.Engine.{value_named, fit, numbers_outcome};
 

@@ -1,5 +1,7 @@
 // The resources of a row's plan, and whose User field is whose (01, "What a plan is"). A kind of resource is a number, as in
 // crate `kinds`: 0 is the position itself.
+#![tactic(auto)]
+
 ghost use Rattle.std.specs.Prelude.{◌≡◌, cond, eqb, ◌+◌, ◌%◌, ◌≤◌, ◌<◌, length, replicate};
 ghost use Rattle.answer.specs.Lists.{build, filled};
 ghost use Rattle.answer.specs.Lists.{at};

@@ -1,4 +1,6 @@
 // The check's register in one number: moved by bits and by bytes, the check that it gives, and the test of a block.
+#![tactic(auto)]
+
 ghost use Rattle.std.specs.Prelude.{◌≡◌, ◌≤◌, ◌<◌};
 ghost use Rattle.std.specs.Int.Bits.{bit_xor};
 ghost use Rattle.register.specs.Engine.{shifts, times, quotient, check_from, all_right, right_of};

@@ -1,5 +1,7 @@
 // The values of the RU Allocation subfield, the resources they speak of, and what holds a resource's subcarriers (01, "Values of the
 // RU Allocation subfield" and "Index and subcarriers").
+#![tactic(auto)]
+
 ghost use Rattle.std.specs.Prelude.{◌≡◌, ◌+◌, ◌-◌, ◌*◌, ◌/◌, ◌%◌, ◌≤◌, ◌<◌, length};
 ghost use Rattle.resource.specs.Values.{carried, fields_of, divides, piece_fields, own_pieces, smaller_at, family_of};
 ghost use Rattle.resource.specs.Names.{size_of, name_of, number_of};
@@ -7,7 +9,7 @@ ghost use Rattle.resource.specs.Index.{index_of, resource_at};
 ghost use Rattle.resource.specs.Engine.{starts, nth_from, piece_from, piece_at, numbered_of};
 
 // A single resource's number of subcarriers.
-#[derive(Drop)]
+#[derive(Clone, Copy)]
 pub enum Size {
     S26,
     S52,
@@ -19,7 +21,7 @@ pub enum Size {
 }
 
 // What a joined resource is made of.
-#[derive(Drop)]
+#[derive(Clone, Copy)]
 pub enum Pairing {
     P106And26,
     P484And242,
@@ -30,28 +32,28 @@ pub enum Pairing {
 }
 
 // A resource, with its index in its segment; of a wider one, in its own span.
-#[derive(Drop)]
+#[derive(Clone, Copy)]
 pub enum Resource {
     Single(Size, u16),
     Joined(Pairing, u16),
 }
 
 // What a position that is given to itself is divided into, with its place, from 1, among the nine, four or two of its kind.
-#[derive(Drop)]
+#[derive(Clone, Copy)]
 pub enum Piece {
     Part(Size, u16),
     With26(u16),
 }
 
 // The subcarriers from lo to hi, counted from the channel's lower edge.
-#[derive(Drop)]
+#[derive(Clone, Copy)]
 pub struct Run {
     pub lo: u32,
     pub hi: u32,
 }
 
 // The runs of a resource: the first `count` of eight, rising.
-#[derive(Drop)]
+#[derive(Clone, Copy)]
 pub struct Tones {
     pub count: u16,
     pub runs: [Run; 8],

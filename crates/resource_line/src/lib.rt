@@ -1,4 +1,6 @@
 // The line of a resource (01, "Listing"), into a lent buffer.
+#![tactic(auto)]
+
 ghost use Rattle.std.specs.Prelude.{◌≡◌, ◌+◌, ◌*◌, ◌/◌, ◌≤◌, ◌<◌, length, ◌++◌};
 ghost use Rattle.text.specs.Text.{codes, Wrote};
 ghost use Rattle.resource.specs.Engine.{span_of};

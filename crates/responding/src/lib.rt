@@ -1,4 +1,6 @@
 // What the program `ehtsig` writes for its text (01, "Listing"): the listing of a frame, or a refusal.
+#![tactic(auto)]
+
 ghost use Rattle.std.specs.Prelude.{◌≡◌, ◌≤◌};
 ghost use Rattle.text.specs.Text.{Wrote};
 ghost use Rattle.both_halves.specs.Engine.{Handed};

@@ -1,6 +1,8 @@
 // What a segment's four values say together, at one glance: where each value may stand is one number, its role, and the roles of four places
 // that agree tell to what the places are given (01, "What a plan is"). What they do not tell, because it is wrong or wider than a
 // segment, the crates `segments` and `spans` find out.
+#![tactic(auto)]
+
 ghost use Rattle.std.specs.Prelude.{◌≡◌, cond, leb, ◌+◌, ◌*◌, ◌/◌, ◌%◌, ◌^◌, ◌≤◌, ◌<◌};
 ghost use Rattle.resource.specs.Values.{fields_of};
 ghost use Rattle.roles.specs.Engine.{Role, no_role, bit, own_bits, pair_kinds, one_kinds, unsettled, over, by_pairs, named, by_one, settle_of};

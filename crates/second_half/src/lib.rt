@@ -1,5 +1,7 @@
 // The second half of a reading, whatever the room: 9 to 11, of n fields in channel 1 and m in channel 2, and the fields as numbers. Each check is
 // run only where the earlier ones pass.
+#![tactic(auto)]
+
 ghost use Rattle.std.specs.Prelude.{◌≡◌, ◌+◌, ◌*◌, ◌≤◌, ◌<◌, length};
 ghost use Rattle.answer.specs.Answer.{◌or◌};
 ghost use Rattle.answer.specs.Lists.{filled};

@@ -1,5 +1,7 @@
 // To what the values of a segment give its positions, where nothing wider has them, and whether that signals the row (01, "What a plan is").
 // A kind of resource is its line in the table of crate `kinds`: those that a segment can hold are lines 0 to 6.
+#![tactic(auto)]
+
 ghost use Rattle.std.specs.Prelude.{◌≡◌, ◌&&◌, ◌||◌, eqb, ◌+◌, ◌*◌, ◌/◌, ◌%◌, ◌≤◌, ◌<◌, length};
 ghost use Rattle.answer.specs.Lists.{at};
 ghost use Rattle.kinds.specs.Kinds.{family, span, takes, blank_at};

@@ -1,5 +1,7 @@
 // To what the positions of a part of a row are given, sought "in the whole width, then in each half, down to one segment" (02, T-07). A kind
 // of resource is its line in the table of crate `kinds`: those wider than a segment are lines 7 to 35, and 36 is none.
+#![tactic(auto)]
+
 ghost use Rattle.std.specs.Prelude.{◌≡◌, ◌⊎◌, cond, ◌+◌, ◌*◌, ◌/◌, ◌%◌, ◌≤◌, ◌<◌, min, length};
 ghost use Rattle.answer.specs.Lists.{at};
 ghost use Rattle.kinds.specs.Kinds.{takes};

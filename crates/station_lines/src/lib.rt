@@ -1,4 +1,6 @@
 // The lines of a channel's User fields, each with its station and the number of its owner, into a lent buffer; how many are a station's.
+#![tactic(auto)]
+
 ghost use Rattle.std.specs.Prelude.{◌≡◌, ◌+◌, ◌*◌, ◌≤◌, ◌<◌, length};
 ghost use Rattle.answer.specs.Tally.{tally};
 ghost use Rattle.answer.specs.Lists.{at as value};

@@ -1,4 +1,6 @@
 // The repeat check: no STA-ID from 1 to 2006 stands twice in a frame (01, "What comes back", 11).
+#![tactic(auto)]
+
 ghost use Rattle.std.specs.Prelude.{◌≡◌, ◌+◌, ◌/◌, ◌%◌, ◌^◌, ◌≤◌, ◌<◌, ◌&&◌, eqb, ltb, leb, length, replicate};
 ghost use Rattle.std.specs.Int.Bits.{bit_or};
 ghost use Rattle.answer.specs.Lists.{filled};

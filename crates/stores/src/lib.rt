@@ -1,4 +1,6 @@
 // Texts of at most eight bytes as one number, the first byte the lowest, written by whole stores where the buffer reaches.
+#![tactic(auto)]
+
 ghost use Rattle.std.specs.Prelude.{◌≡◌, cond, [], ◌∷◌, ◌++◌, ◌+◌, ◌-◌, ◌*◌, ◌/◌, ◌%◌, ◌≤◌, ◌<◌, ◌^◌, ltb, length, pos, ◌-ℤ◌};
 ghost use Rattle.text.specs.Text.{Wrote, codes, dec, signed};
 ghost use Rattle.stores.specs.Engine.{bytes_of, values_of, zeros_in, four_of, lead_of, digits_of, ended_of, spaced_word, apart, minus_if, Over, Under};

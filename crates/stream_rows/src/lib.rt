@@ -2,6 +2,8 @@
 //
 // No row is listed on the way to another: all rows with as many entries of at least 2 are stepped over at once, then those with as many of at
 // least 3.
+#![tactic(auto)]
+
 ghost use Rattle.std.specs.Prelude.{◌≡◌, true, ◌||◌, ◌+◌, ◌*◌, ◌≤◌, ◌<◌, min, leb, length};
 ghost use Rattle.answer.specs.Lists.{at, filled};
 ghost use Rattle.stream_rows.specs.Rows.{row_in};
@@ -12,7 +14,7 @@ ghost use Rattle.stream_rows.specs.Result.{not2to8, row_outcome, row_answer, row
 use answer::{Answer, Outcome};
 
 // How many entries of a row are at least 2, 3 and 4.
-#[derive(Drop)]
+#[derive(Clone, Copy)]
 struct Shape {
     two: usize,
     three: usize,

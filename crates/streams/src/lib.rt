@@ -1,4 +1,6 @@
 // The streams of a frame's User fields (02, T-11), by the words that the reader gives.
+#![tactic(auto)]
+
 ghost use Rattle.std.specs.Prelude.{◌≡◌, true, false, ◌/◌, ◌%◌, ◌≤◌, ◌<◌, length, replicate};
 ghost use Rattle.answer.specs.Lists.{at, filled};
 ghost use Rattle.kinds.specs.Signals.{Signals};

@@ -1,4 +1,6 @@
 // The subcarriers of a resource, as runs (01, "Index and subcarriers").
+#![tactic(auto)]
+
 ghost use Rattle.std.specs.Prelude.{◌≡◌, ◌+◌, ◌-◌, ◌*◌, ◌/◌, ◌%◌, ◌≤◌, ◌<◌, length, cond, List, [], ◌∷◌, ◌++◌, T, eqb};
 ghost use Rattle.resource.specs.Index.{is_piece, from_positions, resource_at};
 ghost use Rattle.resource.specs.Engine.{run_of, edge, the242, offset26, offset52, offset106};

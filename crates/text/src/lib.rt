@@ -1,5 +1,7 @@
 // Writers of text into a lent buffer (01, "Listing"). Each stores where the buffer reaches and returns the next place
 // either way: one writer counts and writes.
+#![tactic(auto)]
+
 ghost use Rattle.std.specs.Prelude.{◌≡◌, [], ◌∷◌, ◌+◌, ◌%◌, ◌≤◌, ◌<◌, length, pos, ◌-ℤ◌};
 ghost use Rattle.text.specs.Text.{Wrote, decs, dec, signed, keyed, line};
 

@@ -1,4 +1,6 @@
 // The check alone behind C entries, for bench/run to time. No part of the library.
+#![tactic(auto)]
+
 ghost use Rattle.std.specs.Prelude.{◌≡◌, ◌+◌, ◌*◌, ◌^◌, ◌≤◌, ◌<◌};
 ghost use Rattle.timed.specs.Sums.{sum, check_in, right_in};
 

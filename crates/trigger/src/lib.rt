@@ -1,4 +1,6 @@
 // Entries of a Trigger frame: the EHT variant User Info, five bytes, read into a record of eight numbers and written back (02, T-02).
+#![tactic(auto)]
+
 ghost use Rattle.std.specs.Prelude.{◌≡◌, true, [], ◌∷◌, ◌+◌, ◌*◌, ◌/◌, ◌≤◌, ◌<◌, min, length};
 ghost use Rattle.answer.specs.Answer.{◌or◌, answer_at, after, passes};
 ghost use Rattle.answer.specs.Lists.{at, filled};

@@ -1,4 +1,6 @@
 // The fields of an entry of a Trigger frame, and the values of its RU Allocation with the resources that they name (02, T-02).
+#![tactic(auto)]
+
 ghost use Rattle.std.specs.Prelude.{◌≡◌};
 ghost use Rattle.trigger_values.specs.UserInfo.{part};
 ghost use Rattle.trigger_values.specs.Values.{resource_of, taken};

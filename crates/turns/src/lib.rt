@@ -1,5 +1,7 @@
 // Which of its resource's User fields each is, and of how many (01, "What a plan is": "A resource's fields are those of all its places,
 // channel 1's first"), for all fields of a row in the order of their words.
+#![tactic(auto)]
+
 ghost use Rattle.std.specs.Prelude.{◌≡◌, ◌+◌, ◌*◌, ◌≤◌, ◌<◌, length, replicate};
 ghost use Rattle.answer.specs.Lists.{at, build, filled};
 ghost use Rattle.kinds.specs.Signals.{Signals};

@@ -1,5 +1,7 @@
 // Each User field of a frame as one number, its 22 bits and the resource that owns it: two fields differ where their numbers do
 // (02, T-06: "User fields whose bits or resource differ").
+#![tactic(auto)]
+
 ghost use Rattle.std.specs.Prelude.{◌≡◌, ◌+◌, ◌≤◌, ◌<◌, length, replicate};
 ghost use Rattle.answer.specs.Lists.{at, filled};
 ghost use Rattle.resource.specs.Names.{number_of};

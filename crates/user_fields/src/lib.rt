@@ -1,5 +1,7 @@
 // The User fields of a frame as numbers, each block read once, and 10: what is wrong with any block is gathered over all of a channel and
 // looked at once; which block it is, is sought only where one is wrong.
+#![tactic(auto)]
+
 ghost use Rattle.std.specs.Prelude.{◌≡◌, ◌+◌, ◌-◌, ◌*◌, ◌/◌, ◌%◌, ◌^◌, ◌≤◌, ◌<◌, length, set};
 ghost use Rattle.answer.specs.Answer.{◌or◌};
 ghost use Rattle.answer.specs.Every.{every};

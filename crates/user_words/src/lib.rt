@@ -1,4 +1,6 @@
 // The radiotap words of User fields that have one format, in the place of the fields.
+#![tactic(auto)]
+
 ghost use Rattle.std.specs.Prelude.{◌≡◌, ◌≤◌, length};
 ghost use Rattle.answer.specs.Lists.{filled};
 ghost use Rattle.user_words.specs.Engine.{run_word};

@@ -2,40 +2,46 @@
 //
 // A case is a letter and its arguments, exactly one space before each: decimal numbers, and byte strings as pairs of
 // capital hex digits, `-` where empty. A line that is no case is answered by `?`.
+#![tactic(auto)]
+
 mod cases;
 mod frames;
+mod line_words;
 mod print;
 mod rows;
 mod walks;
-mod words;
 mod writes;
 
 use cases::respond;
-use libc::STDIN_FILENO;
-use words::line_end;
+use line_words::line_end;
+use std::io;
+use std::io::{BufWriter, Read, Write};
 
 // Every line of the text.
-fn each(s: &[u8]) {
+fn each(out: &mut impl Write, s: &[u8]) -> io::Result<()> {
     let mut at = 0;
     while at < s.len() {
         let e = line_end(s, at);
-        respond(&s[at..e]);
+        respond(out, &s[at..e])?;
         at = e + 1;
     }
+    Ok(())
 }
 
 // All of standard input that there is room for. (A longer one would be cut, and its missing lines seen.)
-fn run(text: &mut [u8]) {
-    let n = io::read_full(STDIN_FILENO, text);
-    each(&text[..n]);
+fn read_text(rt: &HostRuntime) -> io::Result<Vec<u8>> {
+    let mut text = Vec::new(rt.alloc());
+    rt.reader().take(1048576).read_to_end(&mut text)?;
+    Ok(text)
 }
 
-// As a reference to an array, so that no proof has to count its bytes.
-fn lend(text: &mut [u8; 1048576]) {
-    run(text);
+fn run(rt: &HostRuntime, text: &[u8]) -> io::Result<()> {
+    let mut out = BufWriter::new(rt.alloc(), io::writer(rt))?;
+    each(&mut out, text)?;
+    out.flush()
 }
 
-fn main() {
-    let mut text = [0; 1048576];
-    lend(&mut text);
+fn main(rt: HostRuntime) -> io::Result<()> {
+    let text = read_text(&rt)?;
+    run(&rt, &text)
 }

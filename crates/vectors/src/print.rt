@@ -2,27 +2,28 @@
 ghost use Rattle.std.specs.Prelude.{◌≡◌, ◌≤◌, ◌%◌, length, take};
 ghost use Rattle.vectors.specs.Text.{glyph_of};
 
-use crate::words::lesser;
+use crate::line_words::lesser;
 use answer::Answer;
-use libc::STDOUT_FILENO;
+use std::io;
+use std::io::Write;
 
-pub(crate) fn text(s: &[u8]) {
-    io::write_all(STDOUT_FILENO, s);
+pub(crate) fn text(out: &mut impl Write, s: &[u8]) -> io::Result<()> {
+    out.write_all(s)
 }
 
 // What answers a line that is no case.
-pub(crate) fn no_case() {
-    text(b"?");
+pub(crate) fn no_case(out: &mut impl Write) -> io::Result<()> {
+    text(out, b"?")
 }
 
-pub(crate) fn number(n: u64) {
-    io::print_decimal(STDOUT_FILENO, n);
+pub(crate) fn number(out: &mut impl Write, n: u64) -> io::Result<()> {
+    write!(out, "{n}")
 }
 
 // A space and a number.
-pub(crate) fn next(n: u64) {
-    text(b" ");
-    number(n);
+pub(crate) fn next(out: &mut impl Write, n: u64) -> io::Result<()> {
+    text(out, b" ")?;
+    number(out, n)
 }
 
 // The capital hex digit of the lowest four bits.
@@ -48,23 +49,22 @@ fn encode(s: &[u8], out: &mut [u8]) -> usize
 }
 
 // A byte string: pairs of capital hex digits, `-` where empty.
-pub(crate) fn bytes(s: &[u8]) {
+pub(crate) fn bytes(out: &mut impl Write, s: &[u8]) -> io::Result<()> {
     if s.len() == 0 {
-        text(b"-");
-        return;
+        return text(out, b"-");
     }
-    let mut space = io::large_buffer();
+    let mut space = [0; 65536];
     let n = encode(s, &mut space);
-    text(&space[..n]);
+    text(out, &space[..n])
 }
 
 // What a call answers.
-pub(crate) fn answer(a: Answer) {
-    number(a.number as u64);
-    text(b" ");
-    number(a.channel as u64);
-    text(b" ");
-    number(a.place as u64);
+pub(crate) fn answer(out: &mut impl Write, a: Answer) -> io::Result<()> {
+    number(out, a.number as u64)?;
+    text(out, b" ")?;
+    number(out, a.channel as u64)?;
+    text(out, b" ")?;
+    number(out, a.place as u64)
 }
 
 // The hex digit of the lowest four bits of a word.
@@ -73,7 +73,7 @@ fn nibble(w: u32) -> u8 {
 }
 
 // A space and the eight hex digits of a word.
-fn word(w: u32) {
+fn word(out: &mut impl Write, w: u32) -> io::Result<()> {
     let digits = [
         b' ',
         nibble(w >> 28),
@@ -85,15 +85,16 @@ fn word(w: u32) {
         nibble(w >> 4),
         nibble(w),
     ];
-    text(&digits);
+    text(out, &digits)
 }
 
 // The first 160 words.
-pub(crate) fn words(s: &[u32]) {
+pub(crate) fn words(out: &mut impl Write, s: &[u32]) -> io::Result<()> {
     let n = lesser(s.len(), 160);
     let mut i = 0;
     while i < n {
-        word(s[i]);
+        word(out, s[i])?;
         i += 1;
     }
+    Ok(())
 }

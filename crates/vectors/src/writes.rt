@@ -2,43 +2,61 @@
 ghost use Rattle.std.specs.Prelude.{◌≤◌};
 
 use crate::frames::bandwidth;
+use crate::line_words::{STRING, lesser, number, string};
 use crate::print::{answer as print_answer, bytes, no_case, text};
-use crate::words::{lesser, number, string};
+use std::io;
+use std::io::Write;
 
 // The answer and both channels lent, after the words are written into them.
-fn write_into(cc1: &mut [u8], cc2: &mut [u8], words: &[u32], line: &[u8]) {
+fn write_into(
+    out: &mut impl Write,
+    cc1: &mut [u8],
+    cc2: &mut [u8],
+    words: &[u32],
+    line: &[u8],
+) -> io::Result<()> {
     let a = writer::write(bandwidth(line), words, cc1, cc2);
-    print_answer(a);
-    text(b" ");
-    bytes(cc1);
-    text(b" ");
-    bytes(cc2);
+    print_answer(out, a)?;
+    text(out, b" ")?;
+    bytes(out, cc1)?;
+    text(out, b" ")?;
+    bytes(out, cc2)
 }
 
 // The same, of as many of the bytes lent as a line says.
-fn write_room(cc1: &mut [u8], cc2: &mut [u8], words: &[u32], line: &[u8]) {
+fn write_room(
+    out: &mut impl Write,
+    cc1: &mut [u8],
+    cc2: &mut [u8],
+    words: &[u32],
+    line: &[u8],
+) -> io::Result<()> {
     let n = number(line, 3);
     let m = number(line, 4);
     if n > cc1.len() {
-        no_case();
-        return;
+        return no_case(out);
     }
     if m > cc2.len() {
-        no_case();
-        return;
+        return no_case(out);
     }
-    write_into(&mut cc1[..n], &mut cc2[..m], words, line);
+    write_into(out, &mut cc1[..n], &mut cc2[..m], words, line)
 }
 
 // As references to arrays, so that no proof has to count their bytes.
-fn lend_channels(cc1: &mut [u8; 640], cc2: &mut [u8; 640], words: &[u32], line: &[u8]) {
-    write_room(cc1, cc2, words, line);
+fn lend_channels(
+    out: &mut impl Write,
+    cc1: &mut [u8; 640],
+    cc2: &mut [u8; 640],
+    words: &[u32],
+    line: &[u8],
+) -> io::Result<()> {
+    write_room(out, cc1, cc2, words, line)
 }
 
-fn write_words(words: &[u32], line: &[u8]) {
+fn write_words(out: &mut impl Write, words: &[u32], line: &[u8]) -> io::Result<()> {
     let mut cc1 = [0xA5u8; 640];
     let mut cc2 = [0xA5u8; 640];
-    lend_channels(&mut cc1, &mut cc2, words, line);
+    lend_channels(out, &mut cc1, &mut cc2, words, line)
 }
 
 // Word i of a byte string, its lowest byte first.
@@ -68,20 +86,20 @@ fn count(n: usize) -> usize {
 }
 
 // The words that a line says, in the words lent, and what writing them comes to.
-fn write_line(words: &mut [u32], line: &[u8]) {
-    let mut space = io::buffer();
+fn write_line(out: &mut impl Write, words: &mut [u32], line: &[u8]) -> io::Result<()> {
+    let mut space = [0; STRING];
     let n = string(line, 2, &mut space);
     unpack(&space[..n], words);
     let k = lesser(count(n), words.len());
-    write_words(&words[..k], line);
+    write_words(out, &words[..k], line)
 }
 
-fn lend_words(words: &mut [u32; 256], line: &[u8]) {
-    write_line(words, line);
+fn lend_words(out: &mut impl Write, words: &mut [u32; 256], line: &[u8]) -> io::Result<()> {
+    write_line(out, words, line)
 }
 
 // W bw WORDS room1 room2: what writing WORDS, little-endian, into room1 and room2 bytes, at most 640 each, comes to.
-pub(crate) fn write(line: &[u8]) {
+pub(crate) fn write(out: &mut impl Write, line: &[u8]) -> io::Result<()> {
     let mut words = [0u32; 256];
-    lend_words(&mut words, line);
+    lend_words(out, &mut words, line)
 }

@@ -1,4 +1,6 @@
 // What can be refused of a text of words, as bytes, before the words are looked at.
+#![tactic(auto)]
+
 ghost use Rattle.std.specs.Prelude.{◌≡◌};
 ghost use Rattle.whole_words.specs.Engine.{early};
 

@@ -1,4 +1,6 @@
 // Words as bytes, the lowest byte of each first, and back.
+#![tactic(auto)]
+
 ghost use Rattle.std.specs.Prelude.{◌≡◌, ◌+◌, ◌*◌, ◌≤◌, ◌<◌, length};
 ghost use Rattle.answer.specs.Lists.{filled};
 ghost use Rattle.word_bytes.specs.Bytes.{byte_at, word_at};

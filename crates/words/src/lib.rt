@@ -1,4 +1,6 @@
 // The radiotap EHT words (002) of the parts of a frame, and back.
+#![tactic(auto)]
+
 ghost use Rattle.std.specs.Prelude.{◌≡◌, true, false, ◌++◌, ◌+◌, ◌*◌, ◌≤◌, ◌<◌, length, drop};
 ghost use Rattle.answer.specs.Lists.{at};
 ghost use Rattle.words.specs.Words.{overflow_word, value_slot, first_word, triple_word, second_word, header, user_word};

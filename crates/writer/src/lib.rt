@@ -1,5 +1,7 @@
 // The writer: words to channels, the inverse of the reader. The words are judged as they stand (`judge`), and the room is measured; only then is
 // anything written to the caller, and straight to where it is lent.
+#![tactic(auto)]
+
 ghost use Rattle.std.specs.Prelude.{◌≡◌, true, List, ℕ, ◌+◌, ◌*◌, ◌/◌, ◌^◌, ◌≤◌, ◌<◌, length};
 ghost use Rattle.answer.specs.Answer.{no};
 ghost use Rattle.answer.specs.Lists.{filled, at};

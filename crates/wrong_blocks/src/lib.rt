@@ -1,4 +1,6 @@
 // The answers 4 and 10, each of one channel: a block whose check or tail is wrong.
+#![tactic(auto)]
+
 ghost use Rattle.std.specs.Prelude.{◌≡◌, ◌≤◌};
 ghost use Rattle.register.specs.Engine.{right_of};
 ghost use Rattle.channel.specs.Layout.{first_bits, count};

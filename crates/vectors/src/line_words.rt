@@ -2,6 +2,9 @@
 ghost use Rattle.std.specs.Prelude.{◌≡◌, ◌≤◌, ◌<◌, length, take};
 ghost use Rattle.vectors.specs.Text.{with_digit, decimal_of, hex_of, unread};
 
+// How many bytes a byte string has at most.
+pub(crate) const STRING: usize = 4096;
+
 // What a word that is no number below this is read as.
 const UNREAD: usize = 100000000000000000;
 
