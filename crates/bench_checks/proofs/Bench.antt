@@ -83,7 +83,8 @@ zero_by row rs ks t e f = (
 )
 
 -- the resource at a position of the first segment is over eight
-eight_by : (row ks : List ℕ) (p : ℕ) → T (signals row ks (length row)) → T (ltb p (length row)) → T (ltb p 4) → T (not (at_most row ks p)) → Holds (gets_8 row 0)
+eight_by : (row ks : List ℕ) (p : ℕ) → T (signals row ks (length row)) → T (ltb p (length row)) → T (ltb p 4) → T (not (at_most row ks p)) → Holds
+    (gets_8 row 0)
 eight_by row ks p t z y e = eight row 0 (sym (laid_is row (Refuse (no 8 0 0)) is_over))
   where
     s : Signals (at ks) (at row) 0 (length row)
@@ -174,10 +175,13 @@ all_hold (of_none {row} {s} l a b c f es) = (seven_by row s (ltb→lt _ _ l) a b
 all_hold (of_check e es) = (e, all_hold es)
 
 computed : Computed bench
-unfolding plan_outcome first_unheld first_over held_by part_right every_from is_right entirely given only_plan part_plan spans_in search named settled sided whole_or
+unfolding plan_outcome first_unheld first_over held_by part_right every_from is_right entirely given only_plan part_plan spans_in search named settled sided
+    whole_or
     tell_tale
-    segment_plan fitting choose tells or_else kind_named kind_of sought least must_name blank_at takes_block takes mask span family kind_at kinds gives share fields_in
-    ◌or◌ list_at lead resource_column larger piece_fields divides pieces fields_of own_pieces smaller_at index_of resource_at carried bit step register sent check
+    segment_plan fitting choose tells or_else kind_named kind_of sought least must_name blank_at takes_block takes mask span family kind_at kinds gives share
+    fields_in
+    ◌or◌ list_at lead resource_column larger piece_fields divides pieces fields_of own_pieces smaller_at index_of resource_at carried bit step register sent
+    check
 computed =
     of_0 tt refl refl refl (of_7 refl (of_0 tt refl refl refl (of_7 refl (of_0 tt refl refl refl
     (of_8 tt refl tt refl (of_0 tt refl refl refl (of_7 refl (of_0 tt refl refl refl (of_7 refl
@@ -186,10 +190,13 @@ computed =
 
 -- ---- the rows with wider resources
 computed_320 : Computed wide320
-unfolding plan_outcome first_unheld first_over held_by part_right every_from is_right entirely given only_plan part_plan spans_in search named settled sided whole_or
+unfolding plan_outcome first_unheld first_over held_by part_right every_from is_right entirely given only_plan part_plan spans_in search named settled sided
+    whole_or
     tell_tale
-    segment_plan fitting choose tells or_else kind_named kind_of sought least must_name blank_at takes_block takes mask span family kind_at kinds gives share fields_in
-    ◌or◌ list_at lead resource_column larger piece_fields divides pieces fields_of own_pieces smaller_at index_of resource_at carried bit step register sent check
+    segment_plan fitting choose tells or_else kind_named kind_of sought least must_name blank_at takes_block takes mask span family kind_at kinds gives share
+    fields_in
+    ◌or◌ list_at lead resource_column larger piece_fields divides pieces fields_of own_pieces smaller_at index_of resource_at carried bit step register sent
+    check
 computed_320 =
     of_plan (0 ∷ 0 ∷ replicate 10 24 ++ replicate 4 2) tt tt refl
     (of_plan (replicate 4 2 ++ (0 ∷ 0 ∷ replicate 10 30)) tt tt refl
@@ -197,10 +204,13 @@ computed_320 =
     (of_over (0 ∷ 0 ∷ replicate 14 16) 2 tt tt tt tt done)))
 
 computed_160 : Computed wide160
-unfolding plan_outcome first_unheld first_over held_by part_right every_from is_right entirely given only_plan part_plan spans_in search named settled sided whole_or
+unfolding plan_outcome first_unheld first_over held_by part_right every_from is_right entirely given only_plan part_plan spans_in search named settled sided
+    whole_or
     tell_tale
-    segment_plan fitting choose tells or_else kind_named kind_of sought least must_name blank_at takes_block takes mask span family kind_at kinds gives share fields_in
-    ◌or◌ list_at lead resource_column larger piece_fields divides pieces fields_of own_pieces smaller_at index_of resource_at carried bit step register sent check
+    segment_plan fitting choose tells or_else kind_named kind_of sought least must_name blank_at takes_block takes mask span family kind_at kinds gives share
+    fields_in
+    ◌or◌ list_at lead resource_column larger piece_fields divides pieces fields_of own_pieces smaller_at index_of resource_at carried bit step register sent
+    check
 computed_160 =
     of_plan (replicate 8 7) tt tt refl
     (of_plan (replicate 8 2) tt tt refl

@@ -20,6 +20,8 @@ unpack_pack (w ∷ ws) (v ∷ vs) f =
     let lo : (v + 2 ^ w * pack ws vs) % 2 ^ w ≡ v = low (2 ^ w) v (pack ws vs) f.0 in
     let hi : (v + 2 ^ w * pack ws vs) / 2 ^ w ≡ pack ws vs = high (2 ^ w) v (pack ws vs) f.0 in
     rw (lo, hi, unpack_pack ws vs f.1)
+unpack_pack [] (v ∷ vs) f = elim f [ ]
+unpack_pack (w ∷ ws) [] f = elim f [ ]
 
 -- what was unpacked is packed again
 pub pack_unpack : (ws : List ℕ) (x : ℕ) → x < 2 ^ width ws → pack ws (unpack ws x) ≡ x
@@ -36,6 +38,8 @@ unpack_fit (w ∷ ws) x = (mod-lt x (pow_pos w), unpack_fit ws (x / 2 ^ w))
 -- values that fit pack below the power of the whole width
 pub pack_lt : (ws vs : List ℕ) → Fit ws vs → pack ws vs < 2 ^ width ws
 pack_lt [] [] f = omega arith
+pack_lt [] (v ∷ vs) f = elim f [ ]
+pack_lt (w ∷ ws) [] f = elim f [ ]
 pack_lt (w ∷ ws) (v ∷ vs) f = rw (pow-add 2 w (width ws)) (below (2 ^ w) v (pack ws vs) (2 ^ width ws) f.0 (pack_lt ws vs f.1))
   where
     below : (m v p q : ℕ) → v < m → p < q → v + m * p < m * q

@@ -1,25 +1,22 @@
 -- A channel built bit by bit from its start: what is built of it after so many bits, and what joining more of them gives.
 use mathlib.Core.Path.{◌≡◌, refl, sym, ◌∙◌, ap, ap₂, subst}
-use mathlib.Core.Bool.{true, cond}
 use mathlib.Core.List.{List}
 use Prim.Native.Nat.{ℕ, suc, ◌+◌, ◌-◌, ◌*◌, ◌/◌, ◌%◌, ◌^◌, ◌≤◌, ◌<◌}
 use native.Mathlib.Decide.{dec_lt, ℕ_discrete}
 use native.Mathlib.Nat.{mod-eq_of_lt, zero-mod, div-eq_of_lt, zero-div}
 use native.Mathlib.Omega.{arith}
-use lib.Dec.{ltb}
 use lib.ListN.{get_or, set, length, length-set, get_or-eq_default}
 use lib.Seq.{get_or-set_same, get_or-set_other}
 use lib.Pow as P
-use borrow.Author.Tests.{lt-ltb, le-ltb}
 use Rattle.bits.specs.Bits.{bit, field, put, Small}
 use Rattle.bits.proofs.Bytes.{same_bits}
-use Rattle.bits.proofs.Fields.{bit_end, field_bit, field_lt, field_part, field_split}
+use Rattle.bits.proofs.Fields.{field_bit, field_lt, field_split}
 use Rattle.bits.proofs.Windows.{field_rest}
 use Rattle.bits.proofs.Writes.{put_length, put_before, put_in}
-use Rattle.block.specs.Check.{check, Right}
+use Rattle.block.specs.Check.{Right}
 use Rattle.block.proofs.Word.{check_whole}
 use Rattle.register.specs.Engine.{check_from}
-use Rattle.channel.specs.Layout.{common, user_at, block_at, blocks, covered, end_of}
+use Rattle.channel.specs.Layout.{common, user_at, block_at}
 use Rattle.channel.proofs.Blocks.{user_even, user_odd}
 use Rattle.candidate.specs.Engine.{joined, sealed_of, Built, Ends, ClearedFrom}
 

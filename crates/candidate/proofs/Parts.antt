@@ -1,19 +1,17 @@
 -- The channel that is built, part by part: each is the number that the code joins to what it has.
-use mathlib.Core.Path.{◌≡◌, refl, sym, ◌∙◌, ap, ap₂}
+use mathlib.Core.Path.{◌≡◌, refl, sym, ◌∙◌, ap}
 use mathlib.Core.Bool.{Bool, true, false, cond}
 use mathlib.Core.List.{List}
 use Prim.Native.Nat.{ℕ, ◌+◌, ◌-◌, ◌*◌, ◌/◌, ◌%◌, ◌^◌, ◌≤◌, ◌<◌}
 use native.Mathlib.Decide.{ℕ_discrete}
-use native.Mathlib.Nat.{mod-eq_of_lt}
 use native.Mathlib.Omega.{arith}
-use lib.Dec.{eqb, ltb}
+use lib.Dec.{ltb}
 use lib.ListN.{length}
-use lib.Pow as P
-use borrow.Author.Tests.{lt-ltb, le-ltb, eq-eqb, ne_eqb}
+use borrow.Author.Tests.{lt-ltb, le-ltb, ne_eqb}
 use Rattle.answer.specs.Lists.{at}
 use Rattle.bits.specs.Bits.{field, Small}
 use Rattle.bits.proofs.Windows.{field_low, field_rest}
-use Rattle.channel.specs.Layout.{present, firsts, seconds, first_bits, second_at, second_bits, has_second, common, subfields, subfields_in, user_at, block_at}
+use Rattle.channel.specs.Layout.{firsts, seconds, first_bits, second_at, second_bits, has_second, common, subfields, subfields_in, user_at, block_at}
 use Rattle.channel.specs.Layout.{blocks, covered, end_of}
 use Rattle.channel.proofs.Laws.{common_ge}
 use Rattle.channel.proofs.Blocks.{user_even}

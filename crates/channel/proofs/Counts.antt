@@ -54,7 +54,8 @@ pub count_row : (bw : ℕ) (a b : List ℕ) → bw ≤ 4 → count bw 1 a + coun
 unfolding count
 count_row bw a b l =
     go (dec_lt 0 bw)
-    ∙ sym (total_cong (λ p. fields_of (get_or (row bw a b) p 0)) (λ p. fields_of (row_at bw a b p)) (positions bw) (λ p h. ap fields_of (row_at_lem bw a b p h)))
+    ∙ sym (total_cong (λ p. fields_of (get_or (row bw a b) p 0)) (λ p. fields_of (row_at bw a b p)) (positions bw)
+    (λ p h. ap fields_of (row_at_lem bw a b p h)))
   where
     lone : (bw : ℕ) → bw ≡ 0 → count bw 1 a + count bw 2 b ≡ total (λ p. fields_of (row_at bw a b p)) (positions bw)
     lone bw e = rw (e, one_position) (one_field a b)

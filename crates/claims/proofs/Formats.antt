@@ -20,7 +20,7 @@ use Rattle.plan.proofs.Laid.{outcome_laid}
 use Rattle.plan.proofs.Demand.{accepted_plan, only_plan_lem}
 use Rattle.records.specs.declared.Record.{Record}
 use Rattle.records.specs.Records.{records_of, blank}
-use Rattle.records.specs.Owns.{fields_before, ComesFrom, number}
+use Rattle.records.specs.Owns.{fields_before, ComesFrom}
 use Rattle.records.specs.FieldsOf.{fields_on}
 use Rattle.records.specs.Engine.{owner_of}
 use Rattle.records.proofs.Owners.{comes_below, one_owner, owner_owns}

@@ -66,9 +66,9 @@ of_words_lem d (c_writes κs a r s p) z =
     let w = a.1.0 in
     let e = s.1.0 in
     writes κs
-    (a.0, (record { ref_ptr = w.ptr; ghost_name = w.name; now = words_in t }, (a.1.1.0, (a.1.1.1.0, tt))))
+    (a.0, (record { ref_ptr = w.ref_ptr; now = words_in t }, (a.1.1.0, (a.1.1.1.0, tt))))
     r
-    (s.0, (record { ref_ptr = e.ptr; ghost_name = e.name; now = words_in t }, (s.1.1.0, (s.1.1.1.0, tt))))
+    (s.0, (record { ref_ptr = e.ref_ptr; now = words_in t }, (s.1.1.0, (s.1.1.1.0, tt))))
     (rw o at p.0, (rw o at p.1.0, rw o at p.1.1))
 
 -- ---- reading

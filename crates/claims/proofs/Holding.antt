@@ -85,7 +85,8 @@ held_test bw v =
 
 all_held : T (below (λ bw. below (held_test bw) 94) 3)
 unfolding entirely given fitting least must_name blank_at takes_block takes mask span family line_of kinds gives share fields_in list_at lead resource_column
-    larger piece_fields divides pieces fields_of own_pieces smaller_at index_of position_of from_positions resource_at carried build named resource_of reaches taken
+    larger piece_fields divides pieces fields_of own_pieces smaller_at index_of position_of from_positions resource_at carried build named resource_of reaches
+    taken
 all_held = tt
 
 pub held_by_some : (bw : ℕ) → bw ≤ 2 → (v : ℕ) → T (taken bw v) → HeldBySome bw (resource_of v)

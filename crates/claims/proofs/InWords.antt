@@ -112,7 +112,8 @@ module _ (bw : ℕ) (t : List ℕ) (n m : ℕ) where
   unfolding bytes_outcome write_outcome ragged ◌or◌
   whole_words e = rw (eq-eqb (length t % 4) 0 e) (go (check1 bw))
     where
-      go : (o : Outcome) → o or Pass or (o or check13 bw (words_in t) or check14 bw (words_in t) n m) ≡ o or check13 bw (words_in t) or check14 bw (words_in t) n m
+      go : (o : Outcome) → o or Pass or (o or check13 bw (words_in t) or check14 bw (words_in t) n m) ≡ o or check13 bw (words_in t) or check14 bw (words_in t)
+          n m
       go Pass = refl
       go (Refuse x) = refl
 

@@ -27,11 +27,13 @@ use Rattle.claims.proofs.Swept.{allowed_own, own_itself}
 
 -- ---- plans, as lists
 accepted_28 : SomePlanOfEight with28 0 (length with28)
-unfolding fitting entirely given least must_name blank_at takes_block takes mask span family kind_at kinds smaller_at fields_in share gives fields_of pieces carried
+unfolding fitting entirely given least must_name blank_at takes_block takes mask span family kind_at kinds smaller_at fields_in share gives fields_of pieces
+    carried
 accepted_28 = list_of_eight with28 (0 ∷ 3 ∷ 3 ∷ 3 ∷ []) 4 tt tt
 
 accepted_wide : SomePlanOfEight beside_wide 0 (length beside_wide)
-unfolding fitting entirely given least must_name blank_at takes_block takes mask span family kind_at kinds smaller_at fields_in share gives fields_of pieces carried
+unfolding fitting entirely given least must_name blank_at takes_block takes mask span family kind_at kinds smaller_at fields_in share gives fields_of pieces
+    carried
 accepted_wide = list_of_eight beside_wide (0 ∷ 0 ∷ 8 ∷ 8 ∷ 8 ∷ 8 ∷ 8 ∷ 8 ∷ []) 8 tt tt
 
 -- ---- 28

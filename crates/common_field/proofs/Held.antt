@@ -1,13 +1,13 @@
 -- 5 of the numbers that hold the common fields is 5 of the channels, its place too.
 use mathlib.Core.Path.{◌≡◌, refl, sym, ◌∙◌, ap, ap₂}
-use mathlib.Core.Bool.{Bool, true, false, cond, ◌&&◌}
+use mathlib.Core.Bool.{false, cond, ◌&&◌}
 use mathlib.Core.List.{List}
 use Prim.Native.Nat.{ℕ, zero, suc, ◌+◌, ◌/◌, ◌%◌, ◌^◌, ◌≤◌, ◌<◌}
 use native.Mathlib.Nat.{zero-add, zero-div, div-one, div-eq_of_lt, mod-lt, lt_of_lt_of_le}
 use native.Mathlib.Numerals.{add-one}
 use native.Mathlib.Decide.{dec_lt, ℕ_discrete}
 use native.Mathlib.Omega.{arith}
-use lib.Bits.{bit_xor, xor_shr, xor_mod, xor_lt}
+use lib.Bits.{bit_xor, xor_shr, xor_mod}
 use lib.Count.{count_trailing_zeros, under}
 use lib.Dec.{eqb, ltb}
 use lib.Pow as P
@@ -22,7 +22,7 @@ use Rattle.bits.proofs.Differs.{differ, agree}
 use Rattle.bits.proofs.Fields.{bit_lt, field_part, field_bit}
 use Rattle.bits.proofs.Windows.{field_low}
 use Rattle.register.proofs.Xor.{xor_odd}
-use Rattle.channel.specs.Layout.{present, firsts, first_bits, second_at, ltf_symbols}
+use Rattle.channel.specs.Layout.{present, first_bits, second_at, ltf_symbols}
 use Rattle.channel.specs.Engine.{first_width, first_part, parts_of}
 use Rattle.channel.proofs.Laws.{present_wide, absent_2}
 use Rattle.channel.proofs.Held.{first_held}

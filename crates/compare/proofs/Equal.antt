@@ -2,11 +2,11 @@
 use mathlib.Core.Path.{◌≡◌, refl, sym, ap, ◌∙◌}
 use mathlib.Core.Bool.{Bool, true, false, cond, not, false≢true}
 use mathlib.Core.List.{List, []}
-use Prim.Native.Nat.{ℕ, ◌+◌, ◌-◌, ◌≤◌, ◌<◌}
+use Prim.Native.Nat.{ℕ, ◌+◌, ◌-◌, ◌<◌}
 use native.Mathlib.Omega.{arith}
 use borrow.Author.Tests.{ltb-true, ltb-false, leb-true, eqb-true}
 use lib.Dec.{ltb, leb, eqb}
-use lib.ListN.{length, get_or}
+use lib.ListN.{length}
 use Rattle.answer.specs.Least.{least}
 use Rattle.answer.specs.Lists.{at}
 use Rattle.answer.specs.declared.Outcome.TheVariants.{Pass}
@@ -17,11 +17,10 @@ use Rattle.bits.specs.Pack.{unpack}
 use Rattle.channel.specs.Layout.{overflow, row, count, user_at}
 use Rattle.channel.specs.Fields.{overflow_widths}
 use Rattle.channel.proofs.Laws.{row_length}
-use Rattle.records.specs.Records.{blank}
 use Rattle.records.specs.Owns.{fields_before}
 use Rattle.halves.specs.Table.{outcome11}
 use Rattle.both_halves.specs.Engine.{Given}
-use Rattle.listed.specs.Listing.{resources, owner_in}
+use Rattle.listed.specs.Listing.{resources}
 use Rattle.compared.specs.Reading.{user_bits, reading_of}
 use Rattle.compared.specs.Differences.{comparison}
 use Rattle.compared.specs.Text.{difference_lines, comparison_text}

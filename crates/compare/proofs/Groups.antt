@@ -1,18 +1,16 @@
 -- The text that the code makes, group by group, is that of the differences (02, T-06).
 use mathlib.Core.Path.{◌≡◌, refl, sym, ap, ap₂, ◌∙◌}
-use mathlib.Core.Bool.{Bool, true, false, cond, not, ◌&&◌}
+use mathlib.Core.Bool.{Bool, true, false, cond, not}
 use mathlib.Core.List.{List, [], ◌∷◌, ◌++◌, append_assoc, append-nil}
-use Prim.Native.Nat.{ℕ, zero, suc, ◌+◌, ◌≤◌, ◌<◌}
+use Prim.Native.Nat.{ℕ, zero, suc, ◌≤◌, ◌<◌}
 use native.Mathlib.Omega.{arith}
 use borrow.Author.Tests.{lt-ltb, le-ltb, ltb-true, ltb-false, eqb-true, eqb-false, eq-eqb, ne_eqb}
 use lib.Dec.{ltb, eqb}
 use lib.ListN.{length, replicate}
 use Rattle.answer.specs.Lists.{at, filled}
 use Rattle.answer.specs.declared.Outcome.TheVariants.{Pass}
-use Rattle.bits.specs.Pack.{unpack}
 use Rattle.text.specs.Text.{upto}
 use Rattle.text.proofs.Laws.{upto_cong}
-use Rattle.channel.specs.Fields.{overflow_widths}
 use Rattle.channel.specs.Layout.{overflow, row, count}
 use Rattle.channel.proofs.Laws.{row_length}
 use Rattle.halves.specs.Table.{outcome11}
@@ -20,12 +18,11 @@ use Rattle.plan.specs.Engine.{only_plan}
 use Rattle.records.specs.Records.{records_from}
 use Rattle.both_halves.specs.Engine.{Given}
 use Rattle.user_codes.specs.Engine.{record_code, resource_codes, user_code, owned_code}
-use Rattle.compared.specs.Reading.{Item, overflow_is, value_is, user_is, Reading, reading_of, same_resource, tells}
+use Rattle.compared.specs.Reading.{Item, overflow_is, value_is, Reading, reading_of, tells}
 use Rattle.compared.specs.Differences.{Difference, by, nth, in_turn, longer, turns, overflow_item, value_item, user_item, overflow_turns, value_turns}
-use Rattle.compared.specs.Differences.{resource_items, user_turns, all_said, other_than, differs, keep, differences, comparison}
+use Rattle.compared.specs.Differences.{resource_items, user_turns, all_said, differs, keep, differences, comparison}
 use Rattle.compared.specs.Text.{item_line, difference_line, difference_lines, comparison_text}
 use Rattle.compared.proofs.Keep.{keep_append}
-use Rattle.difference_lines.specs.Engine.{code_line}
 use Rattle.only_in.specs.Engine.{only_lines}
 use Rattle.only_in.proofs.Only.{only_first, only_second}
 use Rattle.compare.specs.Engine.{overflow_pair, overflow_turn, value_turn, common_text, same_code, code_if, code_turn, code_turns}
@@ -52,7 +49,8 @@ pub lines_append : (n : ℕ) (xs ys : List Difference) → difference_lines n (x
 unfolding difference_lines
 lines_append n [] ys = refl
 lines_append n (x ∷ xs) ys =
-    ap (λ (t : List ℕ). difference_line n x ++ t) (lines_append n xs ys) ∙ sym (append_assoc (difference_line n x) (difference_lines n xs) (difference_lines n ys))
+    ap (λ (t : List ℕ). difference_line n x ++ t) (lines_append n xs ys) ∙ sym (append_assoc (difference_line n x) (difference_lines n xs)
+    (difference_lines n ys))
 
 module _ (n : ℕ) (t : Difference → Bool) where
   kept_append : (xs ys : List Difference) → difference_lines n (keep t (xs ++ ys)) ≡ difference_lines n (keep t xs) ++ difference_lines n (keep t ys)

@@ -88,7 +88,8 @@ position_test n p = below (divided_test n p) 51 && below (larger_test n p) 36
 
 tested : T (below (λ b. below (position_test (2 ^ b)) (2 ^ b)) 5)
 unfolding dec signed upto carried pieces fields_of own_pieces index_of resource_at position_of place_of tones_at tones_leaving_out tones_joined tones_of
-    places_of segments_of divides piece_fields name_text comma tones_text ru_name ru_head ru_line resource_column larger lead least span mask takes kind_at kinds
+    places_of segments_of divides piece_fields name_text comma tones_text ru_name ru_head ru_line resource_column larger lead least span mask takes kind_at
+    kinds
 tested = tt
 
 -- ---- how many fields

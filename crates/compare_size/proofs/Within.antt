@@ -67,7 +67,8 @@ module _ (bw : ℕ) (a b : List ℕ) (e : outcome11 bw a b ≡ Pass) where
       ap (lines_only (2 ^ bw) s t) plan_power ∙ only_positions (2 ^ bw) s t (plan_of bw a b) (row_of bw a b) (2 ^ bw)
 
   -- the lines of its User fields too, each charged to the position that its field comes from
-  users_sum : sum_to (λ i. 39 + name_length ((reading_of bw a b).owner i)) (reading_of bw a b).fields ≡ sum_to (users_here bw (plan_of bw a b) (row_of bw a b)) (2 ^ bw)
+  users_sum : sum_to (λ i. 39 + name_length ((reading_of bw a b).owner i)) (reading_of bw a b).fields ≡ sum_to (users_here bw (plan_of bw a b) (row_of bw a b))
+      (2 ^ bw)
   unfolding reading_of
   users_sum =
       let l = known_code bw a b e in

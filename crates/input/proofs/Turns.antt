@@ -25,7 +25,8 @@ pick_same false s = refl
 -- one turn
 turn : (l : List ℕ) (n : ℕ)
     → hex_line l n
-    ≡ pick (eqb (get_or l 0 0) 10) (Pairs n) (pick (ltb (hex_of (get_or l 0 0)) 16) (pick (ltb (hex_of (get_or l 1 0)) 16) (hex_line (drop 2 l) (suc n)) Bad) Bad)
+    ≡ pick (eqb (get_or l 0 0) 10) (Pairs n) (pick (ltb (hex_of (get_or l 0 0)) 16) (pick (ltb (hex_of (get_or l 1 0)) 16) (hex_line (drop 2 l) (suc n)) Bad)
+    Bad)
 turn [] n = refl
 turn (a ∷ []) n = rw (pick_same (ltb (hex_of a) 16) Bad)
 turn (a ∷ b ∷ l) n = refl
@@ -43,7 +44,8 @@ module _ (s : List ℕ) (i n : ℕ) where
   pub hex_bad : {r : ℕ} → (get_or s i 0 ≡ 10 → ⊥) → r ≡ hex_of (get_or s i 0) → 16 ≤ r → hex_line (drop i s) n ≡ Bad
   hex_bad {r} ne e h = hex_turn s i n ∙ rw (ne_eqb (get_or s i 0) 10 ne, le-ltb (hex_of (get_or s i 0)) 16 (rw e at h))
 
-  pub hex_bad2 : {r q : ℕ} → (get_or s i 0 ≡ 10 → ⊥) → r ≡ hex_of (get_or s i 0) → r < 16 → q ≡ hex_of (get_or s (i + 1) 0) → 16 ≤ q → hex_line (drop i s) n ≡ Bad
+  pub hex_bad2 : {r q : ℕ} → (get_or s i 0 ≡ 10 → ⊥) → r ≡ hex_of (get_or s i 0) → r < 16 → q ≡ hex_of (get_or s (i + 1) 0) → 16 ≤ q → hex_line (drop i s) n ≡
+      Bad
   hex_bad2 {r} {q} ne e h e' h' =
       hex_turn s i n ∙ rw (ne_eqb (get_or s i 0) 10 ne, lt-ltb (hex_of (get_or s i 0)) 16 (rw e at h), le-ltb (hex_of (get_or s (i + 1) 0)) 16 (rw e' at h'))
 

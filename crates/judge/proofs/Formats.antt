@@ -2,7 +2,7 @@
 use mathlib.Core.Path.{◌≡◌, refl, sym, ◌∙◌, ap, ap₂}
 use mathlib.Core.Bool.{Bool, true, false, ◌&&◌, true≢false}
 use mathlib.Core.List.{List}
-use Prim.Native.Nat.{ℕ, zero, suc, ◌+◌, ◌-◌, ◌*◌, ◌/◌, ◌%◌, ◌^◌, ◌≤◌, ◌<◌}
+use Prim.Native.Nat.{ℕ, zero, suc, ◌+◌, ◌-◌, ◌/◌, ◌%◌, ◌^◌, ◌≤◌, ◌<◌}
 use native.Mathlib.Decide.{dec_lt, ℕ_discrete}
 use native.Mathlib.Nat.{add-zero, add-suc, zero-div}
 use native.Mathlib.Omega.{arith}
@@ -13,17 +13,16 @@ use Rattle.answer.specs.Every.{every}
 use Rattle.answer.specs.Lists.{at}
 use Rattle.answer.specs.declared.Outcome.TheVariants.{Pass}
 use Rattle.answer.proofs.Every.{every_at, all_every, every_cong}
-use Rattle.resource.specs.Values.{fields_of}
 use Rattle.kinds.specs.Fields.{fields_to}
 use Rattle.plan.specs.declared.Plan.{Plan}
 use Rattle.plan.specs.Engine.{plan_outcome, plan_of, passed_plan}
 use Rattle.plan.proofs.Value.{shared_bit, plan_outcome_lem, plan_passed}
-use Rattle.channel.specs.Layout.{positions, subfields_in, value, row, count}
+use Rattle.channel.specs.Layout.{positions, row, count}
 use Rattle.halves.proofs.Counts as C
 use Rattle.frame_words.specs.Words.{position_in, before, giver, shared_at}
 use Rattle.frame_words.specs.Engine.{Holds, Formats}
 use Rattle.frame_words.proofs.Rows as R
-use Rattle.frame_words.proofs.Givers.{Turn, turn, giver_is, giver_below, count_before}
+use Rattle.frame_words.proofs.Givers.{Turn, giver_is, giver_below}
 use Rattle.candidate.specs.Engine.{count_in, candidate}
 use Rattle.candidate.proofs.Held.{count_in_le}
 use Rattle.judge.specs.Engine.{row_in, formatted, format_in, Formatted}

@@ -7,33 +7,23 @@ use native.Mathlib.Decide.{ℕ_discrete}
 use native.Mathlib.Nat.{mod-eq_of_lt}
 use native.Mathlib.Omega.{arith}
 use lib.Dec.{eqb}
-use lib.ListN.{length}
 use borrow.Author.Tests.{eq-eqb, ne_eqb}
-use Rattle.answer.specs.Lists.{at}
 use Rattle.answer.proofs.Lists.{build_cong}
 use Rattle.bits.specs.Bits.{field}
-use Rattle.bits.specs.Pack.{pack, unpack}
 use Rattle.bits.proofs.Fields.{field_lt, field_split}
-use Rattle.bits.proofs.Pack.{pack_lt, unpack_fit}
-use Rattle.block.specs.Check.{check, Right}
+use Rattle.block.specs.Check.{Right}
 use Rattle.block.proofs.Word.{check_whole}
 use Rattle.register.specs.Engine.{check_from}
 use Rattle.resource.specs.Values.{fields_of}
-use Rattle.channel.specs.Fields.{overflow_widths}
-use Rattle.channel.specs.Layout.{positions, present, firsts, seconds, first_bits, second_at, second_bits, has_second, subfields, subfields_in}
-use Rattle.channel.specs.Layout.{overflow, value_at, value, row_at, row, total, count, user}
-use Rattle.channel.proofs.Laws.{position_subfield, total_cong, subfields_in_le}
-use Rattle.channel.proofs.Values.{value_first, value_second}
-use Rattle.words.specs.Words.{data0_widths}
-use Rattle.words.specs.Engine.{gi_ltf, overflow_of, value_of}
-use Rattle.words.proofs.Laws.{value_of_lt, user_field_lt}
-use Rattle.words.specs.Engine as W
-use Rattle.frame_words.specs.Words.{position_in}
-use Rattle.candidate.specs.Engine.{first_of, second_of, overflow_in, value_in, count_in, field_in, first_in, candidate}
-use Rattle.candidate.proofs.Held.{Holds, all_subfields, candidate_carries, holds_1, holds_2}
+use Rattle.channel.specs.Layout.{positions, present, first_bits, second_at, second_bits, has_second, subfields_in}
+use Rattle.channel.specs.Layout.{value, row_at, row, total, count}
+use Rattle.channel.proofs.Laws.{position_subfield, total_cong}
+use Rattle.words.specs.Engine.{value_of}
+use Rattle.candidate.specs.Engine.{first_of, second_of, overflow_in, value_in, count_in, candidate}
+use Rattle.candidate.proofs.Held.{Holds, candidate_carries, holds_1, holds_2}
 use Rattle.candidate.proofs.Said.{said_value, first_part, second_part_lem}
 use Rattle.faults.proofs.Padding.{present_of}
-use Rattle.judge.specs.Engine.{row_in, first_check, second_check}
+use Rattle.judge.specs.Engine.{row_in}
 
 -- ---- one channel that is there
 
@@ -58,7 +48,8 @@ module _ (bw : ℕ) (w : List ℕ) (c : ℕ) (h : Holds bw w c) where
       rw z at (ten 0 (first_bits bw) (first_of bw (overflow_in w) (value_in w c)) (candidate_carries bw w c h).common_right.first_right (first_part bw w c h))
 
   pub second_ten : has_second bw ≡ true → field s (second_at bw + second_bits bw) 10 ≡ check_from 255 (second_of bw (value_in w c)) (second_bits bw)
-  second_ten e = ten (second_at bw) (second_bits bw) (second_of bw (value_in w c)) ((candidate_carries bw w c h).common_right.second_right e) (second_part_lem bw w c h)
+  second_ten e = ten (second_at bw) (second_bits bw) (second_of bw (value_in w c)) ((candidate_carries bw w c h).common_right.second_right e)
+      (second_part_lem bw w c h)
 
 -- ---- both channels
 

@@ -2,19 +2,17 @@
 use mathlib.Core.Path.{◌≡◌, refl, sym, ◌∙◌, ap}
 use mathlib.Core.Bool.{Bool, true, false, cond, ◌&&◌, true≢false}
 use mathlib.Core.List.{List}
-use mathlib.Core.Logic.{⊎_elim}
 use Prim.Native.Nat.{ℕ, zero, suc, ◌+◌, ◌-◌, ◌*◌, ◌/◌, ◌%◌, ◌^◌, ◌≤◌, ◌<◌}
 use native.Mathlib.Decide.{dec_lt, ℕ_discrete}
 use native.Mathlib.Nat.{div-one, zero-div}
 use native.Mathlib.Omega.{arith}
 use lib.Dec.{eqb, ltb}
-use lib.ListN.{length, get_or, set, take, length-set}
+use lib.ListN.{length, set, take, length-set}
 use lib.Seq.{get_or-set_same, get_or-set_other, get_or-take, length-take-le}
 use borrow.Author.Tests.{eq-eqb, eqb-true, ne_eqb, ltb-true, ltb-false}
 use Rattle.answer.specs.Decides.{Decides}
-use Rattle.answer.specs.Every.{every}
 use Rattle.answer.specs.Lists.{at, Front}
-use Rattle.answer.proofs.Every.{both_left, both_right, every_next, every_at, all_every}
+use Rattle.answer.proofs.Every.{both_left, both_right}
 use Rattle.answer.proofs.Lists.{build_is, length_build, get_d_build}
 use Rattle.register.specs.Engine.{check_from}
 use Rattle.channel.specs.Layout.{positions, present, first_bits, second_bits, seconds, has_second, subfields_in}
@@ -27,7 +25,7 @@ use Rattle.candidate.specs.Engine.{first_of, second_of, sealed_of, second_part, 
 use Rattle.candidate.proofs.Joined.{sealed_check}
 use Rattle.candidate.proofs.Numbers.{first_less, second_less}
 use Rattle.judge.specs.Engine.{Overflow, first_from, three_from, Header, row_in, first_check, second_check, Checked}
-use Rattle.judge.proofs.Words.{decides, both}
+use Rattle.judge.proofs.Words.{decides}
 
 -- ---- tests together
 
@@ -173,7 +171,11 @@ lent bw w row c l p q h e = record {
   known = l;
   first_or_second = (p, q);
   there = h;
-  the_row = λ k m. (rw (e, length_build (value_of w) (positions bw)) (place k m), rw e (get_d_build (value_of w) (positions bw) (position_in c k) 0 (place k m)));
+  the_row = λ k m. (
+    rw (e, length_build (value_of w) (positions bw)) (place k m),
+    rw e
+        (get_d_build (value_of w) (positions bw) (position_in c k) 0 (place k m)),
+  );
 }
   where
     place : (k : ℕ) → k < subfields_in bw c → position_in c k < positions bw
@@ -196,9 +198,11 @@ lent_1 bw w row l e = lent bw w row 1 l (omega arith) (omega arith) (present_1 b
 
 pub first_check_fact : (bw : ℕ) (w : List ℕ) (x n : ℕ) → x ≡ first_part_in bw w 1 → n ≡ first_bits bw → x / 2 ^ n ≡ first_check bw w
 unfolding first_part_in first_check
-first_check_fact bw w x n e f = rw (e, f) (sealed_check (first_of bw (overflow_in w) (value_in w 1)) (first_bits bw) (first_less bw (overflow_in w) (value_in w 1)))
+first_check_fact bw w x n e f = rw (e, f) (sealed_check (first_of bw (overflow_in w) (value_in w 1)) (first_bits bw)
+    (first_less bw (overflow_in w) (value_in w 1)))
 
-pub second_check_fact : (bw : ℕ) (w : List ℕ) (y n : ℕ) → bw ≤ 4 → y ≡ second_part_in bw w 1 → n ≡ second_bits bw → y / 2 ^ n ≡ second_word bw (second_check bw w)
+pub second_check_fact : (bw : ℕ) (w : List ℕ) (y n : ℕ) → bw ≤ 4 → y ≡ second_part_in bw w 1 → n ≡ second_bits bw → y / 2 ^ n ≡ second_word bw
+    (second_check bw w)
 unfolding second_part_in second_part second_check second_word
 second_check_fact bw w y n l e f = rw (e, f) (go (ltb bw 3) refl)
   where

@@ -1,6 +1,6 @@
 -- The candidate's channels are accepted and read to the words exactly where the words are told.
-use mathlib.Core.Path.{◌≡◌, refl, sym, ◌∙◌, ap, ap₂, subst}
-use mathlib.Core.Bool.{Bool, true, false, cond, not, ◌&&◌, true≢false}
+use mathlib.Core.Path.{◌≡◌, refl, sym, ◌∙◌, ap, ap₂}
+use mathlib.Core.Bool.{Bool, true, false, cond, not, true≢false}
 use mathlib.Core.List.{List, [], ◌∷◌, ◌++◌}
 use Prim.Native.Nat.{ℕ, zero, suc, ◌+◌, ◌-◌, ◌*◌, ◌/◌, ◌%◌, ◌^◌, ◌≤◌, ◌<◌}
 use native.Mathlib.Decide.{dec_lt}
@@ -10,17 +10,15 @@ use lib.Pow.{pow_pos}
 use lib.Dec.{eqb, ltb}
 use lib.ListN.{length, get_or-append}
 use lib.Seq.{ext_get_or}
-use borrow.Author.Tests.{lt-ltb, le-ltb, ltb-true, ltb-false, eqb-true, eq-eqb, ne_eqb, not-false}
-use Rattle.answer.specs.Answer as A
+use borrow.Author.Tests.{lt-ltb, le-ltb, ltb-true, ltb-false, eqb-true, eq-eqb, not-false}
 use Rattle.answer.specs.Answer.{refuse_if, passes, ◌or◌}
 use Rattle.answer.specs.Decides.{Decides}
 use Rattle.answer.specs.Least.{least}
 use Rattle.answer.specs.Lists.{at}
-use Rattle.answer.specs.declared.Outcome.{Outcome}
 use Rattle.answer.specs.declared.Outcome.TheVariants.{Pass}
 use Rattle.answer.proofs.Every.{both_left, both_right, all_every}
 use Rattle.answer.proofs.Least.{least_none, least_all}
-use Rattle.answer.proofs.Lists.{length_build, get_d_build}
+use Rattle.answer.proofs.Lists.{get_d_build}
 use Rattle.answer.proofs.Order.{pass_left, pass_right, or_pass, pass_if, if_pass, passes_true}
 use Rattle.bits.specs.Bits.{field}
 use Rattle.bits.specs.Pack.{pack, unpack, Fit}
@@ -30,21 +28,20 @@ use Rattle.bits.proofs.Windows.{field_low}
 use Rattle.register.specs.Engine.{check_from}
 use Rattle.plan.specs.Engine.{plan_outcome}
 use Rattle.channel.specs.Fields.{overflow_widths}
-use Rattle.channel.specs.Layout.{positions, present, firsts, seconds, first_bits, second_at, second_bits, has_second, common, overflow, ltf_symbols, row, count}
+use Rattle.channel.specs.Layout.{positions, present, first_bits, second_at, second_bits, has_second, ltf_symbols, row, count}
 use Rattle.channel.specs.Layout.{user_at, user, end_of}
 use Rattle.channel.proofs.Laws.{present_1, row_length}
 use Rattle.channel.proofs.Blocks.{end_after}
-use Rattle.faults.specs.Checks.{too_long, cut_common, cut_users}
 use Rattle.faults.proofs.Padding.{present_count}
 use Rattle.faults.proofs.Passing.{pass_too_long, pass_cut_common, pass_overflow_differs, overflow_differs_pass, pass_cut_users}
 use Rattle.stations.specs.Stations.{station_at, station_of, station_place, first_repeated, station_twice}
 use Rattle.stations.specs.Engine.{any_repeated}
 use Rattle.stations.proofs.Gathered.{repeat_cong}
 use Rattle.header_values.specs.Header.{known}
-use Rattle.words.specs.Words.{header, data0_widths, data0_of, overflow_word, value_slot, first_word, triple_word, second_word, user_word}
+use Rattle.words.specs.Words.{data0_widths, data0_of, overflow_word, value_slot, first_word, triple_word, second_word, user_word}
 use Rattle.words.specs.Engine.{overflow_of, value_of, user_field}
 use Rattle.words.proofs.Laws.{overflow_word_lt}
-use Rattle.halves.specs.Table.{check1, check2, check3, check4, check5, check6, check9, check10, check11, outcome6, outcome11}
+use Rattle.halves.specs.Table.{check1, check2, check3, check5, check6, check9, check10, check11, outcome6, outcome11}
 use Rattle.halves.specs.Engine.{all_carried, outcome9to11}
 use Rattle.halves.proofs.Carried.{carried_passes}
 use Rattle.halves.proofs.Stages.{outcome11_stages}
@@ -53,11 +50,11 @@ use Rattle.frame_words.proofs.Determine.{words_length, word_1, word_2}
 use Rattle.candidate.specs.Engine.{second_of, overflow_in, value_in, count_in, first_in, field_in, needed, candidate}
 use Rattle.candidate.proofs.Held.{needed_1, needed_2, needed_le, present_length, absent_length, holds_1, holds_2}
 use Rattle.judge.specs.Engine.{unlike, same_words}
-use Rattle.judge.specs.Engine.{reads_to, Overflow, slot_of, first_from, three_from, Header, row_in, first_check, second_check, Checked}
-use Rattle.judge.specs.Engine.{formatted, format_in, Formatted, station_on, Told}
+use Rattle.judge.specs.Engine.{reads_to, slot_of, first_from, three_from, Header, row_in, first_check, second_check}
+use Rattle.judge.specs.Engine.{format_in, Formatted, station_on, Told}
 use Rattle.candidate.proofs.Said.{said_overflow, said_field}
 use Rattle.judge.proofs.Said.{first_ten, second_ten, count_1, count_2, row_is}
-use Rattle.judge.proofs.Words.{decides, both, few_size, top_part, formatted_made, made_formatted, station_bits}
+use Rattle.judge.proofs.Words.{decides, few_size, top_part, formatted_made, made_formatted, station_bits}
 use Rattle.judge.proofs.Steps.{value_at, has_second_lem}
 use Rattle.plan.proofs.Carried.{plan_carried}
 use Rattle.judge.proofs.Sealed.{candidate_sealed}

@@ -1,6 +1,6 @@
 -- Single words: the tests of the code decide whether a word is one that is made of the parts which it tells.
-use mathlib.Core.Path.{◌≡◌, refl, sym, ◌∙◌, ap, ap₂}
-use mathlib.Core.Bool.{Bool, true, false, cond, ◌&&◌, ◌||◌, true≢false}
+use mathlib.Core.Path.{◌≡◌, refl, sym, ◌∙◌, ap}
+use mathlib.Core.Bool.{Bool, true, false, ◌&&◌, ◌||◌, true≢false}
 use mathlib.Core.List.{List, [], ◌∷◌}
 use Prim.Native.Nat.{ℕ, zero, suc, ◌+◌, ◌*◌, ◌/◌, ◌%◌, ◌^◌, ◌≤◌, ◌<◌}
 use native.Mathlib.Nat.{mod-lt, mod-eq_of_lt}
@@ -12,15 +12,15 @@ use Rattle.answer.specs.Decides.{Decides}
 use Rattle.answer.specs.Lists.{at}
 use Rattle.answer.proofs.Every.{both_left, both_right}
 use Rattle.bits.specs.Pack.{pack, unpack}
-use Rattle.bits.proofs.Pack.{pack_lt, pack_unpack, unpack_pack, unpack_fit}
+use Rattle.bits.proofs.Pack.{pack_unpack, unpack_pack, unpack_fit}
 use Rattle.channel.specs.Fields.{overflow_widths}
 use Rattle.header_values.specs.Header.{ltf_size_of, gi_of}
-use Rattle.words.specs.Words.{data0_widths, data0_of, overflow_word, value_slot, first_word, triple_word, user_word}
+use Rattle.words.specs.Words.{data0_widths, data0_of, overflow_word, user_word}
 use Rattle.words.specs.Words.{alone_widths, alone_word_widths, alone_of, shared_widths, shared_word_widths, shared_of}
 use Rattle.words.specs.Engine.{gi_ltf, overflow_of, value_of, alone_in, shared_in, field_in, user_field}
 use Rattle.words.specs.Engine as W
-use Rattle.words.proofs.Laws.{user_word_lt, shared_parts, alone_parts, value_of_lt}
-use Rattle.judge.specs.Engine.{Overflow, slot_of, first_from, three_from, formatted}
+use Rattle.words.proofs.Laws.{user_word_lt, shared_parts, alone_parts}
+use Rattle.judge.specs.Engine.{Overflow, first_from, three_from, formatted}
 use Rattle.candidate.proofs.Said.{gi_ltf_lt}
 
 -- a test that is true exactly where a fact holds

@@ -1,6 +1,6 @@
 -- What the table of kinds says, each rule a test that the checker computes over its lines.
 use mathlib.Core.Path.{◌≡◌, refl, sym, ◌∙◌, ap}
-use mathlib.Core.Logic.{◌≢◌, ◌⊎◌, inl, inr, ⊎_elim}
+use mathlib.Core.Logic.{◌⊎◌, inl, inr, ⊎_elim}
 use mathlib.Core.Bool.{Bool, true, false, cond, not, ◌&&◌, ◌||◌}
 use mathlib.Core.List.{List, [], ◌∷◌}
 use Prim.Native.Nat.{ℕ, ◌+◌, ◌-◌, ◌*◌, ◌/◌, ◌%◌, ◌^◌, ◌≤◌, ◌<◌}
@@ -8,7 +8,7 @@ use native.Mathlib.Omega.{arith}
 use native.Mathlib.Nat.{zero-div}
 use lib.Dec.{T, ltb, leb, eqb, eqb→eq}
 use lib.ListN.{get_or-eq_default}
-use borrow.Author.Tests.{ltb-true, ltb-false, le-ltb, leb-true, eqb-true, eq-eqb, ne_eqb, le-leb, lt-ltb}
+use borrow.Author.Tests.{ltb-true, ltb-false, le-ltb, leb-true, eqb-true, eq-eqb, le-leb, lt-ltb}
 use Rattle.answer.specs.Least.{least}
 use Rattle.answer.proofs.Least.{least_holds}
 use Rattle.resource.proofs.Test.{below_or, both_left, both_right, wherever, met, below, every_below, Missed, key_or, no_key}
@@ -397,7 +397,8 @@ pub record Twin (c k : ℕ) : Type 0 where
   pub apart : cond (alike (takes c (tell_tale k)) (takes k (tell_tale k))) k (k + 6) ≡ c
 
 pub twin : (c : ℕ) → c < 36 → 24 ≤ c → Twin c (first_of c)
-twin c h l = go (first_of c) (met (leb 24 c) _ (every_below (λ c. wherever (leb 24 c) (tell_test c (first_of c))) 36 tells_tested c h) (holds _ (le-leb 24 c l)))
+twin c h l = go (first_of c) (met (leb 24 c) _ (every_below (λ c. wherever (leb 24 c) (tell_test c (first_of c))) 36 tells_tested c h)
+    (holds _ (le-leb 24 c l)))
   where
     go : (k : ℕ) → T (tell_test c k) → Twin c k
     go k t =

@@ -2,11 +2,11 @@
 use mathlib.Core.Path.{◌≡◌, refl, sym, ap, ◌∙◌}
 use mathlib.Core.Bool.{Bool, cond, ◌&&◌}
 use mathlib.Core.List.{List, [], ◌∷◌, ◌++◌, map, append_assoc, append-nil}
-use Prim.Native.Nat.{ℕ, zero, suc, ◌+◌, ◌-◌, ◌*◌, ◌/◌, ◌%◌, ◌≤◌, ◌<◌}
+use Prim.Native.Nat.{ℕ, zero, suc, ◌+◌, ◌-◌, ◌/◌, ◌%◌, ◌≤◌, ◌<◌}
 use native.Mathlib.Omega.{arith}
 use lib.Dec.{T, ltb, leb, eqb, leb→le, le→leb, eqb→eq}
 use borrow.Author.Tests.{ne_eqb}
-use lib.ListN.{length, take, get_or, length-append, length-map}
+use lib.ListN.{length, get_or, length-append, length-map}
 use lib.Seq.{take-append_seam}
 use Rattle.text.specs.Text.{codes, signed, upto, Wrote}
 use Rattle.text.proofs.Laws.{upto_cong, upto_append}
@@ -48,7 +48,8 @@ unfolding spread_runs
 four_segments b m =
     let e : b + 4 + 4 ≡ b + 8 = omega arith in
     let h : m / 16 / 16 ≡ m / 256 = omega arith in
-    rw (e, h) (four (places_runs b (m % 16)) (places_runs (b + 4) (m / 16 % 16)) (places_runs (b + 8) (m / 256 % 16)) (places_runs (b + 8 + 4) (m / 256 / 16 % 16)))
+    rw (e, h) (four (places_runs b (m % 16)) (places_runs (b + 4) (m / 16 % 16)) (places_runs (b + 8) (m / 256 % 16))
+    (places_runs (b + 8 + 4) (m / 256 / 16 % 16)))
 
 pub two_segments : (b m : ℕ) → spread_runs b m 2 ≡ places_runs b (m % 16) ++ places_runs (b + 4) (m / 16 % 16)
 unfolding spread_runs

@@ -112,7 +112,8 @@ module _ (o row : ℕ → ℕ) (b : ℕ) (h : b < 5) (s : Signals o row 0 (2 ^ b
   unfolding owner_at
   divided_charge p l d =
       let e : o p ≡ 0 = divided_itself (o p) p (row p) d (s.fits p (omega arith) l) in
-      let z : sizes (2 ^ b) (list_at (o p) row p) ≡ sizes (2 ^ b) (map (piece_record row p) (own_pieces (row p))) = ap (sizes (2 ^ b)) (own_list (o p) row p e) in
+      let z : sizes (2 ^ b) (list_at (o p) row p) ≡ sizes (2 ^ b) (map (piece_record row p) (own_pieces (row p))) = ap (sizes (2 ^ b)) (own_list (o p) row p e)
+      in
       let t : stas o row p ≤ sum_to (λ k. 19 + digits (9 * p + k + 1)) (fields_of (row p)) =
       sum_most (λ k. sta_most (owner_at o row p k)) (λ k. 19 + digits (9 * p + k + 1)) (fields_of (row p))
       (λ k m.

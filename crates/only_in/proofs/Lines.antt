@@ -50,7 +50,8 @@ module _ (f : Record → List ℕ) where
       by_append (records_from o row n) (list_at (o n) row n)
       ∙ ap (λ (t : List ℕ). t ++ lines_by f (list_at (o n) row n)) (by_position o row n)
 
-pub by_cong : (f g : Record → List ℕ) (zs : List Record) → ((i : ℕ) → i < length zs → f (get_or zs i blank) ≡ g (get_or zs i blank)) → lines_by f zs ≡ lines_by g zs
+pub by_cong : (f g : Record → List ℕ) (zs : List Record) → ((i : ℕ) → i < length zs → f (get_or zs i blank) ≡ g (get_or zs i blank)) → lines_by f zs ≡ lines_by
+    g zs
 unfolding lines_by
 by_cong f g zs h = upto_cong (λ i. f (get_or zs i blank)) (λ i. g (get_or zs i blank)) (length zs) h
 

@@ -179,7 +179,8 @@ abbrev value_test : ℕ → ℕ → Bool
 value_test bw v = wherever (taken bw v) (agrees_test (2 ^ bw) 0 (resource_of v) && cells_test (2 ^ bw) (mask_of v) (runs bw v))
 
 tested : T (below (λ bw. below (value_test bw) 94) 3)
-unfolding low named reaches taken resource_of mask_of position_of place_of from_positions tones_of tones_at tones_leaving_out runs_of places_runs wide wide_with26
+unfolding low named reaches taken resource_of mask_of position_of place_of from_positions tones_of tones_at tones_leaving_out runs_of places_runs wide
+    wide_with26
     narrow narrow_with26 offset26 offset52 offset106 narrow26 narrow52 narrow106
 tested = tt
 

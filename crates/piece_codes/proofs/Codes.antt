@@ -1,17 +1,16 @@
 -- A piece's code says which piece it is, and what the tables say by it is what 01 says of the piece.
-use mathlib.Core.Path.{◌≡◌, refl, sym, ap, ◌∙◌}
+use mathlib.Core.Path.{◌≡◌, refl, ◌∙◌}
 use mathlib.Core.Bool.{Bool, true, false, cond, ◌&&◌}
 use mathlib.Core.List.{List, [], ◌∷◌}
-use Prim.Native.Nat.{ℕ, zero, suc, ◌+◌, ◌-◌, ◌*◌, ◌/◌, ◌%◌, ◌≤◌, ◌<◌}
+use Prim.Native.Nat.{ℕ, zero, suc, ◌+◌, ◌/◌, ◌%◌, ◌≤◌, ◌<◌}
 use native.Mathlib.Nat.{add-zero, suc-add}
 use native.Mathlib.Omega.{arith}
 use lib.Dec.{T, leb, eqb, leb→le, le→leb, eqb→eq}
 use lib.ListN.{length, drop, get_or}
-use borrow.Author.Tests.{eq-eqb}
 use Rattle.resource.specs.declared.Size.TheVariants.{S26, S52, S106, S242, S484, S996, S2x996}
 use Rattle.resource.specs.declared.Piece.{Piece}
 use Rattle.resource.specs.declared.Piece.TheVariants.{Part, With26}
-use Rattle.resource.specs.Values.{between, own_pieces}
+use Rattle.resource.specs.Values.{between}
 use Rattle.resource.specs.Index.{is_piece, from_positions, index_of, resource_at}
 use Rattle.resource.specs.Names.{number_of}
 use Rattle.resource.specs.Engine.{runs_of, edge, no_piece, wide, wide_with26, narrow, narrow_with26}
@@ -19,7 +18,7 @@ use Rattle.resource.specs.Engine.{offset26, offset52, offset106, narrow26, narro
 use Rattle.resource.proofs.Test.{both_left, both_right, wherever, met, below, every_below}
 use Rattle.resource.proofs.Places.{own_place}
 use Rattle.resource.proofs.Pieces.{runs_at, piece_runs}
-use Rattle.piece_codes.specs.Engine.{code_of, packed, codes_of, piece_of, is_code, wide_word, narrow_word, wide_at, narrow_at, word_at, runs_by}
+use Rattle.piece_codes.specs.Engine.{code_of, packed, piece_of, is_code, wide_word, narrow_word, wide_at, narrow_at, word_at, runs_by}
 use Rattle.piece_codes.specs.Engine.{each_of, index_at}
 
 -- ---- subcarriers

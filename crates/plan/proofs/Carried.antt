@@ -1,11 +1,10 @@
 -- Every value of a row that has a plan is carried: none else may stand anywhere.
-use Prim.Native.Nat.{ℕ, ◌/◌, ◌%◌, ◌≤◌, ◌<◌}
+use Prim.Native.Nat.{ℕ, ◌%◌, ◌≤◌, ◌<◌}
 use mathlib.Core.Path.{◌≡◌, refl, ◌∙◌, ap}
-use mathlib.Core.Bool.{true, ◌&&◌}
+use mathlib.Core.Bool.{true}
 use mathlib.Core.Logic.{⊎_elim}
 use mathlib.Core.List.{List}
 use native.Mathlib.Omega.{arith}
-use lib.Dec.{leb}
 use lib.ListN.{length}
 use borrow.Author.Tests.{le-leb}
 use Rattle.answer.specs.Lists.{at}
@@ -16,7 +15,7 @@ use Rattle.answer.specs.declared.Outcome.TheVariants.{Pass, Refuse}
 use Rattle.answer.proofs.Order.{pass_not_refuse, refuse_same}
 use Rattle.resource.specs.Values.{carried}
 use Rattle.resource.proofs.Fields.{carried_family}
-use Rattle.kinds.specs.Kinds.{family, span, blank_at}
+use Rattle.kinds.specs.Kinds.{span}
 use Rattle.kinds.specs.Signals.{Fits, own, blank, smaller}
 use Rattle.kinds.proofs.Fitting.{known, smaller_view, blank_most}
 use Rattle.kinds.proofs.Table.{family_low, family_most}

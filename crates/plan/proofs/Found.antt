@@ -1,14 +1,14 @@
 -- The only plan signals a part of a row where its test passes, and where it does not, no plan does.
 use mathlib.Core.Path.{◌≡◌, refl, sym, ◌∙◌, ap, subst}
 use mathlib.Core.Logic.{◌≢◌, ◌⊎◌, inl, inr, ⊎_elim}
-use mathlib.Core.Bool.{Bool, true, false, cond, not, ◌&&◌, ◌||◌}
+use mathlib.Core.Bool.{Bool, true, false, not, ◌&&◌}
 use mathlib.Core.List.{List, [], ◌∷◌}
-use Prim.Native.Nat.{ℕ, ◌+◌, ◌-◌, ◌*◌, ◌/◌, ◌%◌, ◌≤◌, ◌<◌, min}
+use Prim.Native.Nat.{ℕ, ◌+◌, ◌-◌, ◌*◌, ◌/◌, ◌%◌, ◌≤◌, ◌<◌}
 use native.Mathlib.Omega.{arith}
-use native.Mathlib.Nat.{mod-lt, mod-eq_of_lt}
+use native.Mathlib.Nat.{mod-lt}
 use lib.Dec.{ltb, leb, eqb}
 use lib.ListN.{length, get_or-eq_default}
-use borrow.Author.Tests.{ltb-true, leb-true, eqb-true, eqb-false, eq-eqb, lt-ltb, le-leb, not-true, not-false}
+use borrow.Author.Tests.{ltb-true, leb-true, eqb-true, eqb-false, eq-eqb, lt-ltb, le-leb, not-false}
 use Rattle.answer.specs.Least.{least}
 use Rattle.answer.proofs.Least.{least_before, least_none, least_holds, least_le}
 use Rattle.answer.specs.Lists.{at as value}
@@ -16,9 +16,9 @@ use Rattle.resource.proofs.Test.{below_or}
 use Rattle.kinds.specs.Kinds.{family, span, takes, must_name}
 use Rattle.kinds.specs.Signals.{Place, Fits, Signals}
 use Rattle.kinds.specs.Engine.{sought, kind_of}
-use Rattle.kinds.proofs.Tests.{Tested, move, by_test, not_both, equal_or}
-use Rattle.kinds.proofs.Table.{span_some, span_most, named_high, family_sought, family_low, family_high, span_four, narrow_span, sought_low, sought_high}
-use Rattle.kinds.proofs.Places.{at, at_span, at_place, at_self, place_at, place_mod}
+use Rattle.kinds.proofs.Tests.{Tested, move, by_test, not_both}
+use Rattle.kinds.proofs.Table.{span_some, named_high, family_sought, family_low, family_high, span_four, narrow_span, sought_low, sought_high}
+use Rattle.kinds.proofs.Places.{at, at_span, at_place, place_at}
 use Rattle.kinds.proofs.Fitting.{known, fits_takes, names_fits as joined_fits}
 use Rattle.segments.specs.Engine.{segment_plan, fitting}
 use Rattle.plan.specs.Answers.{Size, part_end, PartPlan}
@@ -26,9 +26,8 @@ use Rattle.spans.specs.Engine.{named, search, spans_in, part_plan}
 use Rattle.plan.specs.Engine.{given, place_given, entirely, is_right, every_from, part_right}
 use Rattle.segments.proofs.Only.{segment_known, segment_named}
 use Rattle.segments.proofs.Found.{fitting_fits, fits_fitting, and_left, and_right}
-use Rattle.plan.proofs.Naming.{Naming}
 use Rattle.plan.proofs.Wider.{sought_span, names_fits}
-use Rattle.plan.proofs.Only.{Wide, Among, AllWide, Source, source, spans_positive, part_known, part_only}
+use Rattle.plan.proofs.Only.{Wide, Among, AllWide, source, part_known, part_only}
 
 -- ---- tests
 both_true : (s t : Bool) → s ≡ true → t ≡ true → s && t ≡ true

@@ -1,24 +1,24 @@
 -- A plan that signals a row, or a part of it, is the only plan: the one that the search finds.
-use mathlib.Core.Path.{◌≡◌, refl, sym, ◌∙◌, ap, subst}
+use mathlib.Core.Path.{◌≡◌, refl, sym, ◌∙◌, subst}
 use mathlib.Core.Logic.{◌≢◌, ◌⊎◌, inl, inr, ⊎_elim}
 use mathlib.Core.Bool.{Bool, true, false, cond}
 use mathlib.Core.List.{List, [], ◌∷◌}
-use Prim.Native.Nat.{ℕ, ◌+◌, ◌-◌, ◌*◌, ◌/◌, ◌%◌, ◌≤◌, ◌<◌, min}
+use Prim.Native.Nat.{ℕ, ◌+◌, ◌*◌, ◌/◌, ◌%◌, ◌≤◌, ◌<◌}
 use native.Mathlib.Omega.{arith}
 use lib.ListN.{length, get_or-eq_default}
 use Rattle.answer.specs.Lists.{at as value}
 use Rattle.resource.proofs.Test.{below_or}
-use Rattle.kinds.specs.Kinds.{span, takes, must_name}
+use Rattle.kinds.specs.Kinds.{span, takes}
 use Rattle.kinds.specs.Signals.{Signals}
 use Rattle.kinds.specs.Engine.{sought}
 use Rattle.kinds.proofs.Tests.{equal_or}
-use Rattle.kinds.proofs.Table.{Span, span_is, sought_high, sought_low, wide_span, takes_known, lower_place, upper_place}
+use Rattle.kinds.proofs.Table.{sought_high, wide_span, takes_known, lower_place, upper_place}
 use Rattle.kinds.proofs.Places.{at, at_span, at_place}
 use Rattle.segments.specs.Engine.{segment_plan}
 use Rattle.plan.specs.Answers.{Size, part_end}
 use Rattle.spans.specs.Engine.{named, search, spans_in, part_plan}
 use Rattle.plan.specs.Engine.{only_plan}
-use Rattle.segments.proofs.Only.{Ends, row_ends, part_ends, segment_takes, segment_known, signalled as segment_only}
+use Rattle.segments.proofs.Only.{Ends, row_ends, part_ends, segment_takes, signalled as segment_only}
 use Rattle.plan.proofs.Naming.{Naming, named_view}
 use Rattle.plan.proofs.Wider.{In, Inside, entire_at, known_at, sought_span, wider_is, wider_leaves}
 

@@ -1,23 +1,22 @@
 -- The parts of a row: plans of parts beside one another are a plan, a plan of the row is one of each of its widest parts, and a row whose segments
 -- all lie in parts with a plan has one.
-use mathlib.Core.Path.{◌≡◌, refl, sym, ◌∙◌, ap, subst}
+use mathlib.Core.Path.{◌≡◌, refl, sym, ◌∙◌, subst}
 use mathlib.Core.Logic.{◌⊎◌, inl, inr, ⊎_elim}
-use mathlib.Core.Bool.{Bool, true, false, cond, ◌||◌}
+use mathlib.Core.Bool.{true, cond, ◌||◌}
 use mathlib.Core.List.{List}
-use Prim.Native.Nat.{ℕ, ◌+◌, ◌*◌, ◌/◌, ◌%◌, ◌≤◌, ◌<◌, min}
+use Prim.Native.Nat.{ℕ, ◌+◌, ◌*◌, ◌/◌, ◌%◌, ◌≤◌, ◌<◌}
 use native.Mathlib.Omega.{arith}
 use lib.Dec.{ltb}
 use lib.ListN.{length}
 use borrow.Author.Tests.{lt-ltb, le-ltb}
 use Rattle.answer.specs.Lists.{at}
 use Rattle.resource.proofs.Test.{below_or}
-use Rattle.kinds.specs.Kinds.{family, span, must_name}
+use Rattle.kinds.specs.Kinds.{family, must_name}
 use Rattle.kinds.specs.Signals.{Place, Fits, Signals}
 use Rattle.kinds.proofs.Tests.{Tested, move, or_tested}
 use Rattle.kinds.proofs.Table.{powers}
 use Rattle.kinds.proofs.Fitting.{known}
-use Rattle.plan.specs.Answers.{segments, SomePlan, Size, part_end, PartPlan, Held}
-use Rattle.spans.specs.Engine.{part_plan}
+use Rattle.plan.specs.Answers.{segments, SomePlan, part_end, PartPlan, Held}
 use Rattle.plan.specs.Engine.{only_plan, part_right, held_by}
 use Rattle.plan.proofs.Found.{right_tested, part_agrees}
 

@@ -3,7 +3,7 @@ use mathlib.Core.Path.{◌≡◌, refl, sym, ◌∙◌, ap}
 use mathlib.Core.Logic.{◌⊎◌, inl, inr, ⊎_elim}
 use mathlib.Core.Bool.{Bool, true, false, cond}
 use mathlib.Core.List.{List}
-use Prim.Native.Nat.{ℕ, zero, suc, ◌+◌, ◌-◌, ◌*◌, ◌/◌, ◌%◌, ◌^◌, ◌≤◌, ◌<◌}
+use Prim.Native.Nat.{ℕ, zero, suc, ◌+◌, ◌*◌, ◌/◌, ◌%◌, ◌^◌, ◌≤◌, ◌<◌}
 use native.Mathlib.Omega.{arith}
 use native.Mathlib.Nat.{add_assoc, add-mul, mul_comm, mul_assoc, mul-le-mul_left, mul-one}
 use lib.Pow.{pow_pos, pow-add}
@@ -32,7 +32,20 @@ use Rattle.roles.proofs.Told.{Told, settled}
 use Rattle.plan.specs.declared.Plan.{Plan}
 use Rattle.plan.specs.declared.Rest.{Rest}
 use Rattle.plan.specs.Answers.{Over, accepted, over_eight}
-use Rattle.plan.specs.Engine.{only_plan, plan_outcome, shared_to, kinds_of, plan_of, segment_of, glance_kind, glance_marks, role_sum, glance_of, with_kinds, over_in}
+use Rattle.plan.specs.Engine.{
+  only_plan,
+  plan_outcome,
+  shared_to,
+  kinds_of,
+  plan_of,
+  segment_of,
+  glance_kind,
+  glance_marks,
+  role_sum,
+  glance_of,
+  with_kinds,
+  over_in,
+}
 use Rattle.plan.proofs.Signs.{Lowest, Digit, marks_of, four_marks, lowest_over}
 use Rattle.plan.proofs.Only.{whole_only}
 use Rattle.plan.proofs.Laid.{laid_is}

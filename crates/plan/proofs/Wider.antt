@@ -2,22 +2,22 @@
 use mathlib.Core.Path.{◌≡◌, refl, sym, ◌∙◌, ap, subst}
 use mathlib.Core.Logic.{◌≢◌, ◌⊎◌, inl, inr, ⊎_elim}
 use mathlib.Core.Bool.{Bool, true, false, cond}
-use mathlib.Core.List.{List, [], ◌∷◌}
+use mathlib.Core.List.{List, ◌∷◌}
 use Prim.Native.Nat.{ℕ, ◌+◌, ◌-◌, ◌*◌, ◌/◌, ◌%◌, ◌≤◌, ◌<◌}
 use native.Mathlib.Omega.{arith}
 use native.Mathlib.Nat.{mod-lt}
-use lib.Dec.{ltb, leb, eqb}
-use borrow.Author.Tests.{ltb-true, ltb-false, lt-ltb, le-ltb}
+use lib.Dec.{ltb, eqb}
+use borrow.Author.Tests.{ltb-true, ltb-false, lt-ltb}
 use Rattle.resource.proofs.Test.{below_or}
 use Rattle.kinds.specs.Kinds.{family, span, takes, blank_at, must_name}
-use Rattle.kinds.specs.Signals.{Takes, Place, Fits, own, blank, smaller, Signals}
+use Rattle.kinds.specs.Signals.{Place, Fits, own, blank, smaller, Signals}
 use Rattle.kinds.specs.Engine.{sought, kind_of, tell_tale, whole_or, alike, sided, settled}
-use Rattle.kinds.proofs.Tests.{Tested, decided, refuted, eqb_decides, or_tested, by_test, not_both, is_false, equal_or}
-use Rattle.kinds.proofs.Table.{Power, powers, span_some, sought_high, sought_low, high_named}
+use Rattle.kinds.proofs.Tests.{Tested, decided, refuted, eqb_decides, or_tested, by_test, not_both, is_false}
+use Rattle.kinds.proofs.Table.{powers, sought_high, sought_low, high_named}
 use Rattle.kinds.proofs.Table.{family_sought, family_low, low_nameless, meets, whole_segment, widest}
 use Rattle.kinds.proofs.Table.{first_of, family_first, first_family, Twin, twin, takes_known}
-use Rattle.kinds.proofs.Places.{at, at_span, at_place, at_self, place_low}
-use Rattle.kinds.proofs.Fitting.{known, high_own, fits_takes, blank_most, smaller_view}
+use Rattle.kinds.proofs.Places.{at, at_span, at_place, at_self}
+use Rattle.kinds.proofs.Fitting.{known, high_own, fits_takes, smaller_view}
 use Rattle.segments.proofs.Named.{NoneAt}
 use Rattle.spans.specs.Engine.{named, search}
 use Rattle.plan.proofs.Naming.{Naming, named_view, settled_apart, settled_sided}

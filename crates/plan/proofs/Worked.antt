@@ -1,17 +1,15 @@
 -- What the engine works out is 01's: `Worked`, of every row.
-use mathlib.Core.Path.{◌≡◌, refl, sym, subst}
+use mathlib.Core.Path.{◌≡◌, refl, sym}
 use mathlib.Core.Logic.{⊎_elim}
 use mathlib.Core.Bool.{Bool, true, false, not}
 use mathlib.Core.List.{List}
-use Prim.Native.Nat.{ℕ, ◌+◌, ◌-◌, ◌*◌, ◌/◌, ◌≤◌, ◌<◌, min}
+use Prim.Native.Nat.{ℕ, ◌*◌, ◌/◌, ◌≤◌, ◌<◌}
 use native.Mathlib.Omega.{arith}
 use lib.Dec.{ltb}
-use lib.ListN.{length}
 use borrow.Author.Tests.{ltb-true, ltb-false, le-ltb, not-true, not-false}
 use Rattle.answer.specs.Answer.{no, refuse_if, ◌or◌}
-use Rattle.answer.specs.Least.{least}
 use Rattle.answer.specs.Lists.{at}
-use Rattle.answer.proofs.Least.{least_holds, least_before, least_le}
+use Rattle.answer.proofs.Least.{least_holds, least_before}
 use Rattle.resource.proofs.Test.{below_or}
 use Rattle.kinds.specs.Fields.{together}
 use Rattle.kinds.proofs.Tests.{Tested, decides, move, by_test}

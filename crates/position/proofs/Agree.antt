@@ -11,10 +11,10 @@ use contract.Monad.{Fun, fact, fact_use, fact_i}
 use denote.Ref.{Bor}
 use Rattle.answer.proofs.Agree.{Agrees}
 use Rattle.position.specs.declared.Position.{Position}
-use Rattle.position.proofs.read_at.Reads as read_at_mod
-use Rattle.position.proofs.left_at.Reads as left_at_mod
-use Rattle.position.proofs.common_at.Reads as common_at_mod
-use Rattle.position.proofs.blocks_at.Reads as blocks_at_mod
+use Rattle.position.proofs.read_at.Reads as read_at
+use Rattle.position.proofs.left_at.Reads as left_at
+use Rattle.position.proofs.common_at.Reads as common_at
+use Rattle.position.proofs.blocks_at.Reads as blocks_at
 use Rattle.position.proofs.walk.Reads as walk
 use Rattle.position.specs.contracts.start as start
 use Rattle.position.specs.contracts.read as read
@@ -26,16 +26,16 @@ use Rattle.position.specs.contracts.blocks as blocks
 use Rattle.position.specs.contracts.walk_through as walk_Through
 
 -- ---- over plain bytes and a bit number
-pub read_at_agrees : Agrees read_at_mod.Post
+pub read_at_agrees : Agrees read_at.Post
 read_at_agrees κs a r r' s s' p q = p ∙ sym q
 
-pub left_at_agrees : Agrees left_at_mod.Post
+pub left_at_agrees : Agrees left_at.Post
 left_at_agrees κs a r r' s s' p q = p ∙ sym q
 
-pub common_at_agrees : Agrees common_at_mod.Post
+pub common_at_agrees : Agrees common_at.Post
 common_at_agrees κs a r r' s s' p q = p ∙ sym q
 
-pub blocks_at_agrees : Agrees blocks_at_mod.Post
+pub blocks_at_agrees : Agrees blocks_at.Post
 blocks_at_agrees κs a r r' s s' p q = p ∙ sym q
 
 pub walk_agrees : Agrees walk.Post

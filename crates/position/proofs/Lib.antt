@@ -3,5 +3,4 @@ pub mod Agree
 pub mod Example
 pub mod Lacking
 pub mod Steps
-pub mod Lent
 pub mod Walked

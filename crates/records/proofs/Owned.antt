@@ -235,6 +235,7 @@ module _ (o row : ℕ → ℕ) (n : ℕ) (s : Signals o row 0 n) (i q m : ℕ) (
   record_share : (c : ℕ) → Channel c → sum_to (λ p. in_channel c p (G p)) n ≡ share_of c (record_at (o q) row q m)
   record_share c h = ⊎_elim (own_case c h) (larger_case c h) (equal_or (o q) 0)
 
-  pub owned_at : (c : ℕ) → Channel c → tally (λ j. eqb (owner_of o row c n j) i) (fields_before c row n) ≡ share_of c (get_or (records_from o row n) i no_record)
+  pub owned_at : (c : ℕ) → Channel c → tally (λ j. eqb (owner_of o row c n j) i) (fields_before c row n) ≡ share_of c
+      (get_or (records_from o row n) i no_record)
   owned_at c h =
       by_position o row i n c n (omega arith) ∙ record_share c h ∙ ap (share_of c) (sym (located_record o row n i q m w))

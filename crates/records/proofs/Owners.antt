@@ -36,7 +36,8 @@ module _ (c : ℕ) (row : ℕ → ℕ) where
 
 -- ---- what the program's search finds
 module _ (o row : ℕ → ℕ) (c : ℕ) where
-  pub found : (p n j : ℕ) → p < n → fields_before c row p ≤ j → j < fields_before c row (p + 1) → owner_of o row c n j ≡ owner_at o row p (j - fields_before c row p)
+  pub found : (p n j : ℕ) → p < n → fields_before c row p ≤ j → j < fields_before c row (p + 1) → owner_of o row c n j ≡ owner_at o row p
+      (j - fields_before c row p)
   unfolding owner_of
   found p zero j h a b = absurd (omega arith)
   found p (suc n) j h a b =
@@ -48,7 +49,11 @@ module _ (o row : ℕ → ℕ) (c : ℕ) where
   pub nothing : (n j : ℕ) → fields_before c row n ≤ j → owner_of o row c n j ≡ 144
   unfolding owner_of
   nothing zero j h = refl
-  nothing (suc n) j h = rw (le-ltb j (fields_before c row n) (omega (arith, before_rise c row n (suc n) (omega arith))), le-ltb j (fields_before c row (suc n)) h)
+  nothing (suc n) j h = rw (
+    le-ltb j (fields_before c row n) (omega (arith, before_rise c row n (suc n) (omega arith))),
+    le-ltb j (fields_before c row (suc n))
+        h,
+  )
 
   pub found_left : (p n j left : ℕ) → p < n → j ≡ fields_before c row p + left → left < in_channel c p (fields_of (row p))
       → owner_of o row c n j ≡ owner_at o row p left

@@ -30,7 +30,8 @@ module _ (o row : ℕ → ℕ) (b : ℕ) (h : b < 5) (s : Signals o row 0 (2 ^ b
   agrees_at p m l k =
       ⊎_elim
       (λ e. own_agrees p m l e k)
-      (λ n. rw (larger_record_lem (o p) row p m n) (larger_agrees b h (o p) p (known (o p) p (row p) (s.fits p (omega arith) l)) l (whole_span o row b h s p l)))
+      (λ n. rw (larger_record_lem (o p) row p m n) (larger_agrees b h (o p) p (known (o p) p (row p) (s.fits p (omega arith) l)) l
+      (whole_span o row b h s p l)))
       (equal_or (o p) 0)
 
   -- of each resource of the plan

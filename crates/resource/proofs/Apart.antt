@@ -120,7 +120,8 @@ module _ (b g p v : ℕ) (h : b < 5) (i : p < 4) (j : 4 * g + p < 2 ^ b) where
       (below_or v 72)
 
   -- a piece's subcarriers lie in its own position
-  pub piece_inside : (d : Piece) (k u : ℕ) → k < length (own_pieces v) → In u (runs_of (2 ^ b) g (resource_at p (get_or (own_pieces v) k d))) → u / 256 ≡ 4 * g + p
+  pub piece_inside : (d : Piece) (k u : ℕ) → k < length (own_pieces v) → In u (runs_of (2 ^ b) g (resource_at p (get_or (own_pieces v) k d))) → u / 256 ≡ 4 * g
+      + p
   piece_inside d k u l m =
       let w = bounded (256 * (4 * g + p) + 256) (256 * (4 * g + p)) u (gather (runs_at (2 ^ b) g p) (own_pieces v)) ascends_at
       (gathered (runs_at (2 ^ b) g p) d (own_pieces v) k u l m) in

@@ -34,10 +34,12 @@ tested p x h t = at_piece (back_test p) x (every_below (λ p. every_piece (back_
 
 module _ (p : ℕ) (s : Size) (i : ℕ) (h : p < 4) (t : T (is_piece (Part s i))) where
   pub position_back : position_of s (index_of p s i) ≡ start_of p s
-  position_back = eqb→eq _ _ (both_left (eqb (position_of s (index_of p s i)) (start_of p s)) (eqb (place_of s (index_of p s i)) (i - 1)) (tested p (Part s i) h t))
+  position_back = eqb→eq _ _ (both_left (eqb (position_of s (index_of p s i)) (start_of p s)) (eqb (place_of s (index_of p s i)) (i - 1))
+      (tested p (Part s i) h t))
 
   pub place_back : place_of s (index_of p s i) ≡ i - 1
-  place_back = eqb→eq _ _ (both_right (eqb (position_of s (index_of p s i)) (start_of p s)) (eqb (place_of s (index_of p s i)) (i - 1)) (tested p (Part s i) h t))
+  place_back = eqb→eq _ _ (both_right (eqb (position_of s (index_of p s i)) (start_of p s)) (eqb (place_of s (index_of p s i)) (i - 1))
+      (tested p (Part s i) h t))
 
 module _ (p i : ℕ) (h : p < 4) (t : T (is_piece (With26 i))) where
   pub position_back_26 : (2 * p + i - 1) / 2 ≡ p

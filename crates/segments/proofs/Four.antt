@@ -2,9 +2,8 @@
 use mathlib.Core.Path.{◌≡◌, refl, ◌∙◌, ap}
 use mathlib.Core.Logic.{⊎_elim}
 use mathlib.Core.Bool.{Bool, true, ◌&&◌}
-use Prim.Native.Nat.{ℕ, ◌+◌, ◌*◌, ◌/◌, ◌%◌, ◌≤◌, ◌<◌}
+use Prim.Native.Nat.{ℕ, ◌+◌, ◌%◌, ◌≤◌, ◌<◌}
 use native.Mathlib.Omega.{arith}
-use Rattle.kinds.specs.Signals.{Place}
 use Rattle.kinds.proofs.Places.{place_segment}
 use Rattle.kinds.proofs.Tests.{equal_or}
 use Rattle.segments.specs.Engine.{segment_plan, fitting, within, right_at, four_right}

@@ -64,4 +64,5 @@ span_halves n row b len k e w v x y d z named end lower upper over =
     let f : b + n / 2 + n / 2 ≡ b + n = omega (arith, (halved n d).1) in
     entered_over (part_plan n row) (part_plan (n / 2) row) k b (min (b + n) len) w x y
     (λ p i j. rw named (part_next n row b p d z i (omega arith)))
-    (entered_beside (part_plan (n / 2) row) b (b + n / 2) (b + n) len w v x (omega arith) (omega (arith, (halved n d).1)) lower (rw f at upper)) (rw end at over)
+    (entered_beside (part_plan (n / 2) row) b (b + n / 2) (b + n) len w v x (omega arith) (omega (arith, (halved n d).1)) lower (rw f at upper))
+    (rw end at over)

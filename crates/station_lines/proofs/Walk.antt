@@ -2,24 +2,23 @@
 use mathlib.Core.Path.{◌≡◌, refl, sym, ap₂}
 use mathlib.Core.Logic.{⊎_elim}
 use mathlib.Core.Bool.{Bool, true, false, cond}
-use mathlib.Core.List.{List, ◌++◌}
+use mathlib.Core.List.{List}
 use Prim.Native.Nat.{ℕ, zero, suc, ◌+◌, ◌-◌, ◌%◌, ◌≤◌, ◌<◌}
 use native.Mathlib.Nat.{add_assoc}
 use native.Mathlib.Omega.{arith}
-use lib.Dec.{eqb}
 use lib.ListN.{length}
 use borrow.Author.Tests.{ne_eqb}
 use mir.Val.{bool_byte}
 use Rattle.answer.specs.Lists.{at}
-use Rattle.resource.specs.Values.{fields_of, divides}
+use Rattle.resource.specs.Values.{fields_of}
 use Rattle.resource.proofs.Fields.{fields_most}
 use Rattle.resource.proofs.Test.{below_or}
 use Rattle.plan.specs.Engine.{only_plan}
 use Rattle.records.specs.Records.{in_channel}
 use Rattle.records.specs.Owns.{fields_before}
-use Rattle.records.specs.Engine.{owner_at, owner_of}
+use Rattle.records.specs.Engine.{owner_at}
 use Rattle.records.proofs.Owners.{before_next, before_rise, found_left, in_own}
-use Rattle.records.proofs.Entering.{only_below, owner_next, owner_most}
+use Rattle.records.proofs.Entering.{only_below, owner_most}
 use Rattle.stations.specs.Engine.{station_in}
 use Rattle.text.specs.Text.{upto, Wrote}
 use Rattle.text.proofs.Laws.{after, upto_append, upto_cong}

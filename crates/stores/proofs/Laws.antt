@@ -155,7 +155,8 @@ digits_test : ℕ → Bool
 digits_test n = within_test n && (most_test n && (zeros_test n && text_test n))
 
 digits_pass : T (below digits_test 10000)
-unfolding digits_test within_test most_test zeros_test text_test hundreds_of pair_of tens_of values_of lead_of four_of digits_of dec zeros_in count_trailing_zeros
+unfolding digits_test within_test most_test zeros_test text_test hundreds_of pair_of tens_of values_of lead_of four_of digits_of dec zeros_in
+    count_trailing_zeros
 digits_pass = tt
 
 pair_most : (n : ℕ) → n < 10000 → pair_of n < 8388608

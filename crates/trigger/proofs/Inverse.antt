@@ -149,7 +149,8 @@ not_said t n =
 
 five_bytes : (bw : ℕ) (t : List ℕ) → build (at (the_entry t)) 5 ≡ the_entry t
 unfolding the_entry
-five_bytes bw t = sym (build_is (at (entry_of (info_with (words_in t)))) 0 (entry_of (info_with (words_in t))) 5 (entry_length (info_with (words_in t))) (λ i l. refl))
+five_bytes bw t = sym (build_is (at (entry_of (info_with (words_in t)))) 0 (entry_of (info_with (words_in t))) 5 (entry_length (info_with (words_in t)))
+    (λ i l. refl))
 
 module _ (bw : ℕ) (t : List ℕ) where
   -- what was read is written back

@@ -34,7 +34,8 @@ read_chain bw e n =
     (sym (or_assoc a (is2007 x or bit_set x) (not_taken bw x)) ∙ ap (λ (o : Outcome). o or not_taken bw x) (sym (or_assoc a (is2007 x) (bit_set x))))
 
 -- as the code asks: of the entry's 40 bits x
-pub read_outcome_lem : (bw : ℕ) (e : List ℕ) (m x : ℕ) (o : Outcome) → x ≡ info_of e → o ≡ (above2 bw or not_five (length e) or info_outcome bw x or no_record_room m)
+pub read_outcome_lem : (bw : ℕ) (e : List ℕ) (m x : ℕ) (o : Outcome) → x ≡ info_of e → o ≡
+    (above2 bw or not_five (length e) or info_outcome bw x or no_record_room m)
     → o ≡ entry_outcome bw e m
 read_outcome_lem bw e m x o f g =
     g ∙ ap (λ (x : ℕ). above2 bw or not_five (length e) or info_outcome bw x or no_record_room m) f ∙ read_chain bw e m

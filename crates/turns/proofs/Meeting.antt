@@ -35,7 +35,8 @@ module _ (owner : ℕ → ℕ) where
       build_is (λ i. having owner i (x + 1)) 0 _ 144 (simp length-set wide)
       (λ i l. ⊎_elim
       (λ (f : i ≡ owner x).
-      rw f (get_or-set_same (build (λ i. having owner i x) 144) (owner x) (t + 1) 0 (omega (arith, wide)) ∙ ap (λ (y : ℕ). y + 1) e ∙ one_more (owner x) x refl))
+      rw f (get_or-set_same (build (λ i. having owner i x) 144) (owner x) (t + 1) 0 (omega (arith, wide)) ∙ ap (λ (y : ℕ). y + 1) e ∙ one_more (owner x) x
+      refl))
       (λ (f : i ≢ owner x).
       get_or-set_other (build (λ i. having owner i x) 144) (owner x) i (t + 1) 0 f ∙ get_d_build (λ i. having owner i x) 144 i 0 l ∙ no_more i x f)
       (equal_or i (owner x)))

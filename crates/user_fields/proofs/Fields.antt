@@ -1,12 +1,11 @@
 -- The fields of a block out of a number that starts with it, and what is wrong with any block, gathered.
 use Prim.Native.Nat.{ℕ, ◌+◌, ◌-◌, ◌*◌, ◌/◌, ◌%◌, ◌^◌, ◌≤◌, ◌<◌}
 use mathlib.Core.Path.{◌≡◌, refl, sym, ◌∙◌, ap, ap₂}
-use mathlib.Core.Bool.{Bool, true, false, ◌&&◌, false≢true}
+use mathlib.Core.Bool.{true, false, ◌&&◌, false≢true}
 use mathlib.Core.List.{List}
 use mathlib.Core.Logic.{⊎_elim}
 use native.Mathlib.Omega.{arith}
 use lib.Bits.{bit_xor, bit_and, bit_or}
-use lib.Dec.{ltb}
 use lib.ListN.{length, set, take, drop}
 use borrow.Author.Tests.{lt-ltb, le-ltb}
 use borrow.Rule.Slice.PartMut.{put_mid}
@@ -29,7 +28,7 @@ use Rattle.block.specs.Check.{right}
 use Rattle.block.proofs.Checks.{right_says, says_right}
 use Rattle.block.proofs.Word.{right_whole}
 use Rattle.channel.specs.Layout.{user, user_of, block_at, covered, blocks, count, end_of}
-use Rattle.channel.proofs.Blocks.{user_even, user_odd, block_after, covered_two, covered_one}
+use Rattle.channel.proofs.Blocks.{user_even, user_odd, block_after, covered_two}
 use Rattle.channel.proofs.Laws.{common_ge}
 use Rattle.faults.specs.Checks.{wrong_users}
 use Rattle.faults.proofs.Passing.{wrong_users_pass, pass_wrong_users}

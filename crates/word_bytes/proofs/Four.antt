@@ -23,7 +23,8 @@ module _ (ws w out : List ℕ) (i x : ℕ) (l : 4 * i + 4 ≤ length w) (e : out
   pub word_put_lem : word_put out i x ≡ filled (byte_at ws) (4 * (i + 1)) w
   unfolding word_put
   word_put_lem =
-      let b0 : x % 256 ≡ byte_at ws (4 * i) = rw (ex) (sym (ap (byte_at ws) (sym (add-zero (4 * i))) ∙ byte_of ws i 0 (omega arith) ∙ rw (div-one (at ws i)))) in
+      let b0 : x % 256 ≡ byte_at ws (4 * i) = rw (ex) (sym (ap (byte_at ws) (sym (add-zero (4 * i))) ∙ byte_of ws i 0 (omega arith) ∙ rw (div-one (at ws i))))
+      in
       let b1 : x / 256 % 256 ≡ byte_at ws (4 * i + 1) = rw ex (sym (byte_of ws i 1 (omega arith))) in
       let b2 : x / 65536 % 256 ≡ byte_at ws (4 * i + 2) = rw ex (sym (byte_of ws i 2 (omega arith))) in
       let b3 : x / 16777216 % 256 ≡ byte_at ws (4 * i + 3) = rw ex (sym (byte_of ws i 3 (omega arith))) in

@@ -1,22 +1,19 @@
 -- The candidate is the inverse of reading: channels that are accepted are the candidate of their words up to their ends,
 -- so words are read back from the candidate exactly where any channels read to them.
 use mathlib.Core.Path.{◌≡◌, refl, sym, ◌∙◌, ap, subst}
-use mathlib.Core.Bool.{Bool, true, false, not, ◌&&◌}
+use mathlib.Core.Bool.{Bool, true, false}
 use mathlib.Core.List.{List}
 use Prim.Native.Nat.{ℕ, ◌+◌, ◌*◌, ◌%◌, ◌^◌, ◌≤◌, ◌<◌}
 use native.Mathlib.Nat.{mod-eq_of_lt}
 use native.Mathlib.Omega.{arith}
-use lib.Dec.{eqb}
 use lib.ListN.{length, get_or, take}
-use lib.Seq.{ext_get_or, get_or-take}
-use borrow.Author.Tests.{ltb-false, eqb-true, eq-eqb, not-false}
+use lib.Seq.{get_or-take}
+use borrow.Author.Tests.{ltb-false}
 use Rattle.answer.specs.Answer.{passes}
-use Rattle.answer.specs.Least.{least}
 use Rattle.answer.specs.declared.Outcome.TheVariants.{Pass}
 use Rattle.answer.proofs.First.{first_pass, pass_first}
 use Rattle.answer.proofs.Every.{both_left, both_right}
 use Rattle.answer.proofs.Order.{pass_left, pass_right, pass_if, passes_true}
-use Rattle.answer.proofs.Least.{least_none, least_all}
 use Rattle.bits.specs.Bits.{bit, field, Same}
 use Rattle.bits.proofs.Fields.{field_lt}
 use Rattle.block.specs.Check.{Right}

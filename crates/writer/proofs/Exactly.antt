@@ -15,7 +15,7 @@ use Rattle.answer.proofs.Numbers.{Only, only_if, only_or, Gives, distinct, absen
 use Rattle.answer.proofs.First.{first_chain}
 use Rattle.channel.specs.Layout.{present}
 use Rattle.halves.specs.Table.{check1}
-use Rattle.candidate.specs.Engine.{needed, candidate}
+use Rattle.candidate.specs.Engine.{needed}
 use Rattle.writer.specs.Worked.{some_read}
 use Rattle.writer.specs.Result.{check13, check14, write_outcome, write_answer, write_numbers, write_checks}
 use Rattle.writer.specs.Room.{no_channel_room}

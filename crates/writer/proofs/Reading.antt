@@ -17,7 +17,6 @@ use Rattle.reader.specs.Table.{check12, no_room, read_outcome}
 use Rattle.reader.specs.Result as R
 use Rattle.reader.proofs.Stages.{read_outcome_stages}
 use Rattle.reader.proofs.Exactly as E
-use Rattle.writer.specs.Result.{write_answer}
 use Rattle.writer.specs.Worked.{ReadsTo}
 use Rattle.writer.specs.Inverse.{Accepts}
 

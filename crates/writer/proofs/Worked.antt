@@ -1,18 +1,15 @@
 -- The engine's channels are any channels that read to the words: `Worked`, of all words.
-use mathlib.Core.Path.{◌≡◌, refl, sym, ◌∙◌, subst}
+use mathlib.Core.Path.{◌≡◌, refl, subst}
 use mathlib.Core.Bool.{Bool, true, false, cond}
 use mathlib.Core.List.{List}
 use Prim.Native.Nat.{ℕ}
 use native.Mathlib.Omega.{arith}
 use lib.ListN.{length}
-use Rattle.bits.specs.Bits.{Small}
 use Rattle.answer.specs.Decides.{Decides}
 use Rattle.channel.specs.Layout.{present, count}
-use Rattle.frame_words.specs.Words.{words_of}
 use Rattle.candidate.specs.Length.{bytes_for}
 use Rattle.candidate.proofs.Parts.{candidate_small}
 use Rattle.candidate.proofs.Held.{present_length, absent_length}
-use Rattle.judge.specs.Engine.{reads_to}
 use Rattle.writer.specs.Worked.{ReadsTo, SomeRead, SameThenZero, the_channel, the_bytes, some_read, Worked}
 use Rattle.writer.proofs.Candidate.{reads_to_says, says_reads_to, candidate_reads, same_1, same_2, zero_1, zero_2, needed_of}
 

@@ -1,18 +1,15 @@
 -- 4 of the numbers that hold the common fields is 4 of the channels: where it passes, and its place.
-use mathlib.Core.Path.{◌≡◌, refl, sym, ◌∙◌, ap, ap₂}
+use mathlib.Core.Path.{◌≡◌, refl, sym, ◌∙◌, ap₂}
 use mathlib.Core.Bool.{Bool, true, false, cond, not, ◌&&◌, false≢true}
 use mathlib.Core.List.{List}
 use Prim.Native.Nat.{ℕ, ◌+◌, ◌≤◌, ◌<◌}
-use native.Mathlib.Decide.{dec_lt, ℕ_discrete}
 use native.Mathlib.Omega.{arith}
-use lib.Dec.{eqb, ltb}
-use borrow.Author.Tests.{lt-ltb, le-ltb, eq-eqb, ne_eqb}
+use borrow.Author.Tests.{lt-ltb, le-ltb, ne_eqb}
 use Rattle.answer.specs.Answer as A
 use Rattle.answer.specs.Answer.{refuse_if, ◌or◌}
 use Rattle.answer.specs.declared.Outcome.TheVariants.{Pass, Refuse}
 use Rattle.register.specs.Engine.{right_of}
-use Rattle.block.specs.Check.{Right, right}
-use Rattle.block.proofs.Checks.{right_says}
+use Rattle.block.specs.Check.{right}
 use Rattle.block.proofs.Word.{right_whole}
 use Rattle.channel.specs.Layout.{present, firsts, seconds, first_bits, second_at, second_bits, has_second}
 use Rattle.channel.specs.declared.Parts.{Parts}

@@ -1,0 +1,13 @@
+--
+use Rattle.std.proofs.Common.{append-nil}
+use Rattle.compare.specs.Engine.{refusals_text}
+use Rattle.text.proofs.Laws.{after}
+use Rattle.compare.proofs.put_refusals.Goals as goal
+
+pub returns-in-Refuse : goal.returns-in-Refuse
+unfolding refusals_text
+returns-in-Refuse c = rw c.in-Refuse.is (after c.put_refused-a.ensures.wrote c.put_refused.ensures.wrote)
+
+pub returns : goal.returns
+unfolding refusals_text
+returns c = rw (c.in_default.is, append-nil) c.put_refused-a.ensures.wrote

@@ -1,0 +1,28 @@
+-- `comparing::respond` meets its contract.
+use Rattle.std.proofs.Common.{sym, ◌∙◌}
+use Rattle.captures.specs.Worked.{said_two}
+use Rattle.captures.proofs.Found.{fits_first, fits_second, frames_said}
+use Rattle.compared.specs.Program.{compared_text}
+use Rattle.comparing.proofs.respond.Goals as goal
+
+pub put_captures-requires-clause-at_bound : goal.put_captures-requires-clause-at_bound
+put_captures-requires-clause-at_bound c =
+    let x = fits_first c.args.text.now _ _ c.parse-parsed.ensures c.in-Both.is in
+    let y = fits_second c.args.text.now _ _ c.parse-parsed.ensures c.in-Both.is in
+    (x.at, x.first, x.second)
+
+pub put_captures-requires-clause-at_bound_2 : goal.put_captures-requires-clause-at_bound_2
+put_captures-requires-clause-at_bound_2 c =
+    let x = fits_first c.args.text.now _ _ c.parse-parsed.ensures c.in-Both.is in
+    let y = fits_second c.args.text.now _ _ c.parse-parsed.ensures c.in-Both.is in
+    (y.at, y.first, y.second)
+
+pub returns-in-WrongLine : goal.returns-in-WrongLine
+unfolding compared_text said_two
+returns-in-WrongLine c =
+    let e = sym c.parse-parsed.ensures ∙ c.in-WrongLine.is in
+    rw e c.put_refusal.ensures.wrote
+
+pub returns-in-Both : goal.returns-in-Both
+unfolding compared_text
+returns-in-Both c = rw (frames_said c.args.text.now _ _ c.parse-parsed.ensures c.in-Both.is) c.put_captures.ensures

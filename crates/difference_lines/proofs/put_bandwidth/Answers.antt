@@ -1,0 +1,8 @@
+--
+use Rattle.compared.specs.Text.{item_line, difference_line}
+use Rattle.text.proofs.Laws.{after}
+use Rattle.difference_lines.proofs.put_bandwidth.Goals as goal
+
+pub returns-clause-wrote : goal.returns-clause-wrote
+unfolding difference_line item_line
+returns-clause-wrote c = after c.put_side-a.ensures.wrote c.put_line.ensures.wrote

@@ -1,0 +1,16 @@
+-- `first_half::first_three` meets its contract.
+use Rattle.first_half.proofs.Screens.{lent_three}
+use Rattle.halves.proofs.Stages.{at_most_512}
+use Rattle.halves.specs.Engine.{outcome3}
+use Rattle.std.proofs.Common.{sym, ◌∙◌}
+use Rattle.first_half.proofs.first_three.Goals as goal
+
+pub returns-then-is_lent : goal.returns-then-is_lent
+returns-then-is_lent c = sym (lent_three c.args.bw c.args.a.now c.args.b.now (sym c.is_lent.ensures ∙ c.if-is_lent.true))
+
+pub then_cut_common-requires : goal.then_cut_common-requires
+then_cut_common-requires c = λ e. at_most_512 _ _ _ (sym c.first_checks-r.ensures ∙ e)
+
+pub returns : goal.returns
+unfolding outcome3
+returns c = c.then_cut_common.ensures ∙ cc c.first_checks-r.ensures

@@ -1,0 +1,159 @@
+-- `larger_line::class_of` meets its contract.
+use Rattle.std.proofs.Common.{arith, [], ◌∷◌}
+use Rattle.resource.proofs.Test.{none_listed}
+use Rattle.larger_line.specs.Engine.{class_kind}
+use Rattle.larger_line.proofs.class_of.Goals as goal
+
+pub returns-in-1 : goal.returns-in-1
+unfolding class_kind
+returns-in-1 c = (rw c.in-1.is, omega arith)
+
+pub returns-in-2 : goal.returns-in-2
+unfolding class_kind
+returns-in-2 c = (rw c.in-2.is, omega arith)
+
+pub returns-in-3 : goal.returns-in-3
+unfolding class_kind
+returns-in-3 c = (rw c.in-3.is, omega arith)
+
+pub returns-in-4 : goal.returns-in-4
+unfolding class_kind
+returns-in-4 c = (rw c.in-4.is, omega arith)
+
+pub returns-in-5 : goal.returns-in-5
+unfolding class_kind
+returns-in-5 c = (rw c.in-5.is, omega arith)
+
+pub returns-in-6 : goal.returns-in-6
+unfolding class_kind
+returns-in-6 c = (rw c.in-6.is, omega arith)
+
+pub returns-in-7 : goal.returns-in-7
+unfolding class_kind
+returns-in-7 c = (rw c.in-7.is, omega arith)
+
+pub returns-in-8 : goal.returns-in-8
+unfolding class_kind
+returns-in-8 c = (rw c.in-8.is, omega arith)
+
+pub returns-in-9 : goal.returns-in-9
+unfolding class_kind
+returns-in-9 c = (rw c.in-9.is, omega arith)
+
+pub returns-in-10 : goal.returns-in-10
+unfolding class_kind
+returns-in-10 c = (rw c.in-10.is, omega arith)
+
+pub returns-in-11 : goal.returns-in-11
+unfolding class_kind
+returns-in-11 c = (rw c.in-11.is, omega arith)
+
+pub returns-in-12 : goal.returns-in-12
+unfolding class_kind
+returns-in-12 c = (rw c.in-12.is, omega arith)
+
+pub returns-in-13 : goal.returns-in-13
+unfolding class_kind
+returns-in-13 c = (rw c.in-13.is, omega arith)
+
+pub returns-in-14 : goal.returns-in-14
+unfolding class_kind
+returns-in-14 c = (rw c.in-14.is, omega arith)
+
+pub returns-in-15 : goal.returns-in-15
+unfolding class_kind
+returns-in-15 c = (rw c.in-15.is, omega arith)
+
+pub returns-in-16 : goal.returns-in-16
+unfolding class_kind
+returns-in-16 c = (rw c.in-16.is, omega arith)
+
+pub returns-in-17 : goal.returns-in-17
+unfolding class_kind
+returns-in-17 c = (rw c.in-17.is, omega arith)
+
+pub returns-in-18 : goal.returns-in-18
+unfolding class_kind
+returns-in-18 c = (rw c.in-18.is, omega arith)
+
+pub returns-in-19 : goal.returns-in-19
+unfolding class_kind
+returns-in-19 c = (rw c.in-19.is, omega arith)
+
+pub returns-in-20 : goal.returns-in-20
+unfolding class_kind
+returns-in-20 c = (rw c.in-20.is, omega arith)
+
+pub returns-in-21 : goal.returns-in-21
+unfolding class_kind
+returns-in-21 c = (rw c.in-21.is, omega arith)
+
+pub returns-in-22 : goal.returns-in-22
+unfolding class_kind
+returns-in-22 c = (rw c.in-22.is, omega arith)
+
+pub returns-in-23 : goal.returns-in-23
+unfolding class_kind
+returns-in-23 c = (rw c.in-23.is, omega arith)
+
+pub returns-in-24 : goal.returns-in-24
+unfolding class_kind
+returns-in-24 c = (rw c.in-24.is, omega arith)
+
+pub returns-in-25 : goal.returns-in-25
+unfolding class_kind
+returns-in-25 c = (rw c.in-25.is, omega arith)
+
+pub returns-in-26 : goal.returns-in-26
+unfolding class_kind
+returns-in-26 c = (rw c.in-26.is, omega arith)
+
+pub returns-in-27 : goal.returns-in-27
+unfolding class_kind
+returns-in-27 c = (rw c.in-27.is, omega arith)
+
+pub returns-in-28 : goal.returns-in-28
+unfolding class_kind
+returns-in-28 c = (rw c.in-28.is, omega arith)
+
+pub returns-in-29 : goal.returns-in-29
+unfolding class_kind
+returns-in-29 c = (rw c.in-29.is, omega arith)
+
+pub returns-in-30 : goal.returns-in-30
+unfolding class_kind
+returns-in-30 c = (rw c.in-30.is, omega arith)
+
+pub returns-in-31 : goal.returns-in-31
+unfolding class_kind
+returns-in-31 c = (rw c.in-31.is, omega arith)
+
+pub returns-in-32 : goal.returns-in-32
+unfolding class_kind
+returns-in-32 c = (rw c.in-32.is, omega arith)
+
+pub returns-in-33 : goal.returns-in-33
+unfolding class_kind
+returns-in-33 c = (rw c.in-33.is, omega arith)
+
+pub returns-in-34 : goal.returns-in-34
+unfolding class_kind
+returns-in-34 c = (rw c.in-34.is, omega arith)
+
+pub returns-in-35 : goal.returns-in-35
+unfolding class_kind
+returns-in-35 c = (rw c.in-35.is, omega arith)
+
+pub returns-in_default : goal.returns-in_default
+unfolding class_kind
+returns-in_default c = (
+  none_listed
+      (0 ∷ 5 ∷ 6 ∷ 9 ∷ 9 ∷ 9 ∷ 9 ∷ 7 ∷ 10 ∷ 10 ∷ 10 ∷ 10
+      ∷ 8 ∷ 8 ∷ 8 ∷ 8 ∷ 12 ∷ 12 ∷ 12 ∷ 12 ∷ 12 ∷ 12 ∷ 12 ∷ 12
+      ∷ 11 ∷ 11 ∷ 11 ∷ 11 ∷ 11 ∷ 11 ∷ 11 ∷ 11 ∷ 11 ∷ 11 ∷ 11 ∷ 11 ∷ [])
+      ((35 ∷ []) ∷ (34 ∷ []) ∷ (33 ∷ []) ∷ (32 ∷ []) ∷ (31 ∷ []) ∷ (30 ∷ []) ∷ (29 ∷ []) ∷ (28 ∷ []) ∷ (27 ∷ []) ∷ (26 ∷ []) ∷ (25 ∷ []) ∷ (24 ∷ [])
+      ∷ (23 ∷ []) ∷ (22 ∷ []) ∷ (21 ∷ []) ∷ (20 ∷ []) ∷ (19 ∷ []) ∷ (18 ∷ []) ∷ (17 ∷ []) ∷ (16 ∷ []) ∷ (15 ∷ []) ∷ (14 ∷ []) ∷ (13 ∷ []) ∷ (12 ∷ [])
+      ∷ (11 ∷ []) ∷ (10 ∷ []) ∷ (9 ∷ []) ∷ (8 ∷ []) ∷ (7 ∷ []) ∷ (6 ∷ []) ∷ (5 ∷ []) ∷ (4 ∷ []) ∷ (3 ∷ []) ∷ (2 ∷ []) ∷ (1 ∷ []) ∷ [])
+      _ tt c.in_default.in_default-own.rest,
+  omega arith,
+)

@@ -1,0 +1,16 @@
+-- `plan::channel_fields` meets its contract.
+use Rattle.resource.proofs.Fields.{fields_most as most_fields}
+use Rattle.std.proofs.Common.{length, ◌∙◌, arith}
+use Rattle.plan.proofs.Value.{fields_most, fields_end}
+use Rattle.answer.specs.Lists.{at}
+use Rattle.plan.proofs.channel_fields.Goals as goal
+
+pub overflow_add-sum : goal.overflow_add-sum
+overflow_add-sum c =
+    let m = fields_most c.args.channel (at c.args.row.now) c.loop-p.p in
+    let k = most_fields (at c.args.row.now c.loop-p.p) in
+    omega (arith, c.fields_of.ensures, c.loop-p.invariant.2)
+
+pub returns : goal.returns
+returns c = c.loop-p.invariant.2 ∙ fields_end c.args.channel (at c.args.row.now) (length c.args.row.now) c.loop-p.p (omega arith) (omega arith)
+    c.loop-p.invariant.1

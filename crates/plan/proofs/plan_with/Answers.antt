@@ -1,0 +1,11 @@
+-- `plan::plan_with` meets its contract.
+use Rattle.plan.specs.Engine.{no_plan, with_kinds}
+use Rattle.plan.proofs.plan_with.Goals as goal
+
+pub returns-in-Refuse : goal.returns-in-Refuse
+unfolding no_plan
+returns-in-Refuse c = rw c.in-Refuse.is
+
+pub returns : goal.returns
+unfolding with_kinds
+returns c = rw c.in_default.is

@@ -1,0 +1,7 @@
+-- `user_codes::code_of` meets its contract.
+use Rattle.user_codes.specs.Engine.{resource_code}
+use Rattle.user_codes.proofs.code_of.Goals as goal
+
+pub returns : goal.returns
+unfolding resource_code
+returns c = rw (c.number_of-index.ensures, c.subcarriers_of-size.ensures)
