@@ -3,13 +3,14 @@
 
 ghost use Rattle.std.specs.Prelude.{◌≤◌, length};
 
+use arrayvec::ArrayVec;
 use std::io;
 use std::io::Read;
 
 // Standard input. One byte more than a text may have is enough to tell that it is too long.
-fn read_text(rt: &HostRuntime) -> io::Result<Vec<u8>> {
-    let mut text = Vec::new(rt.alloc());
-    rt.reader().take(8193).read_to_end(&mut text)?;
+fn read_text(rt: &HostRuntime) -> io::Result<ArrayVec<u8, 8193>> {
+    let mut text = ArrayVec::new();
+    io::copy(&mut rt.reader().take(8193), &mut text)?;
     Ok(text)
 }
 

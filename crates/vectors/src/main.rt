@@ -12,10 +12,11 @@ mod rows;
 mod walks;
 mod writes;
 
+use arrayvec::ArrayVec;
 use cases::respond;
 use line_words::line_end;
 use std::io;
-use std::io::{BufWriter, Read, Write};
+use std::io::{Read, Write};
 
 // Every line of the text.
 fn each(out: &mut impl Write, s: &[u8]) -> io::Result<()> {
@@ -29,19 +30,8 @@ fn each(out: &mut impl Write, s: &[u8]) -> io::Result<()> {
 }
 
 // All of standard input that there is room for. (A longer one would be cut, and its missing lines seen.)
-fn read_text(rt: &HostRuntime) -> io::Result<Vec<u8>> {
-    let mut text = Vec::new(rt.alloc());
-    rt.reader().take(1048576).read_to_end(&mut text)?;
-    Ok(text)
-}
-
-fn run(rt: &HostRuntime, text: &[u8]) -> io::Result<()> {
-    let mut out = BufWriter::new(rt.alloc(), io::writer(rt))?;
-    each(&mut out, text)?;
-    out.flush()
-}
-
 fn main(rt: HostRuntime) -> io::Result<()> {
-    let text = read_text(&rt)?;
-    run(&rt, &text)
+    let mut text = ArrayVec::<u8, 1048576>::new();
+    io::copy(&mut rt.reader().take(1048576), &mut text)?;
+    each(&mut io::writer(&rt), &text)
 }
