@@ -13,7 +13,8 @@ ghost use Rattle.roles.specs.Engine.{no_role, kind_in};
 ghost use Rattle.plan.specs.Answers.{segments, Size, Laid};
 ghost use Rattle.plan.specs.Engine.{wider, any_wider, only_plan, given, place_given, entirely, is_right, Before};
 ghost use Rattle.plan.specs.Engine.{GivenTo, part_right, held_by, first_unheld};
-ghost use Rattle.plan.specs.Engine.{first_over, shared_to, kinds_of, plan_of, with_kinds, plan_from, Tells, Cast, Low, glance_of, lone_of, over_in, plan_outcome};
+ghost use Rattle.plan.specs.Engine.{first_over, shared_to, kinds_of, plan_of, with_kinds, plan_from, Tells, Cast, Low};
+ghost use Rattle.plan.specs.Engine.{glance_of, lone_of, over_in, plan_outcome};
 
 use answer::{Answer, Outcome};
 

@@ -99,7 +99,8 @@ pub start_text_lem : (g u : ℕ) (r : Resource) → start_text (class_of r) (num
 unfolding start_text key_of counts_text ru_head ru_name
 start_text_lem g u r =
     rw (name_class r)
-    (nested (codes "ru=") (name_text r) (codes " index=") (dec (number_of r)) (codes " ") (codes "segment=") (dec g) (codes " users=") (dec u) (codes " tones="))
+    (nested (codes "ru=") (name_text r) (codes " index=") (dec (number_of r)) (codes " ") (codes "segment=") (dec g) (codes " users=") (dec u)
+    (codes " tones="))
 
 -- ---- by a name and an index in numbers
 pub named_key : (name len : ℕ) → bytes_of (3 + len) (4027762 + 16777216 * name) ≡ codes "ru=" ++ bytes_of len name
