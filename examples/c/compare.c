@@ -1,6 +1,6 @@
 /* Sets the captures of several boards against that of a good one, and prints what differs.
  *
- *     rt staticlib brachymel
+ *     ./library
  *     cc -Iinclude -o target/compare examples/c/compare.c target/staticlib/libbrachymel.a
  *     target/compare examples/compare/moved-good.txt examples/compare/moved-bad.txt
  *

@@ -1,6 +1,6 @@
 /* Reads a capture, as the program ehtsig does, and prints its stations from the radiotap words.
  *
- *     rt staticlib brachymel
+ *     ./library
  *     cc -Iinclude -o target/stations examples/c/stations.c target/staticlib/libbrachymel.a
  *     target/stations <examples/annex-z8.txt
  */

@@ -1,6 +1,6 @@
 /* Reads a capture, as the program ehtsig does, and prints how many spatial streams each station has.
  *
- *     rt staticlib brachymel
+ *     ./library
  *     cc -Iinclude -o target/streams examples/c/streams.c target/staticlib/libbrachymel.a
  *     target/streams <examples/streams.txt
  *

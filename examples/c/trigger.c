@@ -1,6 +1,6 @@
 /* Reads the EHT variant User Info entries of a Trigger frame, and tells which of them share subcarriers.
  *
- *     rt staticlib brachymel
+ *     ./library
  *     cc -Iinclude -o target/trigger examples/c/trigger.c target/staticlib/libbrachymel.a
  *     target/trigger 2 0B40FA023C 0CC036033C
  *
