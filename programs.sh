@@ -11,8 +11,10 @@ ready() { # NAME
     command -v rt >/dev/null 2>&1 || { echo "$1: there is no rt" >&2; exit 2; }
     echo "$1: building: every crate below the program is proved first, which takes some time" >&2
     mkdir -p "$here/target"
+    begun=$here/target/$1.begun
+    : >"$begun"
     # it proves, builds, and then runs the program, here on nothing
     (cd "$here/crates/$1" && rt run) </dev/null >"$here/target/$1.log" 2>&1 ||
         { tail -n 20 "$here/target/$1.log" >&2; echo "$1: not built" >&2; exit 2; }
-    touch "$program"
+    touch -r "$begun" "$program" # so that a source that changed meanwhile is newer
 }
