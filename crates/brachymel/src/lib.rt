@@ -73,7 +73,7 @@ pub fn brachymel_trigger_read(bandwidth: u32, entry: &[u8], out: &mut [u8]) -> A
 
 pub fn brachymel_trigger_write(bandwidth: u32, given: &[u8], entry: &mut [u8]) -> Answer
     ensures value { result ≡ record_answer bandwidth given.now (length entry.old) }
-    ensures after { entry.new ≡ entry_written bandwidth given.now entry.old }
+    ensures entry_after { entry.new ≡ entry_written bandwidth given.now entry.old }
 {
     trigger::write(bandwidth, given, entry)
 }

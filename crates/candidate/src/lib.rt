@@ -76,7 +76,7 @@ pub fn second_part(bw: u32, row: &[u16], c: usize) -> u64
 fn put_first(d: &mut [u8], bw: u32, x: u64) -> u64
     requires { (second_at bw ≤ 8 * length d.old) × (length d.old ≤ 512) × (x < 2 ^ second_at bw) }
     ensures upper_bound { result < 2 ^ 10 }
-    ensures by_index { (s : List ℕ) → length s ≡ length d.old → field s 0 (second_at bw) ≡ x → Ends s (second_at bw) result d.new }
+    ensures ends { (s : List ℕ) → length s ≡ length d.old → field s 0 (second_at bw) ≡ x → Ends s (second_at bw) result d.new }
 {
     put_bits::put_eight(d, 0, x);
     x >> channel::first_bits(bw)
@@ -86,7 +86,7 @@ fn put_first(d: &mut [u8], bw: u32, x: u64) -> u64
 fn push(d: &mut [u8], i: usize, ten: u64, x: u64, w: usize) -> u64
     requires { (25 ≤ w) × (w ≤ 54) × (10 ≤ i) × (i + w ≤ 8 * length d.old) × (length d.old ≤ 512) × (ten < 2 ^ 10) × (x < 2 ^ w) }
     ensures upper_bound { result < 2 ^ 10 }
-    ensures by_index { (s : List ℕ) → Ends s i ten d.old → field s i w ≡ x → Ends s (i + w) result d.new }
+    ensures ends { (s : List ℕ) → Ends s i ten d.old → field s i w ≡ x → Ends s (i + w) result d.new }
 {
     put_bits::put_eight(d, i / 8, (ten >> (10 - i % 8)) + (x << (i % 8)));
     x >> (w - 10)
@@ -96,7 +96,7 @@ fn push(d: &mut [u8], i: usize, ten: u64, x: u64, w: usize) -> u64
 fn push_pair(d: &mut [u8], i: usize, ten: u64, x: u64) -> u64
     requires { (10 ≤ i) × (i + 54 ≤ 8 * length d.old) × (length d.old ≤ 512) × (ten < 2 ^ 10) × (x < 2 ^ 54) }
     ensures upper_bound { result < 2 ^ 10 }
-    ensures by_index { (s : List ℕ) → Ends s i ten d.old → field s i 54 ≡ x → Ends s (i + 54) result d.new }
+    ensures ends { (s : List ℕ) → Ends s i ten d.old → field s i 54 ≡ x → Ends s (i + 54) result d.new }
 {
     let e = i + 61;
     put_bits::put_whole(d, e / 8 - 8, (ten + (x << 10)) >> (7 - e % 8));
@@ -107,7 +107,7 @@ fn push_pair(d: &mut [u8], i: usize, ten: u64, x: u64) -> u64
 fn put_second(d: &mut [u8], bw: u32, ten: u64, x: u64) -> u64
     requires { (common bw ≤ 8 * length d.old) × (length d.old ≤ 512) × (ten < 2 ^ 10) × (x < 2 ^ (second_bits bw + 10)) }
     ensures upper_bound { result < 2 ^ 10 }
-    ensures by_index { (s : List ℕ) → Ends s (second_at bw) ten d.old
+    ensures ends { (s : List ℕ) → Ends s (second_at bw) ten d.old
         → (has_second bw ≡ true → field s (second_at bw) (second_bits bw + 10) ≡ x) → Ends s (common bw) result d.new }
 {
     if bw == 3 {
@@ -133,7 +133,7 @@ fn put_pairs(d: &mut [u8], bw: u32, ten: u64, fields: &[u32]) -> u64
     requires { (end_of bw (length fields.now) ≤ 8 * length d.old) × (length d.old ≤ 512) × (ten < 2 ^ 10)
         × (length fields.now ≤ 72) × Narrow fields.now }
     ensures upper_bound { result < 2 ^ 10 }
-    ensures by_index { (s : List ℕ) → Ends s (common bw) ten d.old → Blocks bw fields.now s
+    ensures ends { (s : List ℕ) → Ends s (common bw) ten d.old → Blocks bw fields.now s
         → Ends s (block_at bw (length fields.now / 2)) result d.new }
 {
     let m = fields.len() / 2;

@@ -17,7 +17,7 @@ pub struct Capture {
     pub second: usize,
 }
 
-#[derive(Drop)]
+#[derive(Clone, Copy)]
 pub enum Captures {
     WrongLine(usize),
     Both(Capture, Capture),

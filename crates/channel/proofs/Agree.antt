@@ -13,7 +13,7 @@ use Rattle.channel.proofs.has_second.Reads as has_second
 use Rattle.channel.proofs.common_bits.Reads as common_bits
 use Rattle.channel.proofs.subfields_of.Reads as subfields_of
 use Rattle.channel.proofs.value_bit.Reads as value_bit
-use Rattle.channel.proofs.value_of.Reads as value_of_lem
+use Rattle.channel.proofs.value_of.Reads as value_of
 use Rattle.channel.proofs.parts_of.Reads as parts_of
 use Rattle.channel.proofs.put_row.Reads as put_row
 use Rattle.channel.proofs.user_bit.Reads as user_bit
@@ -57,7 +57,7 @@ subfields_of_agrees κs a r r' s s' p q = p.0 ∙ sym q.0
 pub value_bit_agrees : Agrees value_bit.Post
 value_bit_agrees κs a r r' s s' p q = p ∙ sym q
 
-pub value_of_agrees : Agrees value_of_lem.Post
+pub value_of_agrees : Agrees value_of.Post
 value_of_agrees κs a r r' s s' p q = p ∙ sym q
 
 pub parts_of_agrees : Agrees parts_of.Post

@@ -88,9 +88,9 @@ pub record PlacesOnList (bw n : ℕ) : Type 0 where
   pub disregard : OnList bw n 13 4
   -- the RU Allocation subfields, and the common checks and tails
   pub subfield : (k : ℕ) → k < subfields bw → OnList bw n (value_at bw k) 9
-  pub first_check_fact : OnList bw n (first_bits bw) 4
+  pub first_check : OnList bw n (first_bits bw) 4
   pub first_tail : OnList bw n (first_bits bw + 4) 6
-  pub second_check_fact : has_second bw ≡ true → OnList bw n (second_at bw + second_bits bw) 4
+  pub second_check : has_second bw ≡ true → OnList bw n (second_at bw + second_bits bw) 4
   pub second_tail : has_second bw ≡ true → OnList bw n (second_at bw + second_bits bw + 4) 6
   -- the User fields, and the blocks' checks and tails
   pub user : (i : ℕ) → i < n → OnList bw n (user_at bw i) 22

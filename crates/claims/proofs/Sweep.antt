@@ -130,7 +130,7 @@ module _ (row : List ℕ) (p v : ℕ) (w : Sweeps row p v) where
         let e : resource_in (records_of o row) i ≡ resource_in (records_of o' row') i' =
         one.same ∙ ap (λ (rs : List Record). resource_in rs i') (sym records_after) in
         record {
-          same_resource_fact = e;
+          same_resource = e;
           same_tones = ap (tones_in (length row)) e ∙ ap (λ (n : ℕ). tones_in n (resource_in (records_of o' row') i')) (sym same_length);
           same_line = ap (record_line (length row)) e ∙ ap (λ (n : ℕ). record_line n (resource_in (records_of o' row') i')) (sym same_length);
           at_another = one.another;
@@ -169,7 +169,7 @@ module _ (row : List ℕ) (p v : ℕ) (w : Sweeps row p v) where
       let y' = owner_owns o (at row') (length row') s' x j' (comes_below (at row') (length row') x j' q k f.is) in
       one_word (resource_in (records_of o row) i) (bits_in c x j) (word_in c x j) (word_in c' x j')
       (word_on c g z row h o s i x j q k f.was y)
-      (rw ((owner_kept o o s s' x j j' q k i i' f y y').same_resource_fact, e) (word_on c' g' z' row' h' o s' i' x j' q k f.is y'))
+      (rw ((owner_kept o o s s' x j j' q k i i' f y y').same_resource, e) (word_on c' g' z' row' h' o s' i' x j' q k f.is y'))
 
   swept_row : Swept row row' p v
   swept_row = record {

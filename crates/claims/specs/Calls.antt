@@ -21,7 +21,7 @@ use Rattle.compare.proofs.compare.Reads as compare
 use Rattle.brachymel.proofs.brachymel_compare.Reads as c_compare
 use Rattle.comparing.proofs.respond.Reads as compare_respond
 use Rattle.stream_rows.proofs.put_row.Reads as put_row
-use Rattle.stream_rows.proofs.number_of.Reads as number_of_lem
+use Rattle.stream_rows.proofs.number_of.Reads as number_of_row
 use Rattle.streams.proofs.streams.Reads as streams
 use Rattle.brachymel.proofs.brachymel_streams_row.Reads as c_streams_row
 use Rattle.brachymel.proofs.brachymel_streams_number.Reads as c_streams_number
@@ -186,7 +186,7 @@ pub data PutsRow : RowCall → Type 0 where
       → PutsRow (row_call a.0 a.1.0 a.1.1.0.now r s.1.1.0.now)
 
 pub data GivesNumber : NumberCall → Type 0 where
-  gives_number : (κs : _) (a : _) (r : _) (s : _) → number_of_lem.Post κs a r s → GivesNumber (record { row = a.0.now; answer = r })
+  gives_number : (κs : _) (a : _) (r : _) (s : _) → number_of_row.Post κs a r s → GivesNumber (record { row = a.0.now; answer = r })
   c_gives_number : (κs : _) (a : _) (r : _) (s : _) → c_streams_number.Post κs a r s → GivesNumber (record { row = a.0.now; answer = r })
 
 pub data GivesStreams : Call → Type 0 where

@@ -23,7 +23,7 @@ use Rattle.brachymel.proofs.brachymel_write.Reads as c_write
 use Rattle.brachymel.proofs.brachymel_list.Reads as c_list
 use Rattle.stream_rows.specs.Result.{row_numbers, row_checks, number_numbers, number_checks, number_of}
 use Rattle.stream_rows.proofs.put_row.Reads as put_row
-use Rattle.stream_rows.proofs.number_of.Reads as number_of_lem
+use Rattle.stream_rows.proofs.number_of.Reads as number_of_row
 use Rattle.streams.specs.Result.{fields, streams_numbers, streams_checks}
 use Rattle.streams.proofs.streams.Reads as streams
 use Rattle.brachymel.proofs.brachymel_streams_row.Reads as c_streams_row
@@ -70,7 +70,7 @@ pub record First : Type 1 where
   pub c_write_asks_nothing : (κs : _) (a : _) → c_write.Asked κs a
   pub c_list_asks_nothing : (κs : _) (a : _) → c_list.Asked κs a
   pub row_asks_nothing : (κs : _) (a : _) → put_row.Asked κs a
-  pub number_asks_nothing : (κs : _) (a : _) → number_of_lem.Asked κs a
+  pub number_asks_nothing : (κs : _) (a : _) → number_of_row.Asked κs a
   pub streams_ask_nothing : (κs : _) (a : _) → streams.Asked κs a
   pub c_row_asks_nothing : (κs : _) (a : _) → c_streams_row.Asked κs a
   pub c_number_asks_nothing : (κs : _) (a : _) → c_streams_number.Asked κs a

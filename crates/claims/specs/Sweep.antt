@@ -85,7 +85,7 @@ OwnerShifted row p v = Shifted p (length (own_pieces (at row p))) (length (own_p
 
 -- resource i of the plan before is resource i' of the plan after
 pub record SameOwner (row row' : List ℕ) (p v : ℕ) (o o' : ℕ → ℕ) (i i' : ℕ) : Type 0 where
-  pub same_resource_fact : resource_in (records_of o row) i ≡ resource_in (records_of o' row') i'
+  pub same_resource : resource_in (records_of o row) i ≡ resource_in (records_of o' row') i'
   pub same_tones : tones_in (length row) (resource_in (records_of o row) i) ≡ tones_in (length row') (resource_in (records_of o' row') i')
   -- so its line in a listing is the same too
   pub same_line : record_line (length row) (resource_in (records_of o row) i) ≡ record_line (length row') (resource_in (records_of o' row') i')

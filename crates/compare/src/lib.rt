@@ -324,8 +324,8 @@ fn put_differences(
     m2: usize,
     k2: usize,
 ) -> usize
-    requires b_value { (outcome11 bw a.now b.now ≡ Outcome.Pass) × Given bw a.now b.now row.now kinds.now m k }
-    requires d_value { (outcome11 bw c.now d.now ≡ Outcome.Pass) × Given bw c.now d.now row2.now kinds2.now m2 k2 }
+    requires first_given { (outcome11 bw a.now b.now ≡ Outcome.Pass) × Given bw a.now b.now row.now kinds.now m k }
+    requires second_given { (outcome11 bw c.now d.now ≡ Outcome.Pass) × Given bw c.now d.now row2.now kinds2.now m2 k2 }
     ensures { Wrote out.old 0
         (comparison_text bw a.now b.now bw c.now d.now) out.new result }
 {

@@ -11,8 +11,8 @@ use captures::{Capture, Captures};
 
 // The comparison of the frames whose captures stand in the text. No channel has more bytes than the text has pairs of hex digits.
 fn put_captures(out: &mut [u8], text: &[u8], c: Capture, d: Capture) -> usize
-    requires at_bound { (c.at ≤ 16384) × (c.first ≤ 8192) × (c.second ≤ 8192) }
-    requires at_bound_2 { (d.at ≤ 16384) × (d.first ≤ 8192) × (d.second ≤ 8192) }
+    requires first_bound { (c.at ≤ 16384) × (c.first ≤ 8192) × (c.second ≤ 8192) }
+    requires second_bound { (d.at ≤ 16384) × (d.first ≤ 8192) × (d.second ≤ 8192) }
     ensures { Wrote out.old 0
         (comparison_text c.bw (first_bytes text.now c) (second_bytes text.now c)
         d.bw (first_bytes text.now d) (second_bytes text.now d)) out.new result }

@@ -88,7 +88,7 @@ module _ (bw : ℕ) (a b : List ℕ) (five : outcome5 bw a b ≡ Pass) where
 
   -- what is told of its row's plan
   pub told_plans : (x : Rest) (r kinds : List ℕ) → check6 bw a b ≡ Pass → r ≡ row_in16 bw a b → Tells (row bw a b) x kinds → Plans bw a b x r kinds
-  told_plans x r kinds six e w = record { answers = w.answers ∙ passed_six six; the_row = λ _. e; the_plan_fact = w.plans }
+  told_plans x r kinds six e w = record { answers = w.answers ∙ passed_six six; the_row = λ _. e; the_plan = w.plans }
 
 -- the row that is filled from the parts
 pub put_is : (bw : ℕ) (a b : List ℕ) (p : Parts) (w r : List ℕ) → bw ≤ 4 → r ≡ filled (part_at bw p) (positions bw) w → p ≡ parts_of bw a b

@@ -102,7 +102,7 @@ module _ (bw : ℕ) (a b : List ℕ) where
 module _ (bw : ℕ) (a b : List ℕ) (x : Rest) (r k : List ℕ) (w : Plans bw a b x r k) where
   -- it is the first half's result as a value
   pub lent_plan : x.outcome ≡ Pass → with_plan r (with_kinds x k) ≡ planned_of bw a b
-  lent_plan e = planned bw a b r (with_kinds x k) (sym w.answers ∙ e) (w.the_row e) (w.the_plan_fact e)
+  lent_plan e = planned bw a b r (with_kinds x k) (sym w.answers ∙ e) (w.the_row e) (w.the_plan e)
 
   pub lent_stops : (y : Answer) → x.outcome ≡ Refuse y → no_plan x.outcome ≡ planned_of bw a b
   lent_stops y e = stopped bw a b x.outcome y w.answers e

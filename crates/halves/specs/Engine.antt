@@ -74,4 +74,4 @@ planned_of bw a b = planned_at (outcome1to8 bw a b) (row_in16 bw a b) (plan_of (
 pub record Plans (bw : ℕ) (a b : List ℕ) (x : Rest) (r kinds : List ℕ) : Type 0 where
   pub answers : x.outcome ≡ outcome1to8 bw a b
   pub the_row : x.outcome ≡ Pass → r ≡ row_in16 bw a b
-  pub the_plan_fact : x.outcome ≡ Pass → with_kinds x kinds ≡ plan_of (row bw a b)
+  pub the_plan : x.outcome ≡ Pass → with_kinds x kinds ≡ plan_of (row bw a b)

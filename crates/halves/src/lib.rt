@@ -5,7 +5,7 @@
 use answer::Outcome;
 
 // What the first half tells of a frame: the outcome of 1 to 8 and, where it passes, its row, 0 past it, and the row's plan.
-#[derive(Drop)]
+#[derive(Clone, Copy)]
 pub struct Planned {
     pub outcome: Outcome,
     pub row: [u16; 16],

@@ -26,7 +26,7 @@ enum Scan {
     Pairs(usize),
 }
 
-#[derive(Drop)]
+#[derive(Clone, Copy)]
 pub enum Parsed {
     Wrong(usize),
     Lines {

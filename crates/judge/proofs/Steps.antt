@@ -196,15 +196,15 @@ lent_1 bw w row l e = lent bw w row 1 l (omega arith) (omega arith) (present_1 b
 
 -- ---- the checks, of its parts
 
-pub first_check_fact : (bw : ℕ) (w : List ℕ) (x n : ℕ) → x ≡ first_part_in bw w 1 → n ≡ first_bits bw → x / 2 ^ n ≡ first_check bw w
+pub first_check_lem : (bw : ℕ) (w : List ℕ) (x n : ℕ) → x ≡ first_part_in bw w 1 → n ≡ first_bits bw → x / 2 ^ n ≡ first_check bw w
 unfolding first_part_in first_check
-first_check_fact bw w x n e f = rw (e, f) (sealed_check (first_of bw (overflow_in w) (value_in w 1)) (first_bits bw)
+first_check_lem bw w x n e f = rw (e, f) (sealed_check (first_of bw (overflow_in w) (value_in w 1)) (first_bits bw)
     (first_less bw (overflow_in w) (value_in w 1)))
 
-pub second_check_fact : (bw : ℕ) (w : List ℕ) (y n : ℕ) → bw ≤ 4 → y ≡ second_part_in bw w 1 → n ≡ second_bits bw → y / 2 ^ n ≡ second_word bw
+pub second_check_lem : (bw : ℕ) (w : List ℕ) (y n : ℕ) → bw ≤ 4 → y ≡ second_part_in bw w 1 → n ≡ second_bits bw → y / 2 ^ n ≡ second_word bw
     (second_check bw w)
 unfolding second_part_in second_part second_check second_word
-second_check_fact bw w y n l e f = rw (e, f) (go (ltb bw 3) refl)
+second_check_lem bw w y n l e f = rw (e, f) (go (ltb bw 3) refl)
   where
     x : ℕ
     x = second_of bw (value_in w 1)

@@ -19,7 +19,7 @@ ghost use Rattle.judge.specs.Engine.{formatted, format_in, Formatted, station_on
 use answer::Outcome;
 
 // Whether the words are told; and then the User fields of each channel, the overflow, and the parts of channel 1's common field.
-#[derive(Drop)]
+#[derive(Clone, Copy)]
 pub struct Verdict {
     pub told: bool,
     pub fields1: usize,
@@ -99,7 +99,7 @@ fn put_row(row: &mut [u16; 16], words: &[u32], n: usize)
 pub fn take_row(row: &mut [u16; 16], bw: u32, words: &[u32]) -> bool
     requires { (bw ≤ 4) × (length row.old ≡ 16) }
     ensures decides { Decides result ((10 ≤ length words.now) × Header bw (positions bw) words.now) }
-    ensures row_len { (length row.new ≡ 16) × (result ≡ true → Front (value_of words.now) (positions bw) row.new) }
+    ensures row_after { (length row.new ≡ 16) × (result ≡ true → Front (value_of words.now) (positions bw) row.new) }
 {
     let n = channel::positions_of(bw);
     if words.len() < 10 {
@@ -280,7 +280,7 @@ fn untold() -> Verdict
 pub fn judge(bw: u32, words: &[u32], row: &[u16]) -> Verdict
     requires { (bw ≤ 4) × (10 ≤ length words.now) × Header bw (positions bw) words.now × (row.now ≡ row_in bw words.now) }
     ensures told_value { result.told ≡ reads_to bw (candidate bw words.now 1) (candidate bw words.now 2) words.now }
-    ensures fields1_value { result.told ≡ true → (result.fields1 ≡ count_in bw words.now 1) × (result.fields2 ≡ count_in bw words.now 2)
+    ensures told_parts { result.told ≡ true → (result.fields1 ≡ count_in bw words.now 1) × (result.fields2 ≡ count_in bw words.now 2)
         × Begun bw words.now result.overflow result.first result.second }
 {
     let overflow = words::overflow_of(words[1]);

@@ -3,13 +3,13 @@ use mathlib.Core.Path.{◌≡◌, sym, ◌∙◌}
 use lib.ListN.{take}
 use Rattle.answer.proofs.Agree.{Agrees}
 use Rattle.masks.proofs.mask_of.Reads as mask_of
-use Rattle.masks.proofs.all_apart.Reads as All_apart
+use Rattle.masks.proofs.all_apart.Reads as all_apart
 use Rattle.masks.proofs.find_pairs.Reads as find_pairs
 
 pub mask_of_agrees : Agrees mask_of.Post
 mask_of_agrees κs a r r' s s' p q = p ∙ sym q
 
-pub all_apart_agrees : Agrees All_apart.Post
+pub all_apart_agrees : Agrees all_apart.Post
 all_apart_agrees κs a r r' s s' p q = p ∙ sym q
 
 -- where the pairs end, and they themselves

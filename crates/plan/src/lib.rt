@@ -19,7 +19,7 @@ ghost use Rattle.plan.specs.Engine.{glance_of, lone_of, over_in, plan_outcome};
 use answer::{Answer, Outcome};
 
 // The plan of a row.
-#[derive(Drop)]
+#[derive(Clone, Copy)]
 pub struct Plan {
     pub outcome: Outcome,
     // to what each position is given: its kind
@@ -33,7 +33,7 @@ pub struct Plan {
 
 // The rest of the plan of a row, beside its kinds, which lie in room that is lent. The counts stand apart, so that no load takes both at once
 // and waits for the two stores that made them.
-#[derive(Drop)]
+#[derive(Clone, Copy)]
 pub struct Rest {
     pub fields1: usize,
     pub outcome: Outcome,

@@ -23,7 +23,7 @@ use Rattle.position.specs.contracts.left as left
 use Rattle.position.specs.contracts.common as common
 use Rattle.position.specs.contracts.after as after
 use Rattle.position.specs.contracts.blocks as blocks
-use Rattle.position.specs.contracts.walk_through as walk_Through
+use Rattle.position.specs.contracts.walk_through as walk_through
 
 -- ---- over plain bytes and a bit number
 pub read_at_agrees : Agrees read_at.Post
@@ -76,10 +76,10 @@ module _ {M : Type 1} {𝓤 : Ura M} (𝓛 : Logic 𝓤) (mem : Memory → SProp
   pub blocks_agrees : (κs : _) (a : _) → One ((blocks.clauses 𝓛 mem run κs a).ensures tt)
   blocks_agrees κs a r r' x x' = both (λ e f. e ∙ sym f)
 
-  pub walk_through_agrees : (κs : _) (a : _) → One ((walk_Through.clauses 𝓛 mem run κs a).ensures tt)
+  pub walk_through_agrees : (κs : _) (a : _) → One ((walk_through.clauses 𝓛 mem run κs a).ensures tt)
   walk_through_agrees κs a r r' x x' = both (λ e f. e ∙ sym f)
 
   -- and the walk through a position comes to what the walk over plain bytes does
   pub walks_agree : (κs : _) (a : _) (r r' : _) (s : _) (x : _) → walk.Post κs a r s
-      → ent 𝓤 ((walk_Through.clauses 𝓛 mem run κs a).ensures tt r' x) (fact 𝓤 (r ≡ r'))
+      → ent 𝓤 ((walk_through.clauses 𝓛 mem run κs a).ensures tt r' x) (fact 𝓤 (r ≡ r'))
   walks_agree κs a r r' s x p = fact_use 𝓤 _ (id⊢ 𝓤 _) (λ e. fact_i 𝓤 _ _ (p ∙ sym e))

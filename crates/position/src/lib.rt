@@ -8,7 +8,7 @@ ghost use Rattle.position.specs.Walk.{read_at, left_at, common_at, users_at, fir
 ghost use Rattle.position.specs.Engine.{past_check, past_user};
 
 // What reading n bits comes to: their value and the bit after them, or how many of them lie past the end.
-#[derive(Drop)]
+#[derive(Clone, Copy)]
 pub enum Field {
     Value(u32, usize),
     Lacks(usize),
@@ -24,7 +24,7 @@ pub struct CommonField {
 }
 
 // All that a channel holds. `end` is the first bit of its padding; `lacking` is how many bits it lacks, 0 where it is whole.
-#[derive(Drop)]
+#[derive(Clone, Copy)]
 pub struct Channel {
     pub overflow: u32,
     pub values: [u16; 8],

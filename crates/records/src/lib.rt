@@ -19,7 +19,7 @@ ghost use Rattle.records.specs.Engine.{numbers_of};
 use resource::{Pairing, Piece, Resource, Size, Tones};
 
 // A resource of the plan: its segment, its lowest position, and how many User fields of each channel are its own.
-#[derive(Drop)]
+#[derive(Clone, Copy)]
 pub struct Record {
     pub resource: Resource,
     pub segment: u16,

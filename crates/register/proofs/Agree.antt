@@ -3,7 +3,7 @@ use mathlib.Core.Path.{sym, ◌∙◌}
 use Rattle.answer.proofs.Agree.{Agrees}
 use Rattle.register.proofs.check_of.Reads as check_of
 use Rattle.register.proofs.leaving.Reads as leaving
-use Rattle.register.proofs.all_right.Reads as All_right
+use Rattle.register.proofs.all_right.Reads as all_right
 use Rattle.register.proofs.right_of.Reads as right_of
 use Rattle.register.proofs.byte_step.Reads as byte_step
 
@@ -13,7 +13,7 @@ check_of_agrees κs a r r' s s' p q = p ∙ sym q
 pub leaving_agrees : Agrees leaving.Post
 leaving_agrees κs a r r' s s' p q = p ∙ sym q
 
-pub all_right_agrees : Agrees All_right.Post
+pub all_right_agrees : Agrees all_right.Post
 all_right_agrees κs a r r' s s' p q = p ∙ sym q
 
 pub right_of_agrees : Agrees right_of.Post

@@ -9,7 +9,7 @@ ghost use Rattle.roles.specs.Engine.{Role, no_role, bit, own_bits, pair_kinds, o
 
 // To what the four places of a segment are given, four bits each, the first place lowest; and the places whose User fields share their
 // resource, bit j for place j. Marks of 65536 say that the roles do not tell, and of 131072 that a resource is over eight fields.
-#[derive(Drop)]
+#[derive(Clone, Copy)]
 pub struct Settled {
     pub kinds: u16,
     pub marks: u32,

@@ -84,7 +84,7 @@ fn segment_end(row: &[u16], b: usize) -> usize
 // Enters to what the positions of the segment that begins at b are given; returns the position after it.
 pub fn enter_segment(kinds: &mut [u16; 16], row: &[u16], b: usize) -> usize
     requires { (length row.now ≤ 16) × (b < length row.now) × (b % 4 ≡ 0) × (length kinds.old ≡ 16) }
-    ensures lower_bound { (b < result) × (result ≤ b + 4) × (result ≤ length row.now) × (result < length row.now → result ≡ b + 4) }
+    ensures ends { (b < result) × (result ≤ b + 4) × (result ≤ length row.now) × (result < length row.now → result ≡ b + 4) }
     ensures entered { Entered (segment_plan (at row.now)) b result kinds.old kinds.new }
 {
     let k = first_named(row, b);

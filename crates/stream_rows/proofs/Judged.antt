@@ -20,7 +20,7 @@ use Rattle.stream_rows.specs.Worked.{the_rows, is_listed}
 use Rattle.stream_rows.specs.Result.{not2to8, no_row, no_row_room, row_outcome, row_numbers, row_checks, row_answer, row_after}
 use Rattle.stream_rows.specs.Result.{not_row, number_numbers, number_checks, number_of, number_answer}
 use Rattle.stream_rows.proofs.put_row.Reads as put_row
-use Rattle.stream_rows.proofs.number_of.Reads as number_of_lem
+use Rattle.stream_rows.proofs.number_of.Reads as number_of_row
 
 pub neither_left : (a b : Bool) → (a || b) ≡ false → a ≡ false
 neither_left true b e = e
@@ -97,6 +97,6 @@ pub put_row_keeps : (κs : _) (a : _) (r : _) (s : _) → put_row.Post κs a r s
 put_row_keeps κs a r s p n =
     p.1 ∙ row_kept a.0 a.1.0 a.1.1.0.now (λ e. n (ap (λ (z : Answer). z.number) p.0 ∙ e))
 
-pub number_of_judged : (κs : _) (a : _) (r : _) (s : _) → number_of_lem.Post κs a r s
+pub number_of_judged : (κs : _) (a : _) (r : _) (s : _) → number_of_row.Post κs a r s
     → Judged number_numbers (number_checks a.0.now) (number_of a.0.now) r
 number_of_judged κs a r s p = rw p (number_judged a.0.now)

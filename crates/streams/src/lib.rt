@@ -93,8 +93,8 @@ fn all_named(codes: &[u16; 144], words: &[u32]) -> bool
 }
 
 fn put_streams(out: &mut [u8], codes: &[u16; 144], words: &[u32])
-    requires words_len_bound { (length words.now ≤ 144) × Coded (length words.now) codes.now × (all_named codes.now words.now ≡ true) }
-    requires words_in_bounds { length words.now ≤ length out.old }
+    requires words_coded { (length words.now ≤ 144) × Coded (length words.now) codes.now × (all_named codes.now words.now ≡ true) }
+    requires out_room { length words.now ≤ length out.old }
     ensures { out.new ≡ filled (streams_in codes.now words.now) (length words.now) out.old }
 {
     let n = words.len();

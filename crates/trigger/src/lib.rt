@@ -175,7 +175,7 @@ fn put_entry(entry: &mut [u8], x: u64)
 fn write_numbers(bandwidth: u32, n: usize, numbers: &[u32], entry: &mut [u8]) -> Answer
     requires { length numbers.now ≡ 8 }
     ensures value { result ≡ answer_at (numbers_outcome bandwidth n numbers.now (length entry.old)) 5 }
-    ensures after { entry.new
+    ensures entry_after { entry.new
         ≡ after (numbers_outcome bandwidth n numbers.now (length entry.old))
         (filled (at (entry_of (info_with numbers.now))) 5 entry.old) entry.old }
 {
@@ -203,7 +203,7 @@ fn eight_at_most(bytes: usize) -> usize
 // A record written as an entry. Of one that has not eight numbers those that it has are taken: its first may be 2007.
 pub fn write(bandwidth: u32, given: &[u8], entry: &mut [u8]) -> Answer
     ensures value { result ≡ record_answer bandwidth given.now (length entry.old) }
-    ensures after { entry.new ≡ entry_written bandwidth given.now entry.old }
+    ensures entry_after { entry.new ≡ entry_written bandwidth given.now entry.old }
 {
     let mut numbers = [0u32; 8];
     let n = eight_at_most(given.len());

@@ -67,9 +67,9 @@ fn put_both(
 )
     requires { ((w : List ℕ) × Given bw w row.now fields.now n need overflow first second) × (need ≤ length cc1.old)
         × (present bw 2 ≡ true → need ≤ length cc2.old) }
-    ensures by_index { (w : List ℕ) → Given bw w row.now fields.now n need overflow first second
+    ensures cc1_after { (w : List ℕ) → Given bw w row.now fields.now n need overflow first second
         → cc1.new ≡ front (candidate bw w 1) cc1.old }
-    ensures by_index_2 { (w : List ℕ) → Given bw w row.now fields.now n need overflow first second
+    ensures cc2_after { (w : List ℕ) → Given bw w row.now fields.now n need overflow first second
         → cc2.new ≡ front (candidate bw w 2) cc2.old }
 {
     put_channel(cc1, need, bw, first, second, &fields[..n]);

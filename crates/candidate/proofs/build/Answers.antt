@@ -20,8 +20,8 @@ returns c =
     let e : (c.end_bit.result + 7) / 8 ≡ (end_of c.args.bw n + 7) / 8 =
     ap (λ (k : ℕ). (k + 7) / 8) c.end_bit.ensures.value in
     λ z l m.
-    let one = c.put_first-one.ensures.by_index z l m.the_first in
-    let two = c.put_second-two.ensures.by_index z one m.the_second in
+    let one = c.put_first-one.ensures.ends z l m.the_first in
+    let two = c.put_second-two.ensures.ends z one m.the_second in
     let three = c.put_blocks.ensures z two m.the_blocks in
     built_all z _ _ (end_of c.args.bw n) three (rw e at c.clear_from.ensures) m.past m.bytes
     (record { small = λ j. (c.type_inv.d j).fits })

@@ -9,7 +9,7 @@ pub returns-then-n-eq0 : goal.returns-then-n-eq0
 returns-then-n-eq0 c =
     λ z e f.
     rw (end_even c.args.bw (length c.args.fields.now) c.if-n-eq0.true) at
-    (c.put_pairs-h.ensures.by_index z e f).built
+    (c.put_pairs-h.ensures.ends z e f).built
 
 pub push-requires : goal.push-requires
 push-requires c =
@@ -28,5 +28,5 @@ pub returns : goal.returns
 returns c =
     let n = length c.args.fields.now in
     let o : n % 2 ≡ 1 = omega arith in
-    λ z e f. rw (c.block_bit.ensures.value, end_odd c.args.bw n o) at (c.push.ensures.by_index z
-    (rw c.block_bit.ensures.value (c.put_pairs-h.ensures.by_index z e f)) (rw (c.block_bit.ensures.value, c.sealed-x.ensures.1) (f.last o))).built
+    λ z e f. rw (c.block_bit.ensures.value, end_odd c.args.bw n o) at (c.push.ensures.ends z
+    (rw c.block_bit.ensures.value (c.put_pairs-h.ensures.ends z e f)) (rw (c.block_bit.ensures.value, c.sealed-x.ensures.1) (f.last o))).built

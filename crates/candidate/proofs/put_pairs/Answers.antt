@@ -26,7 +26,7 @@ loop-b-preserved c =
       c.push_pair-h.ensures.upper_bound,
       search rules,
       λ z e f.
-          let n = c.push_pair-h.ensures.by_index z (rw c.block_bit.ensures.value (c.loop-b.invariant.3 z e f))
+          let n = c.push_pair-h.ensures.ends z (rw c.block_bit.ensures.value (c.loop-b.invariant.3 z e f))
           (rw (c.block_bit.ensures.value, x) (f.pairs c.loop-b.b (omega arith))) in
           rw (c.block_bit.ensures.value, block_next c.args.bw c.loop-b.b) at n,
     )

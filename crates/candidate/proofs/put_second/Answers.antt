@@ -13,7 +13,7 @@ returns-then-bw-eq3 c =
     let t = second_160 c.args.bw c.if-bw-eq3.true in
     record {
       upper_bound = c.push.ensures.upper_bound;
-      by_index = λ z e f. rw t.3 (c.push.ensures.by_index z (rw t.2 at e) (rw (t.2, t.0) at (f t.1)));
+      ends = λ z e f. rw t.3 (c.push.ensures.ends z (rw t.2 at e) (rw (t.2, t.0) at (f t.1)));
     }
 
 pub push-half-requires : goal.push-half-requires
@@ -39,14 +39,14 @@ returns-then-bw-eq4 c =
     let t = second_320 c.args.bw c.if-bw-eq4.true in
     record {
       upper_bound = c.push-then-bw-eq4.ensures.upper_bound;
-      by_index = λ z e f.
+      ends = λ z e f.
           let g = rw (t.2, t.0) at (f t.1) in
-          rw t.3 (c.push-then-bw-eq4.ensures.by_index z (c.push-half.ensures.by_index z (rw t.2 at e) (low_320 z _ g)) (high_320 z _ g));
+          rw t.3 (c.push-then-bw-eq4.ensures.ends z (c.push-half.ensures.ends z (rw t.2 at e) (low_320 z _ g)) (high_320 z _ g));
     }
 
 pub returns : goal.returns
 returns c =
     let n = no_second c.args.bw c.if-bw-eq3.false c.if-bw-eq4.false in record {
       upper_bound = c.requires.2;
-      by_index = λ z e f. rw n at e;
+      ends = λ z e f. rw n at e;
     }

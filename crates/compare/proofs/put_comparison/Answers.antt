@@ -26,15 +26,15 @@ returns-then-bw-bw2 c =
 pub positions_of-n-requires : goal.positions_of-n-requires
 positions_of-n-requires c = code _ _ _ c.plan_accepted-x.ensures c.in_default.is
 
-pub put_differences-requires-clause-b_value : goal.put_differences-requires-clause-b_value
-put_differences-requires-clause-b_value c = (
+pub put_differences-requires-clause-first_given : goal.put_differences-requires-clause-first_given
+put_differences-requires-clause-first_given c = (
   outcome _ _ _ c.plan_accepted-x.ensures c.in_default.is,
   given _ _ _ c.plan_accepted-x.ensures c.in_default.is
       c.positions_of-n.ensures.value,
 )
 
-pub put_differences-requires-clause-d_value : goal.put_differences-requires-clause-d_value
-put_differences-requires-clause-d_value c = (
+pub put_differences-requires-clause-second_given : goal.put_differences-requires-clause-second_given
+put_differences-requires-clause-second_given c = (
   rw c.if-bw-bw2.false (outcome _ _ _ c.plan_accepted-y.ensures c.in_default-second.is),
   rw c.if-bw-bw2.false
       (given _ _ _ c.plan_accepted-y.ensures c.in_default-second.is (rw c.if-bw-bw2.false at c.positions_of-n.ensures.value)),

@@ -5,14 +5,14 @@ use Rattle.captures.proofs.Found.{fits_first, fits_second, frames_said}
 use Rattle.compared.specs.Program.{compared_text}
 use Rattle.comparing.proofs.respond.Goals as goal
 
-pub put_captures-requires-clause-at_bound : goal.put_captures-requires-clause-at_bound
-put_captures-requires-clause-at_bound c =
+pub put_captures-requires-clause-first_bound : goal.put_captures-requires-clause-first_bound
+put_captures-requires-clause-first_bound c =
     let x = fits_first c.args.text.now _ _ c.parse-parsed.ensures c.in-Both.is in
     let y = fits_second c.args.text.now _ _ c.parse-parsed.ensures c.in-Both.is in
     (x.at, x.first, x.second)
 
-pub put_captures-requires-clause-at_bound_2 : goal.put_captures-requires-clause-at_bound_2
-put_captures-requires-clause-at_bound_2 c =
+pub put_captures-requires-clause-second_bound : goal.put_captures-requires-clause-second_bound
+put_captures-requires-clause-second_bound c =
     let x = fits_first c.args.text.now _ _ c.parse-parsed.ensures c.in-Both.is in
     let y = fits_second c.args.text.now _ _ c.parse-parsed.ensures c.in-Both.is in
     (y.at, y.first, y.second)

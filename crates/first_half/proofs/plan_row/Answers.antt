@@ -14,7 +14,7 @@ returns-in-Refuse c =
     record {
       answers = c.stopped.ensures ∙ five;
       the_row = λ p. absurd (pass_not_refuse p (c.stopped.ensures ∙ c.in-Refuse.is));
-      the_plan_fact = λ p. absurd (pass_not_refuse p (c.stopped.ensures ∙ c.in-Refuse.is));
+      the_plan = λ p. absurd (pass_not_refuse p (c.stopped.ensures ∙ c.in-Refuse.is));
     }
 
 pub positions_of-requires : goal.positions_of-requires
@@ -38,5 +38,5 @@ returns-then-s-lt4 c =
     record {
       answers = e ∙ told_eight c.args.bw c.args.a.now c.args.b.now (sym c.first_five-five.ensures.value ∙ c.in_default.is) _ w;
       the_row = λ p. absurd (pass_not_refuse p e);
-      the_plan_fact = λ p. absurd (pass_not_refuse p e);
+      the_plan = λ p. absurd (pass_not_refuse p e);
     }

@@ -15,7 +15,7 @@ returns-in-Refuse c =
     record {
       answers = c.stopped.ensures ∙ six;
       the_row = λ _. c.requires.1;
-      the_plan_fact = λ p. absurd
+      the_plan = λ p. absurd
           (pass_not_refuse p (c.stopped.ensures ∙ c.in-Refuse.is));
     }
 

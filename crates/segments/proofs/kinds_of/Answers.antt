@@ -13,9 +13,9 @@ loop-b-init c = (omega arith, λ h. omega arith, length-replicate {A = ℕ} 16 0
 
 pub loop-b-preserved : goal.loop-b-preserved
 loop-b-preserved c = (
-  c.enter_segment-b.ensures.lower_bound.2,
+  c.enter_segment-b.ensures.ends.2,
   λ h.
-      let e = c.enter_segment-b.ensures.lower_bound.3 h in
+      let e = c.enter_segment-b.ensures.ends.3 h in
       let z = c.loop-b.invariant.1 (omega arith) in
       omega arith,
   c.enter_segment-b.ensures.entered.as_long ∙ c.loop-b.invariant.2,

@@ -4,8 +4,8 @@ use Rattle.spans.proofs.Entries.{span_segment, span_halves}
 use Rattle.spans.proofs.+enter_span.Goals as goal
 
 pub returns-then-n-eq4 : goal.returns-then-n-eq4
-returns-then-n-eq4 t c = span_segment _ _ _ _ _ _ _ c.if-n-eq4.true c.enter_segment.ensures.lower_bound.1 c.enter_segment.ensures.lower_bound.2
-    c.enter_segment.ensures.lower_bound.3 c.enter_segment.ensures.entered
+returns-then-n-eq4 t c = span_segment _ _ _ _ _ _ _ c.if-n-eq4.true c.enter_segment.ensures.ends.1 c.enter_segment.ensures.ends.2
+    c.enter_segment.ensures.ends.3 c.enter_segment.ensures.entered
 
 pub returns : goal.returns
 returns t c = span_halves _ _ _ _ _ _ _ _ _ _ (wide _ c.requires.2 c.if-n-eq4.false) c.requires.3

@@ -17,9 +17,9 @@ loop-x-init c = (omega arith, filled_start _ _, refl)
 
 pub field_streams-requires : goal.field_streams-requires
 field_streams-requires c = (
-  c.requires.words_len_bound.1.turn _ c.loop-x-test.true,
-  c.requires.words_len_bound.1.few _ c.loop-x-test.true,
-  is_named c.args.codes.now c.args.words.now _ c.requires.words_len_bound.2 c.loop-x-test.true,
+  c.requires.words_coded.1.turn _ c.loop-x-test.true,
+  c.requires.words_coded.1.few _ c.loop-x-test.true,
+  is_named c.args.codes.now c.args.words.now _ c.requires.words_coded.2 c.loop-x-test.true,
 )
 
 pub loop-x-preserved : goal.loop-x-preserved

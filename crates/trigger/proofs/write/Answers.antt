@@ -17,12 +17,12 @@ returns-clause-value c =
     let f = write_chain c.args.given.now _ c.get_words.new.local c.eight_at_most-n.ensures.2 c.get_words.ensures c.args.bandwidth m in
     c.write_numbers.ensures.value ∙ ap (λ (o : Outcome). answer_at o 5) f
 
-pub returns-clause-after : goal.returns-clause-after
+pub returns-clause-entry_after : goal.returns-clause-entry_after
 unfolding record_answer entry_written the_entry
-returns-clause-after c =
+returns-clause-entry_after c =
     let m = length c.args.entry.now in
     let f = write_chain c.args.given.now _ c.get_words.new.local c.eight_at_most-n.ensures.2 c.get_words.ensures c.args.bandwidth m in
-    c.write_numbers.ensures.after ∙ ap (λ (o : Outcome). after o (filled (at (entry_of (info_with c.get_words.new.local))) 5 c.args.entry.now)
+    c.write_numbers.ensures.entry_after ∙ ap (λ (o : Outcome). after o (filled (at (entry_of (info_with c.get_words.new.local))) 5 c.args.entry.now)
     c.args.entry.now) f
     ∙ after_same (record_outcome c.args.bandwidth c.args.given.now m) _ _ c.args.entry.now
     (λ p. ap (λ (v : List ℕ). filled (at (entry_of (info_with v))) 5 c.args.entry.now)

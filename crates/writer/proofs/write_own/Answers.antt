@@ -36,7 +36,7 @@ judge-verdict-requires c =
       h.0,
       h.1,
       row_front c.args.bandwidth c.args.words.now _ c.positions_of-p.result c.positions_of-p.ensures.value
-          (omega (arith, c.positions_of-p.ensures.upper_bound, c.take_row.ensures.row_len.0)) (c.take_row.ensures.row_len.1 t),
+          (omega (arith, c.positions_of-p.ensures.upper_bound, c.take_row.ensures.row_after.0)) (c.take_row.ensures.row_after.1 t),
     )
 
 pub returns-then-not-verdict : goal.returns-then-not-verdict
@@ -53,11 +53,11 @@ returns-then-not-verdict c =
 pub write_told-requires : goal.write_told-requires
 write_told-requires c =
     let t = not-false _ c.if-not-verdict.false in
-    let n = c.judge-verdict.ensures.fields1_value t in (
+    let n = c.judge-verdict.ensures.told_parts t in (
       omega arith,
       row_front c.args.bandwidth c.args.words.now _ c.positions_of-p.result c.positions_of-p.ensures.value
-          (omega (arith, c.positions_of-p.ensures.upper_bound, c.take_row.ensures.row_len.0))
-          (c.take_row.ensures.row_len.1 (c.if-not-take_row.false)),
+          (omega (arith, c.positions_of-p.ensures.upper_bound, c.take_row.ensures.row_after.0))
+          (c.take_row.ensures.row_after.1 (c.if-not-take_row.false)),
       sym c.judge-verdict.ensures.told_value ∙ t,
       n.0,
       n.1,

@@ -78,6 +78,6 @@ returns c =
     let g = given in
     record {
       value = rw (e, the_need);
-      cc1_after = rw e (c.put_both.ensures.by_index c.args.words.now g);
-      cc2_after = rw e (c.put_both.ensures.by_index_2 c.args.words.now g);
+      cc1_after = rw e (c.put_both.ensures.cc1_after c.args.words.now g);
+      cc2_after = rw e (c.put_both.ensures.cc2_after c.args.words.now g);
     }
