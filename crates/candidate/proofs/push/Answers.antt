@@ -13,7 +13,7 @@ pub returns : goal.returns
 returns c =
     let e = (joined_word c.args.i _ c.args.x c.args.w c.requires.1 (held_less c.args.i c.args.ten c.requires.5) c.requires.6).0 in record {
       upper_bound = ten_less c.args.w c.args.x (omega (arith, c.requires.0)) c.requires.6;
-      by_index = λ z b f.
+      ends = λ z b f.
           pushed z c.args.d.now _ c.args.i c.args.ten c.args.x c.args.w _ b f c.requires.2 (omega (arith, c.requires.0)) c.requires.1
           (omega (arith, c.requires.3, b.built.as_long)) refl
           (c.put_eight.ensures ∙ ap (λ (y : ℕ). put c.args.d.now (8 * (c.args.i / 8)) 64 y) e);

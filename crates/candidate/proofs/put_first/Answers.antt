@@ -14,7 +14,7 @@ returns c =
     let r : c.args.x / 2 ^ c.first_bits.result ≡ c.args.x / 2 ^ (second_at c.args.bw - 10) =
     ap (λ (k : ℕ). c.args.x / 2 ^ k) (omega (arith, c.first_bits.ensures.value, w)) in record {
       upper_bound = rw r (ten_less (second_at c.args.bw) c.args.x (omega (arith, w)) c.requires.2);
-      by_index = λ z n e.
+      ends = λ z n e.
           built_first z c.args.d.now _ (second_at c.args.bw) c.args.x _ (sym n) e (omega (arith, w)) (omega (arith, w)) (omega (arith, c.requires.0, n)) r
           c.put_eight.ensures;
     }

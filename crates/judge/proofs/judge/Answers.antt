@@ -42,7 +42,7 @@ pub returns-then-not-are_checked : goal.returns-then-not-are_checked
 returns-then-not-are_checked c = record {
   told_value = (untold_says c.args.bw c.args.words.now c.requires.0 {X = Unit {0}} _ c.untold.ensures
       (λ t. c.are_checked.ensures.no (c.if-not-are_checked.true) t.checked)).0;
-  fields1_value = (untold_says c.args.bw c.args.words.now c.requires.0 {X = _} _ c.untold.ensures
+  told_parts = (untold_says c.args.bw c.args.words.now c.requires.0 {X = _} _ c.untold.ensures
       (λ t. c.are_checked.ensures.no (c.if-not-are_checked.true) t.checked)).1;
 }
 
@@ -56,7 +56,7 @@ returns-in-Refuse c =
     let p = answers in record {
       told_value = (untold_says c.args.bw c.args.words.now c.requires.0 {X = Unit {0}} _ c.untold-in-Refuse.ensures
           (λ t. pass_not_refuse (p ∙ ap plan_outcome c.requires.3 ∙ t.laid) c.in-Refuse.is)).0;
-      fields1_value = (untold_says c.args.bw c.args.words.now c.requires.0 {X = _} _ c.untold-in-Refuse.ensures
+      told_parts = (untold_says c.args.bw c.args.words.now c.requires.0 {X = _} _ c.untold-in-Refuse.ensures
           (λ t. pass_not_refuse (p ∙ ap plan_outcome c.requires.3 ∙ t.laid) c.in-Refuse.is)).1;
     }
 
@@ -79,7 +79,7 @@ returns-then-words-n c =
     let p = says in record {
       told_value = (untold_says c.args.bw c.args.words.now c.requires.0 {X = Unit {0}} _ c.untold-then-words-n.ensures
           (λ t. c.if-words-n.true (t.counted ∙ omega (arith, p.says_1, p.says_2)))).0;
-      fields1_value = (untold_says c.args.bw c.args.words.now c.requires.0 {X = _} _ c.untold-then-words-n.ensures
+      told_parts = (untold_says c.args.bw c.args.words.now c.requires.0 {X = _} _ c.untold-then-words-n.ensures
           (λ t. c.if-words-n.true (t.counted ∙ omega (arith, p.says_1, p.says_2)))).1;
     }
 
@@ -94,7 +94,7 @@ pub returns-then-not-are_formatted : goal.returns-then-not-are_formatted
 returns-then-not-are_formatted c = record {
   told_value = (untold_says c.args.bw c.args.words.now c.requires.0 {X = Unit {0}} _ c.untold-then-not-are_formatted.ensures
       (λ t. c.are_formatted.ensures.no (c.if-not-are_formatted.true) t.users)).0;
-  fields1_value = (untold_says c.args.bw c.args.words.now c.requires.0 {X = _} _ c.untold-then-not-are_formatted.ensures
+  told_parts = (untold_says c.args.bw c.args.words.now c.requires.0 {X = _} _ c.untold-then-not-are_formatted.ensures
       (λ t. c.are_formatted.ensures.no (c.if-not-are_formatted.true) t.users)).1;
 }
 
@@ -138,5 +138,5 @@ returns c =
             users = c.are_formatted.ensures.yes (c.if-not-are_formatted.false);
             once = sym (c.any_again.ensures ∙ rw (n, m)) ∙ e;
           });
-      fields1_value = λ e. (n, m, begun);
+      told_parts = λ e. (n, m, begun);
     }

@@ -20,8 +20,8 @@ put_streams-requires c =
     judged c.args.codes.now c.args.words.now (length c.args.out.now) _ _ _ _ c.all_named.ensures
     c.refuse_if.ensures c.refuse_if-2.ensures c.or_else-judged.ensures in
     let e = sym (outcome) ∙ c.in_default.is in record {
-      words_len_bound = (c.requires.0, c.requires.1, passed_named c.args.codes.now c.args.words.now c.args.out.now e);
-      words_in_bounds = passed_room c.args.codes.now c.args.words.now c.args.out.now e;
+      words_coded = (c.requires.0, c.requires.1, passed_named c.args.codes.now c.args.words.now c.args.out.now e);
+      out_room = passed_room c.args.codes.now c.args.words.now c.args.out.now e;
     }
 
 pub returns : goal.returns

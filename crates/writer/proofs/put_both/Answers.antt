@@ -39,12 +39,12 @@ put_other-requires c =
 
 pub returns : goal.returns
 returns c = record {
-  by_index = λ w g.
+  cc1_after = λ w g.
       c.put_channel.ensures (candidate c.args.bw w 1) (present_length c.args.bw w 1 (present_1 c.args.bw) ∙ sym g.enough)
       (candidate_made c.args.bw w c.args.row.now 1 (lent_1 c.args.bw w c.args.row.now g.known g.the_row) (take c.args.n c.args.fields.now)
       (first_fields c.args.bw w c.args.row.now c.args.fields.now c.args.n c.args.need c.args.overflow c.args.first c.args.second g) _ _
       g.begun.the_first.1 g.begun.the_second.1);
-  by_index_2 = λ w g.
+  cc2_after = λ w g.
       c.put_other.ensures w g.the_row g.begun.the_overflow
       (other_fields c.args.bw w c.args.row.now c.args.fields.now c.args.n c.args.need c.args.overflow c.args.first c.args.second g) g.enough;
 }
