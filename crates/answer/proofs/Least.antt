@@ -8,6 +8,7 @@ use native.Mathlib.Numerals.{add-one}
 use native.Mathlib.Nat.{eq-or-lt_of_le}
 use lib.Dec.{ltb, eqb}
 use borrow.Author.Tests.{lt-ltb, le-ltb, ltb-true, eqb-true, not-false}
+use Rattle.std.specs.Prelude.{Option, Some, None, unwrap_or, MatchOption}
 use Rattle.answer.specs.Least.{least}
 
 -- none below n passes: n
@@ -31,6 +32,13 @@ least_found p (suc n) i l t h =
     let s : least p n ≡ i = least_found p n i m t h in
     rw (s, lt-ltb i n m))
     (eq-or-lt_of_le {n = i} {m = n} (omega arith))
+
+-- what `find` over the numbers below n comes to
+pub least_from_find : (p : ℕ → Bool) (n : ℕ) (r : Option ℕ)
+    → MatchOption r ((k : ℕ) → 0 ≤ k → k < n → p k ≡ false) (λ i. (0 ≤ i) × (i < n) × (p i ≡ true) × ((k : ℕ) → 0 ≤ k → k < i → p k ≡ false))
+    → unwrap_or r n ≡ least p n
+least_from_find p n None h = sym (least_none p n (λ k l. h k (omega arith) l))
+least_from_find p n (Some i) h = sym (least_found p n i h.1 h.2 (λ k l. h.3 k (omega arith) l))
 
 -- what a search that ends at i knows
 pub least_is : (p : ℕ → Bool) (n i : ℕ) → i ≤ n → (i < n → p i ≡ true) → ((k : ℕ) → k < i → p k ≡ false) → least p n ≡ i
