@@ -13,17 +13,18 @@ pub fn byte_at(s: &[u8], i: usize) -> u8
 }
 
 // Bit i.
+#[tactic(auto, unfolding(crate::specs::Bits::bit))]
 pub fn bit_at(s: &[u8], i: usize) -> u32
     ensures { result ≡ bit s.now i }
 {
-    (byte_at(s, i / 8) as u32 >> (i % 8)) % 2
+    (u32::from(byte_at(s, i / 8)) >> (i % 8)) % 2
 }
 
 // Four bytes as one number, lowest first.
 fn join4(a: u8, b: u8, c: u8, d: u8) -> u32
     ensures { result ≡ a + b * 256 + c * 65536 + d * 16777216 }
 {
-    a as u32 + b as u32 * 256 + c as u32 * 65536 + d as u32 * 16777216
+    u32::from_le_bytes([a, b, c, d])
 }
 
 // The 32 bits from the start of byte i, which are there: one load.
@@ -62,13 +63,13 @@ pub fn field_at(s: &[u8], at: usize, n: usize) -> u32
 fn join2(a: u32, b: u32) -> u64
     ensures { result ≡ a + b * 4294967296 }
 {
-    a as u64 + b as u64 * 4294967296
+    u64::from(a) + u64::from(b) * 4294967296
 }
 
 fn wide(x: u8) -> u64
     ensures { (result < 256) × (result ≡ x) }
 {
-    x as u64
+    u64::from(x)
 }
 
 // The 64 bits from the start of byte i, which are there: one load.

@@ -1,20 +1,20 @@
 // The four-bit check and the tail of one block of bits.
 #![tactic(auto)]
 
-ghost use Rattle.std.specs.Prelude.{◌≡◌, ◌+◌, ◌^◌, ◌<◌};
+ghost use Rattle.std.specs.Prelude.{◌≡◌, ◌+◌, ◌*◌, ◌^◌, ◌<◌};
 ghost use Rattle.block.specs.Check.{check, right};
 
 // The check of the n bits from `at`, a byte at a time until one window holds the rest.
 fn check_long(s: &[u8], at: usize, n: usize) -> u32
-    requires { at + n < 2 ^ 64 }
+    requires { (57 < n) × (at + n < 2 ^ 64) }
     ensures { result ≡ check s.now at n }
 {
     let mut r: u64 = 255;
-    let mut k: usize = 0;
-    while 57 < n - k {
-        r = register::byte_step(r ^ bits::field_at(s, at + k, 8) as u64);
-        k += 8;
+    let bytes = (n - 57).div_ceil(8);
+    for i in 0..bytes {
+        r = register::byte_step(r ^ u64::from(bits::field_at(s, at + 8 * i, 8)));
     }
+    let k = 8 * bytes;
     register::check_of(r, bits::wide_from(s, at + k), n - k)
 }
 

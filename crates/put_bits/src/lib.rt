@@ -21,7 +21,7 @@ fn put_part(d: &mut [u8], i: usize, m: usize, w: u32)
 {
     let k = i / 8;
     if k < d.len() {
-        d[k] = merged(d[k] as u32, i % 8, m, w) as u8;
+        d[k] = merged(u32::from(d[k]), i % 8, m, w) as u8;
     }
 }
 
@@ -29,11 +29,10 @@ fn put_part(d: &mut [u8], i: usize, m: usize, w: u32)
 fn part_of(i: usize, n: usize) -> usize
     ensures { result ≡ min n (8 - i % 8) }
 {
-    let room = 8 - i % 8;
-    if n <= room { n } else { room }
+    n.min(8 - i % 8)
 }
 
-// The n bits from `at` made those of v, a byte at a time.
+// The n bits from `at` made those of v, a byte at a time. The steps are as long as their bytes have room, so no range counts them.
 fn put_parts(d: &mut [u8], at: usize, n: usize, v: u32)
     requires { (n ≤ 32) × (at + n < 2 ^ 64) }
     ensures { d.new ≡ put d.old at n v }
@@ -92,7 +91,7 @@ pub fn put_field(d: &mut [u8], at: usize, n: usize, v: u32)
     let i = at / 8;
     if (n <= 25) & (i + 3 < d.len()) {
         let w = merged(bits::window(d, i), at % 8, n, v);
-        put_window(d, i, w as u64);
+        put_window(d, i, u64::from(w));
         return;
     }
     put_parts(d, at, n, v);

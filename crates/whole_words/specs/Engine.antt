@@ -2,8 +2,9 @@
 -- `brachymel/proofs/Early.antt`.
 use Rattle.std.specs.Prelude.{not, ℕ, ◌%◌, ltb, eqb}
 use Rattle.answer.specs.Answer.{no, refuse_if, ◌or◌}
-use Rattle.answer.specs.declared.Outcome.{Outcome}
+use Rattle.answer.specs.Answer.{Outcome}
+use Rattle.answer.specs.declared.Refusal.TheVariants.{UnknownBandwidth, NoFrameReads}
 
 unfoldable pub early : ℕ → ℕ → ℕ → Outcome
 early bw bytes n =
-    refuse_if (ltb 4 bw) (no 1 0 0) or (refuse_if (not (eqb (bytes % 4) 0)) (no 13 0 0) or refuse_if (ltb 154 n) (no 13 0 0))
+    refuse_if (ltb 4 bw) UnknownBandwidth or (refuse_if (not (eqb (bytes % 4) 0)) NoFrameReads or refuse_if (ltb 154 n) NoFrameReads)

@@ -2,3 +2,4 @@ pub mod Four
 pub mod Back
 pub mod Agree
 pub mod Inverse
+pub mod Fronts

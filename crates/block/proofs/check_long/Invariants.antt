@@ -1,12 +1,9 @@
--- What the loops of `block::check_long` keep, and what falls.
-use Prim.Native.Nat.{◌-◌, ◌≤◌}
+-- What the loops of `block::check_long` keep.
+use Prim.Native.Nat.{◌*◌}
 use mathlib.Core.Path.{◌≡◌}
 use Rattle.block.specs.Check.{register}
 use Rattle.block.proofs.Mirror.{mirror}
 use Rattle.block.proofs.check_long.Given as goal
 
-abbrev pub invariant-loop-k : goal.invariant-loop-k
-invariant-loop-k l = (l.k ≤ l.fn.n) × (l.r ≡ mirror (register l.fn.s l.fn.at l.k))
-
-abbrev pub decreases-loop-k : goal.decreases-loop-k
-decreases-loop-k l = l.fn.n - l.k
+abbrev pub invariant-loop-i : goal.invariant-loop-i
+invariant-loop-i l = l.r ≡ mirror (register l.fn.s l.fn.at (8 * l.i))

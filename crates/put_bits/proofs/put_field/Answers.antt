@@ -26,7 +26,7 @@ returns-then-n-i c = let t = fits_window c.args.n (c.args.at / 8) (length c.args
     let i = c.args.at / 8 in
     let e : 8 * i + c.args.at % 8 ≡ c.args.at = omega arith in
     c.put_window.ensures
-    ∙ ap (λ (y : ℕ). put c.args.d.now (8 * i) 32 y) (c.merged-w.ensures
+    ∙ ap (λ (y : ℕ). put c.args.d.now (8 * i) 32 y) (c.from.ensures ∙ c.merged-w.ensures
     ∙ ap (λ (y : ℕ). merge y (c.args.at % 8) c.args.n c.args.v) c.window.ensures)
     ∙ put_merged c.args.d.now i (c.args.at % 8) c.args.n c.args.v (omega (arith, t.0))
     ∙ ap (λ (k : ℕ). put c.args.d.now k c.args.n c.args.v) e
