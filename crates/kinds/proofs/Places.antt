@@ -6,7 +6,7 @@ use native.Mathlib.Omega.{arith}
 use native.Mathlib.Nat.{mod-lt, mod-eq_of_lt, div-eq_of_lt, mul-add-div, mul-add-mod_self_left, div-add-mod}
 use Rattle.kinds.specs.Kinds.{span}
 use Rattle.kinds.specs.Signals.{Place}
-use Rattle.kinds.proofs.Table.{spans, span_some, span_most, narrow_span}
+use Rattle.kinds.proofs.Table.{spans, span_some, span_most}
 
 -- ---- the positions of a span of n: place r of the one around p
 abbrev pub at : ℕ → ℕ → ℕ → ℕ
@@ -33,9 +33,6 @@ pub place_at : (c p q : ℕ) → Place c p q → q ≡ span c * (p / span c) + q
 place_at c p q w = sym (div-add-mod q (span c)) ∙ ap (λ (k : ℕ). span c * k + q % span c) w.0
 
 -- one of 01's does not leave its segment
-pub place_four : (c p : ℕ) → c < 7 → p % span c < 4
-place_four c p h = let l = place_mod c p (omega arith) in let m = narrow_span c h in omega arith
-
 pub place_segment : (c p q : ℕ) → c < 7 → Place c p q → q / 4 ≡ p / 4
 place_segment c p q h w = go (span c) (spans c h) w.0
   where

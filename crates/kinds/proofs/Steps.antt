@@ -89,12 +89,6 @@ pub share_alone : (p v : ℕ) → cond (eqb (v / 8) 8) (fields_of v) 0 ≡ share
 unfolding share gives
 share_alone p v = rw (full 0 (omega arith) (p % span 0) (mod-lt p (span_some 0 (omega arith))), plain_family 0 (omega arith))
 
-pub channel_own : (x p f : ℕ) → p % 2 + 1 ≡ x → f ≡ cond (eqb (p % 2 + 1) x) f 0
-channel_own x p f e = rw (eq-eqb (p % 2 + 1) x e)
-
-pub channel_other : (x p f : ℕ) → (p % 2 + 1 ≡ x → ⊥) → 0 ≡ cond (eqb (p % 2 + 1) x) f 0
-channel_other x p f e = rw (ne_eqb (p % 2 + 1) x e)
-
 -- each position is one channel's
 pub both_channels : (c p v : ℕ) → channel_share 1 c p v + channel_share 2 c p v ≡ share c p v
 both_channels c p v =

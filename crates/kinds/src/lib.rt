@@ -18,6 +18,7 @@ pub fn value_at(row: &[u16], p: usize) -> u16
 // ---- the table
 
 // The family of its values.
+#[tactic(auto, unfolding(crate::specs::Kinds::family, crate::specs::Kinds::kind_at, crate::specs::Kinds::kinds))]
 pub fn family_of(kind: u16) -> u16
     ensures { result ≡ family kind }
 {
@@ -68,7 +69,7 @@ pub fn span_of(kind: u16) -> usize
     ensures { (0 < result) × (result ≤ 16) × (result ≡ span kind) }
 {
     if kind < 2 {
-        return (kind + 1) as usize;
+        return usize::from(kind + 1);
     }
     if kind < 7 {
         return 4;
@@ -77,6 +78,7 @@ pub fn span_of(kind: u16) -> usize
 }
 
 // Which of them are its places, bit j for place j.
+#[tactic(auto, unfolding(crate::specs::Kinds::mask, crate::specs::Kinds::kind_at, crate::specs::Kinds::kinds))]
 pub fn mask_of(kind: u16) -> u16
     ensures { result ≡ mask kind }
 {
@@ -211,16 +213,15 @@ pub fn fields_in(channel: usize, kind: u16, row: &[u16], p: usize) -> u16
     let places = mask_of(kind);
     let own = family_of(kind);
     let mut sum: u16 = 0;
-    let mut i: usize = 0;
-    while i < n {
+    for i in 0..n {
         let f = place_share(places, own, i, value_at(row, b + i));
         sum += channel_share(channel, b + i, f);
-        i += 1;
     }
     sum
 }
 
-// The fields of both channels: those of all its places.
+// The fields of both channels: those of all its places. One walk, where two calls of the function above would be two. One function for both, over
+// what a place counts, would be no plainer: that closure needs a contract longer than this loop.
 pub fn total_of(kind: u16, row: &[u16], p: usize) -> u16
     requires { (kind < 36) × (p < 4096) }
     ensures { (result ≤ 144) × (result ≡ together kind (at row.now) p) }
@@ -230,10 +231,8 @@ pub fn total_of(kind: u16, row: &[u16], p: usize) -> u16
     let places = mask_of(kind);
     let own = family_of(kind);
     let mut sum: u16 = 0;
-    let mut place: usize = 0;
-    while place < n {
+    for place in 0..n {
         sum += place_share(places, own, place, value_at(row, b + place));
-        place += 1;
     }
     sum
 }

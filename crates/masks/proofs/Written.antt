@@ -7,10 +7,8 @@ use native.Mathlib.Omega.{arith}
 use native.Mathlib.Numerals.{add-one}
 use mir.Val.{bool_byte}
 use lib.ListN.{length, set, take, length-set}
-use lib.Seq.{take-set-le, take-suc-set, length-take-le, get_or-take}
-use Rattle.answer.specs.Lists.{at, build}
+use lib.Seq.{take-set-le, take-suc-set}
 use Rattle.answer.specs.Tally.{tally}
-use Rattle.answer.proofs.Lists.{build_is}
 use Rattle.masks.specs.Engine.{meet, hit, pairs_to}
 use Rattle.masks.proofs.Rows.{hit_within, tally_most}
 
@@ -59,7 +57,3 @@ module _ (m : ℕ → ℕ) (n i j t : ℕ) (h : i < j) (l : j < n) (k : n ≤ 32
       ∙ take-set-le t (set d t (i + 1)) (t + 1) (j + 1) (omega arith)
       ∙ take-set-le t d t (i + 1) (omega arith)
       ∙ rw (← next, add-one (32 * i + j), is_hit f, append-nil) p
-
--- ---- the first n of the bytes found, copied one by one
-pub front_built : (d : List ℕ) (n : ℕ) → n ≤ length d → build (at d) n ≡ take n d
-front_built d n l = sym (build_is (at d) 0 (take n d) n (length-take-le n d l) (λ i h. get_or-take n d i 0 h))

@@ -40,12 +40,10 @@ pub fn all_apart(masks: &[u64; 32], n: usize) -> bool
 {
     let mut apart = true;
     let mut seen = 0;
-    let mut i = 0;
-    while i < n {
+    for i in 0..n {
         let m = masks[i];
         apart = apart & (seen & m == 0);
         seen = seen | m;
-        i += 1;
     }
     apart
 }
@@ -63,12 +61,10 @@ fn find_row(found: &mut [u8; 1024], to: usize, masks: &[u64; 32], n: usize, i: u
 {
     let a = masks[i];
     let mut end = to;
-    let mut j = i + 1;
-    while j < n {
+    for j in i + 1..n {
         found[end] = (i + 1) as u8;
         found[end + 1] = (j + 1) as u8;
-        end += 2 * (is_meeting(a, masks[j]) as usize);
-        j += 1;
+        end += 2 * usize::from(is_meeting(a, masks[j]));
     }
     end
 }
@@ -81,10 +77,8 @@ pub fn find_pairs(found: &mut [u8; 1024], masks: &[u64; 32], n: usize) -> usize
     ensures found_len { length found.new ≡ 1024 }
 {
     let mut end = 0;
-    let mut i = 0;
-    while i < n {
+    for i in 0..n {
         end = find_row(found, end, masks, n, i);
-        i += 1;
     }
     end
 }

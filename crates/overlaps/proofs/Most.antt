@@ -7,15 +7,19 @@ use Prim.Native.Nat.{ℕ, ◌*◌, ◌/◌, ◌≤◌}
 use native.Mathlib.Omega.{arith}
 use borrow.Author.Tests.{le-ltb}
 use lib.Dec.{ltb}
-use Rattle.answer.specs.Answer.{no, answer_at}
+use Rattle.answer.specs.Answer.{no, ◌or◌, answer_at}
 use Rattle.answer.specs.declared.Answer.{Answer}
-use Rattle.answer.specs.declared.Outcome.{Outcome}
-use Rattle.answer.specs.declared.Outcome.TheVariants.{Pass, Refuse}
+use Rattle.answer.specs.Answer.{Outcome}
+use Rattle.std.specs.Prelude.{Ok, Err}
 use Rattle.answer.proofs.Order.{pass_or_refuse, pass_not_refuse, pass_left, pass_right, if_pass, or_cases}
+use Rattle.answer.specs.declared.Refusal.TheVariants.{TooFewPairs}
+use Rattle.answer.specs.declared.Refusal.{Refusal}
+use Rattle.answer.specs.Answer.{answer_of}
 use Rattle.overlaps.specs.Overlaps.{entries_in}
 use Rattle.overlaps.specs.Engine.{mask_at}
 use Rattle.overlaps.specs.Worked.{pair_count}
-use Rattle.overlaps.specs.Result.{entries_outcome, no_pair_room, overlaps_outcome, overlaps_answer}
+use Rattle.trigger.specs.Reading.{above2}
+use Rattle.overlaps.specs.Result.{not_whole, over32, entries_outcome, no_pair_room, overlaps_outcome, overlaps_answer}
 use Rattle.masks.proofs.Rows.{tally_most}
 use Rattle.overlaps.proofs.Judged.{Other, judged_so_far, never_before, few, list_judged}
 
@@ -35,11 +39,11 @@ always_room bw es m h z =
     (λ p. let q : ◌≡◌ {A = ℕ} 0 26 = ap (λ (o : Outcome). (answer_at o (pair_count es)).number) (sym p) ∙ z in omega arith)
     (λ e. ⊎_elim
     (λ f. never_before bw es 26 others others' e.0 f (its e))
-    (λ f. pass_not_refuse (if_pass (ltb (m / 2) (pair_count es)) (no 26 0 0) (roomy f.0)) f.1)
+    (λ f. pass_not_refuse (if_pass (ltb (m / 2) (pair_count es)) TooFewPairs (roomy f.0)) f.1)
     (or_cases o r e.0 e.1))
     (pass_or_refuse (overlaps_outcome bw es m))
   where
-    its : (e : (x : Answer) × (overlaps_outcome bw es m ≡ Refuse x)) → e.0.number ≡ 26
+    its : (e : (x : Refusal) × (overlaps_outcome bw es m ≡ Err x)) → (answer_of e.0).number ≡ 26
     its e = ap (λ (o : Outcome). (answer_at o (pair_count es)).number) (sym e.1) ∙ z
 
     others : Other 26 (1 ∷ 15 ∷ 25 ∷ [])
@@ -48,8 +52,9 @@ always_room bw es m h z =
     others' : Other 26 (24 ∷ 16 ∷ 17 ∷ [])
     others' = (λ e. omega arith, (λ e. omega arith, (λ e. omega arith, tt)))
 
-    roomy : judged_so_far bw es ≡ Pass → ltb (m / 2) (pair_count es) ≡ false
+    roomy : judged_so_far bw es ≡ Ok tt → ltb (m / 2) (pair_count es) ≡ false
     roomy p =
-        let q = pass_right _ _ (pass_left _ (entries_outcome bw es (entries_in es)) p) in
+        let q = pass_right (above2 bw or not_whole es) (over32 es) (pass_left (above2 bw or not_whole es or over32 es) (entries_outcome bw es
+        (entries_in es)) p) in
         let l = pairs_most es (few bw es m q) in
         le-ltb (m / 2) (pair_count es) (omega arith)

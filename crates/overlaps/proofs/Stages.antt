@@ -9,12 +9,14 @@ use lib.Dec.{ltb}
 use lib.ListN.{length, drop}
 use Rattle.answer.specs.Answer.{no, refuse_if, ◌or◌, answer_at, after, passes}
 use Rattle.answer.specs.declared.Answer.{Answer}
-use Rattle.answer.specs.declared.Outcome.{Outcome}
-use Rattle.answer.specs.declared.Outcome.TheVariants.{Pass, Refuse}
+use Rattle.answer.specs.Answer.{Outcome}
+use Rattle.std.specs.Prelude.{Ok, Err}
 use Rattle.answer.specs.Lists.{at, filled}
 use Rattle.answer.specs.Tally.{tally}
 use Rattle.answer.proofs.Lists.{get_d_filled}
 use Rattle.answer.proofs.Order.{pass_right, pass_if, or_refuse, or_next, or_pass}
+use Rattle.answer.specs.declared.Refusal.TheVariants.{TooFewPairs}
+use Rattle.answer.specs.declared.Refusal.{Refusal}
 use Rattle.trigger.specs.Reading.{above2}
 use Rattle.overlaps.specs.Overlaps.{entries_in}
 use Rattle.masks.specs.Engine.{hit, pairs_to}
@@ -32,23 +34,23 @@ abbrev counted : (ℕ → ℕ) → ℕ → ℕ
 counted m n = tally (hit m n) (32 * n)
 
 abbrev no_room : (ℕ → ℕ) → ℕ → ℕ → Outcome
-no_room m n k = refuse_if (ltb (k / 2) (counted m n)) (no 26 0 0)
+no_room m n k = refuse_if (ltb (k / 2) (counted m n)) TooFewPairs
 
-pub few : (bw : ℕ) (es : List ℕ) → of_length bw es ≡ Pass → entries_in es ≤ 32
+pub few : (bw : ℕ) (es : List ℕ) → of_length bw es ≡ Ok tt → entries_in es ≤ 32
 unfolding over32
 few bw es e = ltb-false 32 (entries_in es) (pass_if _ _ (pass_right (above2 bw or not_whole es) (over32 es) e))
 
-not_passed : (o : Outcome) → not (passes o) ≡ true → (x : Answer) × (o ≡ Refuse x)
-not_passed Pass e = absurd (let z : ◌≡◌ {A = ℕ} 0 1 = cc in omega arith)
-not_passed (Refuse x) e = (x, refl)
+not_passed : (o : Outcome) → not (passes o) ≡ true → (x : Refusal) × (o ≡ Err x)
+not_passed (Ok u) e = absurd (let z : ◌≡◌ {A = ℕ} 0 1 = cc in omega arith)
+not_passed (Err x) e = (x, refl)
 
 module _ (bw : ℕ) (es : List ℕ) (k : ℕ) where
-  pub length_refused : (x : Answer) → of_length bw es ≡ Refuse x → overlaps_outcome bw es k ≡ Refuse x
+  pub length_refused : (x : Refusal) → of_length bw es ≡ Err x → overlaps_outcome bw es k ≡ Err x
   unfolding overlaps_outcome
   length_refused x e = or_refuse _ _ x (or_refuse _ _ x e)
 
-  module _ (p : of_length bw es ≡ Pass) where
-    entry_refused : (x : Answer) → entries_outcome bw es (entries_in es) ≡ Refuse x → overlaps_outcome bw es k ≡ Refuse x
+  module _ (p : of_length bw es ≡ Ok tt) where
+    entry_refused : (x : Refusal) → entries_outcome bw es (entries_in es) ≡ Err x → overlaps_outcome bw es k ≡ Err x
     unfolding overlaps_outcome
     entry_refused x e = or_refuse _ _ x (or_next _ _ p ∙ e)
 
@@ -64,7 +66,7 @@ module _ (bw : ℕ) (es : List ℕ) (k : ℕ) where
         let r = not_passed (entries_outcome bw es (entries_in es)) e in
         rw (entry_refused r.0 r.1)
 
-    room_left : entries_outcome bw es (entries_in es) ≡ Pass → overlaps_outcome bw es k ≡ no_pair_room es k
+    room_left : entries_outcome bw es (entries_in es) ≡ Ok tt → overlaps_outcome bw es k ≡ no_pair_room es k
     unfolding overlaps_outcome
     room_left e = or_next _ _ (or_pass _ _ p e)
 
@@ -81,7 +83,7 @@ module _ (es w v : List ℕ) (e : v ≡ filled (mask_at es) (entries_in es) w) w
   unfolding pair_bytes
   bytes_are = pairs_below (at v) (mask_at es) (entries_in es) same (32 * entries_in es)
 
-  module _ (bw : ℕ) (d : List ℕ) (p : of_length bw es ≡ Pass) (q : entries_outcome bw es (entries_in es) ≡ Pass) where
+  module _ (bw : ℕ) (d : List ℕ) (p : of_length bw es ≡ Ok tt) (q : entries_outcome bw es (entries_in es) ≡ Ok tt) where
     pub answered : (r : Answer) → r ≡ answer_at (no_room (at v) (entries_in es) (length d)) (counted (at v) (entries_in es))
         → r ≡ overlaps_answer bw es (length d)
     unfolding overlaps_answer no_pair_room

@@ -3,36 +3,37 @@
 -- "For a list: 15 not whole entries, 25 over 32 of them, then the first refused entry's number with its place from 1, then 26 room for fewer
 -- pairs than there are."
 use Rattle.std.specs.Prelude.{◌≡◌, not, List, [], ◌∷◌, ◌++◌, ℕ, zero, suc, ◌+◌, ◌*◌, ◌/◌, ◌%◌, ◌<◌, ltb, eqb, length, drop, get_or}
-use Rattle.answer.specs.Answer.{no, refuse_if, ◌or◌, answer_at, after}
-use Rattle.answer.specs.Order.{Applies}
+use Rattle.answer.specs.Answer.{no, of_entry, refuse_if, ◌or◌, answer_at, after}
+use Rattle.answer.specs.Order.{Answers}
 use Rattle.answer.specs.declared.Answer.{Answer}
-use Rattle.answer.specs.declared.Outcome.{Outcome}
-use Rattle.answer.specs.declared.Outcome.TheVariants.{Pass, Refuse}
+use Rattle.answer.specs.Answer.{Outcome}
+use Rattle.answer.specs.declared.Refusal.TheVariants.{NotWholeEntries, TooManyEntries, TooFewPairs}
+use Rattle.std.specs.Prelude.{Ok, Err}
 use Rattle.trigger.specs.Reading.{above2, info_outcome, entry_answer}
 use Rattle.overlaps.specs.Overlaps.{entries_in, entry_at, info_at, Reported}
 use Rattle.overlaps.specs.Worked.{pair_count, pair_bytes}
 
 -- 15
 unfoldable pub not_whole : List ℕ → Outcome
-not_whole es = refuse_if (not (eqb (length es % 5) 0)) (no 15 0 0)
+not_whole es = refuse_if (not (eqb (length es % 5) 0)) NotWholeEntries
 
 -- 25
 unfoldable pub over32 : List ℕ → Outcome
-over32 es = refuse_if (ltb 32 (entries_in es)) (no 25 0 0)
+over32 es = refuse_if (ltb 32 (entries_in es)) TooManyEntries
 
 -- an entry's refusal, "with its place from 1": p
 abbrev pub placed : ℕ → Outcome → Outcome
-placed p Pass = Pass
-placed p (Refuse x) = Refuse (no x.number 0 p)
+placed p (Ok u) = Ok tt
+placed p (Err x) = Err (of_entry p x)
 
 -- "the first refused entry's number with its place": of the first n
 unfoldable pub entries_outcome : ℕ → List ℕ → ℕ → Outcome
-entries_outcome bw es zero = Pass
+entries_outcome bw es zero = Ok tt
 entries_outcome bw es (suc n) = entries_outcome bw es n or placed (suc n) (info_outcome bw (info_at es n))
 
 -- 26, two bytes a pair: of m bytes lent
 unfoldable pub no_pair_room : List ℕ → ℕ → Outcome
-no_pair_room es m = refuse_if (ltb (m / 2) (pair_count es)) (no 26 0 0)
+no_pair_room es m = refuse_if (ltb (m / 2) (pair_count es)) TooFewPairs
 
 unfoldable pub overlaps_outcome : ℕ → List ℕ → ℕ → Outcome
 overlaps_outcome bw es m = above2 bw or not_whole es or over32 es or entries_outcome bw es (entries_in es) or no_pair_room es m
@@ -60,10 +61,10 @@ pub record FirstRefused (bw : ℕ) (es : List ℕ) (i : ℕ) (r : Answer) : Type
 
 -- the answer r to the list es with m bytes lent is by the rows 1, 15, 25, the entries', 26
 pub record JudgedList (bw : ℕ) (es : List ℕ) (m : ℕ) (r : Answer) : Type 0 where
-  pub accepted : r.number ≡ 0 → (r ≡ no 0 0 (pair_count es)) × ((k : ℕ) → get_or (overlaps_checks bw es m) k Pass ≡ Pass)
-  pub refused : (r.number ≡ 0 → ⊥) → (k : ℕ) × Applies (overlaps_checks bw es m) k r
-  pub of_entry : Applies (overlaps_checks bw es m) 3 r → (i : ℕ) × FirstRefused bw es i r
+  pub accepted : r.number ≡ 0 → (r ≡ no 0 0 (pair_count es)) × ((k : ℕ) → get_or (overlaps_checks bw es m) k (Ok tt) ≡ Ok tt)
+  pub refused : (r.number ≡ 0 → ⊥) → (k : ℕ) × Answers (overlaps_checks bw es m) k r
+  pub of_entry : Answers (overlaps_checks bw es m) 3 r → (i : ℕ) × FirstRefused bw es i r
   -- "26 room for fewer pairs than there are"
-  pub of_room : Applies (overlaps_checks bw es m) 4 r → (n : ℕ) × (w : List ℕ) × Reported bw es n w × (m / 2 < n)
+  pub of_room : Answers (overlaps_checks bw es m) 4 r → (n : ℕ) × (w : List ℕ) × Reported bw es n w × (m / 2 < n)
   -- and an accepted list's entries are each read
   pub each_read : r.number ≡ 0 → (i : ℕ) → i < entries_in es → ReadsAlone bw (entry_at es i)

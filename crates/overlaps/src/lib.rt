@@ -10,7 +10,7 @@ ghost use Rattle.masks.specs.Engine.{hit, pairs_to};
 ghost use Rattle.overlaps.specs.Engine.{mask_at};
 ghost use Rattle.overlaps.specs.Result.{not_whole, over32, entries_outcome, overlaps_answer, pairs_after};
 
-use answer::{Answer, Outcome};
+use answer::{Answer, Refusal};
 
 // The masks of the first n entries, and whether each entry is read. Nothing branches on an entry here: which is refused first is asked only
 // where one is.
@@ -20,12 +20,10 @@ fn fill_masks(bandwidth: u32, entries: &[u8], n: usize, masks: &mut [u64; 32]) -
     ensures masks_after { masks.new ≡ filled (mask_at entries.now) n masks.old }
 {
     let mut read = true;
-    let mut i = 0;
-    while i < n {
+    for i in 0..n {
         let x = trigger::info_at(entries, i);
         read = read & trigger::is_read(bandwidth, x);
         masks[i] = masks::mask_of(trigger_values::part_of(x, 2));
-        i += 1;
     }
     read
 }
@@ -35,24 +33,14 @@ fn first_refused(bandwidth: u32, entries: &[u8], n: usize) -> Answer
     requires { n ≤ 32 }
     ensures { result ≡ answer_at (entries_outcome bandwidth entries.now n) 0 }
 {
-    let mut i = 0;
-    while i < n {
+    for i in 0..n {
         let x = trigger::info_at(entries, i);
         let judged = trigger::judge(bandwidth, x);
-        if let Outcome::Refuse(refused) = judged {
-            return Answer {
-                number: refused.number,
-                channel: 0,
-                place: i + 1,
-            };
+        if let Err(refused) = judged {
+            return refused.of_entry(i + 1).into();
         }
-        i += 1;
     }
-    Answer {
-        number: 0,
-        channel: 0,
-        place: 0,
-    }
+    Answer::accepted(0)
 }
 
 // The first n bytes found become the lent ones' front.
@@ -60,60 +48,40 @@ fn copy_front(pairs: &mut [u8], found: &[u8; 1024], n: usize)
     requires { (n ≤ length pairs.old) × (n ≤ 1024) × (length found.now ≡ 1024) }
     ensures { pairs.new ≡ take n found.now ++ drop n pairs.old }
 {
-    let mut i = 0;
-    while i < n {
-        pairs[i] = found[i];
-        i += 1;
-    }
+    pairs[..n].copy_from_slice(&found[..n]);
 }
 
 // 26, or the pairs written. They are found in bytes of its own first, since a refusal writes nothing; 496 pairs, each two of 32, are the most.
 fn report(masks: &[u64; 32], n: usize, pairs: &mut [u8]) -> Answer
     requires { n ≤ 32 }
     ensures value { result
-        ≡ answer_at (refuse_if (ltb (length pairs.old / 2) (tally (hit (at masks.now) n) (32 * n))) (no 26 0 0))
+        ≡ answer_at (refuse_if (ltb (length pairs.old / 2) (tally (hit (at masks.now) n) (32 * n))) Refusal.TooFewPairs)
         (tally (hit (at masks.now) n) (32 * n)) }
-    ensures pairs_after { pairs.new ≡ after (refuse_if (ltb (length pairs.old / 2) (tally (hit (at masks.now) n) (32 * n))) (no 26 0 0))
+    ensures pairs_after { pairs.new ≡ after (refuse_if (ltb (length pairs.old / 2) (tally (hit (at masks.now) n) (32 * n))) Refusal.TooFewPairs)
         (pairs_to (at masks.now) n (32 * n) ++ drop (2 * tally (hit (at masks.now) n) (32 * n)) pairs.old)
         pairs.old }
 {
     if masks::all_apart(masks, n) {
-        return Answer {
-            number: 0,
-            channel: 0,
-            place: 0,
-        };
+        return Answer::accepted(0);
     }
     let mut found = [0u8; 1024];
     let end = masks::find_pairs(&mut found, masks, n);
     if pairs.len() / 2 < end / 2 {
-        return Answer {
-            number: 26,
-            channel: 0,
-            place: 0,
-        };
+        return Refusal::TooFewPairs.into();
     }
     copy_front(pairs, &found, end);
-    Answer {
-        number: 0,
-        channel: 0,
-        place: end / 2,
-    }
+    Answer::accepted(end / 2)
 }
 
 // ---- the whole
 
 // 1, 15 and 25. A list that passes has no more entries than there are masks.
-fn judge_length(bandwidth: u32, entries: &[u8]) -> Outcome
+fn judge_length(bandwidth: u32, entries: &[u8]) -> Result<(), Refusal>
     ensures { result ≡ (above2 bandwidth or not_whole entries.now or over32 entries.now) }
 {
-    answer::or_else(
-        answer::or_else(
-            answer::refuse_if(2 < bandwidth, 1, 0, 0),
-            answer::refuse_if(entries.len() % 5 != 0, 15, 0, 0),
-        ),
-        answer::refuse_if(32 < entries.len() / 5, 25, 0, 0),
-    )
+    answer::refuse_if(2 < bandwidth, Refusal::UnknownBandwidth)?;
+    answer::refuse_if(entries.len() % 5 != 0, Refusal::NotWholeEntries)?;
+    answer::refuse_if(32 < entries.len() / 5, Refusal::TooManyEntries)
 }
 
 // "every pair that shares a subcarrier is reported once" (02, T-02), two bytes each.
@@ -122,8 +90,8 @@ pub fn overlaps(bandwidth: u32, entries: &[u8], pairs: &mut [u8]) -> Answer
     ensures pairs_after { pairs.new ≡ pairs_after bandwidth entries.now pairs.old }
 {
     let judged = judge_length(bandwidth, entries);
-    if let Outcome::Refuse(refused) = judged {
-        return refused;
+    if let Err(refused) = judged {
+        return refused.into();
     }
     let n = entries.len() / 5;
     let mut masks = [0u64; 32];

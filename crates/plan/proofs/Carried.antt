@@ -10,9 +10,12 @@ use borrow.Author.Tests.{le-leb}
 use Rattle.answer.specs.Lists.{at}
 use Rattle.answer.specs.Answer.{no}
 use Rattle.answer.specs.declared.Answer.{Answer}
-use Rattle.answer.specs.declared.Outcome.{Outcome}
-use Rattle.answer.specs.declared.Outcome.TheVariants.{Pass, Refuse}
+use Rattle.answer.specs.Answer.{Outcome}
+use Rattle.std.specs.Prelude.{Ok, Err}
 use Rattle.answer.proofs.Order.{pass_not_refuse, refuse_same}
+use Rattle.answer.specs.declared.Refusal.TheVariants.{OverEightFields}
+use Rattle.answer.specs.declared.Refusal.{Refusal}
+use Rattle.answer.specs.Answer.{answer_of}
 use Rattle.resource.specs.Values.{carried}
 use Rattle.resource.proofs.Fields.{carried_family}
 use Rattle.kinds.specs.Kinds.{span}
@@ -44,16 +47,16 @@ fits_carried c p v (smaller w) =
     is_50 : carried 50 ≡ true
     is_50 = unfold carried in refl
 
-pub plan_carried : (row : List ℕ) → plan_outcome row ≡ Pass → (p : ℕ) → p < length row → carried (at row p) ≡ true
+pub plan_carried : (row : List ℕ) → plan_outcome row ≡ Ok tt → (p : ℕ) → p < length row → carried (at row p) ≡ true
 plan_carried row e p l =
     let w = accepted_plan row (rw e at (outcome_laid row)) in
     fits_carried (w.0 p) p (at row p) (w.1.fits p (omega arith) l)
 
 -- the same of one with a resource over eight
-pub over_carried : (row : List ℕ) (s : ℕ) → plan_outcome row ≡ Refuse (no 8 0 s) → (p : ℕ) → p < length row → carried (at row p) ≡ true
+pub over_carried : (row : List ℕ) (s : ℕ) → plan_outcome row ≡ Err (OverEightFields s) → (p : ℕ) → p < length row → carried (at row p) ≡ true
 over_carried row s e p l = go (plan_outcome row) (outcome_laid row) e
   where
-    go : (x : Outcome) → Laid row x → x ≡ Refuse (no 8 0 s) → carried (at row p) ≡ true
+    go : (x : Outcome) → Laid row x → x ≡ Err (OverEightFields s) → carried (at row p) ≡ true
     go x (accepted a) f = absurd (pass_not_refuse refl f)
-    go x (no_plan t m n g) f = absurd (let z : ◌≡◌ {A = ℕ} 7 8 = ap (λ (y : Answer). y.number) (refuse_same refl f) in omega arith)
+    go x (no_plan t m n g) f = absurd (let z : ◌≡◌ {A = ℕ} 7 8 = ap (λ (y : Refusal). (answer_of y).number) (refuse_same refl f) in omega arith)
     go x (over_eight o w t v g) f = fits_carried (o p) p (at row p) (w.fits p (omega arith) l)

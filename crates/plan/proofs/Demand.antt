@@ -5,9 +5,10 @@ use mathlib.Core.List.{List}
 use Prim.Native.Nat.{ℕ, ◌<◌}
 use lib.ListN.{length}
 use Rattle.answer.specs.Answer.{no}
-use Rattle.answer.specs.declared.Outcome.{Outcome}
-use Rattle.answer.specs.declared.Outcome.TheVariants.{Pass, Refuse}
+use Rattle.answer.specs.Answer.{Outcome}
+use Rattle.std.specs.Prelude.{Ok, Err}
 use Rattle.answer.specs.Lists.{at}
+use Rattle.answer.specs.declared.Refusal.TheVariants.{NoPlan, OverEightFields}
 use Rattle.kinds.specs.Signals.{Signals}
 use Rattle.plan.specs.Answers.{segments, SomePlan, SomePlanOfEight, Held, Laid, accepted, no_plan, over_eight}
 use Rattle.plan.specs.Engine.{only_plan, plan_outcome}
@@ -17,11 +18,11 @@ use Rattle.plan.proofs.Laid.{laid_is}
 
 module _ (row : List ℕ) where
   -- a row is accepted exactly when a plan signals it with at most eight User fields on each resource
-  pub accepted_plan : Laid row Pass → SomePlanOfEight row 0 (length row)
+  pub accepted_plan : Laid row (Ok tt) → SomePlanOfEight row 0 (length row)
   accepted_plan (accepted w) = w
 
-  pub plan_accepted : SomePlanOfEight row 0 (length row) → plan_outcome row ≡ Pass
-  plan_accepted w = sym (laid_is row Pass (accepted w))
+  pub plan_accepted : SomePlanOfEight row 0 (length row) → plan_outcome row ≡ Ok tt
+  plan_accepted w = sym (laid_is row (Ok tt) (accepted w))
 
   -- any plan that signals the row is the only plan, at every position of the row ..
   pub only_plan_lem : (o : ℕ → ℕ) → Signals o (at row) 0 (length row) → (p : ℕ) → p < length row → o p ≡ only_plan (at row) p
@@ -40,7 +41,7 @@ module _ (row : List ℕ) where
   parts_plan f = (only_plan (at row), held_signals row f)
 
   -- a row that is not accepted is refused for its layout
-  pub refused_layout : (x : Outcome) → Laid row x → (x ≡ Pass) ⊎ ((s : ℕ) × ((x ≡ Refuse (no 7 0 s)) ⊎ (x ≡ Refuse (no 8 0 s))))
+  pub refused_layout : (x : Outcome) → Laid row x → (x ≡ Ok tt) ⊎ ((s : ℕ) × ((x ≡ Err (NoPlan s)) ⊎ (x ≡ Err (OverEightFields s))))
   refused_layout x (accepted w) = inl refl
   refused_layout x (no_plan s l n f) = inr (s, inl refl)
   refused_layout x (over_eight o w s v f) = inr (s, inr refl)

@@ -11,9 +11,10 @@ use borrow.Author.Tests.{ltb-true, ltb-false, not-true, not-false}
 use Rattle.answer.specs.Answer.{no, refuse_if, ◌or◌}
 use Rattle.answer.proofs.Order.{pass_right, pass_if}
 use Rattle.answer.proofs.Least.{least_holds, least_before, least_le}
-use Rattle.answer.specs.declared.Outcome.{Outcome}
-use Rattle.answer.specs.declared.Outcome.TheVariants.{Pass, Refuse}
+use Rattle.answer.specs.Answer.{Outcome}
+use Rattle.std.specs.Prelude.{Ok, Err}
 use Rattle.answer.specs.Lists.{at}
+use Rattle.answer.specs.declared.Refusal.TheVariants.{NoPlan, OverEightFields}
 use Rattle.resource.proofs.Test.{below_or}
 use Rattle.kinds.specs.Signals.{Signals}
 use Rattle.kinds.specs.Fields.{together}
@@ -54,11 +55,11 @@ module _ (row : List ℕ) where
   over_most = least_le (over_at row) (length row)
 
   pub outcome_laid : Laid row (plan_outcome row)
-  unfolding plan_outcome ◌or◌
+  unfolding plan_outcome
   outcome_laid = go (ltb (first_unheld row) (segments row)) (ltb (first_over row) (length row)) refl refl
     where
       go : (a b : Bool) → ltb (first_unheld row) (segments row) ≡ a → ltb (first_over row) (length row) ≡ b
-          → Laid row (refuse_if a (no 7 0 (first_unheld row)) or refuse_if b (no 8 0 (first_over row / 4)))
+          → Laid row (refuse_if a (NoPlan (first_unheld row)) or refuse_if b (OverEightFields (first_over row / 4)))
       go true b e f = let l = ltb-true (first_unheld row) (segments row) e in no_plan (first_unheld row) l (unheld_is l) held_before
       go false true e f =
           let l = ltb-true (first_over row) (length row) f in
@@ -92,19 +93,19 @@ module _ (row : List ℕ) where
   laid_same x y (accepted a) (over_eight o w s v f) = absurd (none_of_eight a o w s v)
   laid_same x y (no_plan s l n f) (accepted a) = absurd (n (plan_holds row (a.0, a.1) s))
   laid_same x y (no_plan s l n f) (no_plan t m o g) =
-      ap (λ (k : ℕ). Refuse (no 7 0 k)) (lowest (λ s. Held row s → ⊥) s t n o (λ i m c. c (f i m)) (λ i m c. c (g i m)))
+      ap (λ (k : ℕ). Err (NoPlan k)) (lowest (λ s. Held row s → ⊥) s t n o (λ i m c. c (f i m)) (λ i m c. c (g i m)))
   laid_same x y (no_plan s l n f) (over_eight o w t v g) = absurd (n (plan_holds row (o, w) s))
   laid_same x y (over_eight o w s v f) (accepted a) = absurd (none_of_eight a o w s v)
   laid_same x y (over_eight o w s v f) (no_plan t m n g) = absurd (n (plan_holds row (o, w) t))
   laid_same x y (over_eight o w s v f) (over_eight o' w' t v' g) =
-      ap (λ (k : ℕ). Refuse (no 8 0 k)) (lowest (Over o row) s t v (over_same o' o w' w t v') f (λ i m c. g i m (over_same o o' w w' i c)))
+      ap (λ (k : ℕ). Err (OverEightFields k)) (lowest (Over o row) s t v (over_same o' o w' w t v') f (λ i m c. g i m (over_same o o' w w' i c)))
 
   -- so a layout's outcome is the one that is worked out
   pub laid_is : (x : Outcome) → Laid row x → x ≡ plan_outcome row
   laid_is x w = laid_same x (plan_outcome row) w (outcome_laid row)
 
   -- a row that is accepted has no resource over eight
-  pub none_over : plan_outcome row ≡ Pass → first_over row ≡ length row
+  pub none_over : plan_outcome row ≡ Ok tt → first_over row ≡ length row
   unfolding plan_outcome
   none_over e =
       let l : length row ≤ first_over row = ltb-false (first_over row) (length row) (pass_if _ _ (pass_right _ _ e)) in

@@ -10,7 +10,7 @@ use lib.ListN.{length, replicate, get_or-eq_default}
 use borrow.Author.Tests.{ltb-false, eqb-false, leb-false, not-true, not-false}
 use Rattle.answer.specs.Least.{least}
 use Rattle.answer.specs.Lists.{at}
-use Rattle.answer.specs.declared.Outcome.{Outcome}
+use Rattle.answer.specs.Answer.{Outcome}
 use Rattle.answer.proofs.Least.{least_before, least_holds, least_none, least_is}
 use Rattle.answer.proofs.Lists.{filled_cong}
 use Rattle.resource.proofs.Test.{below_or}

@@ -4,6 +4,7 @@ use mathlib.Core.Logic.{◌≢◌, ⊎_elim}
 use mathlib.Core.List.{List}
 use Prim.Native.Nat.{ℕ, zero, suc, ◌+◌, ◌-◌, ◌*◌, ◌/◌, ◌%◌, ◌^◌, ◌≤◌, ◌<◌}
 use native.Mathlib.Omega.{arith}
+use native.Mathlib.Numerals.{add-one}
 use native.Mathlib.Nat.{zero-div, mul-le-mul_right}
 use lib.Pow.{pow_mono}
 use lib.ListN.{length, get_or, set, length-set, replicate, length-replicate, get_or-replicate, get_or-eq_default}
@@ -114,7 +115,7 @@ module _ (roles : List ℕ) (low : Low roles) where
       few : (s : ℕ) → (segment_of (at roles) s).marks ≤ 131072
       few s = unfold segment_of in settle_most _ _ _ _
 
--- ---- one segment more: the one that begins at b
+-- ---- one segment more
 entered_cong : (f g : ℕ → ℕ) (b e : ℕ) (w v : List ℕ) → ((p : ℕ) → b ≤ p → p < e → f p ≡ g p) → Entered f b e w v → Entered g b e w v
 entered_cong f g b e w v h c = record { entered = λ p l u. c.entered p l u ∙ h p l u; stands = c.stands; as_long = c.as_long }
 
@@ -123,35 +124,32 @@ zeros zero i = refl
 zeros (suc m) zero = refl
 zeros (suc m) (suc i) = zeros m i
 
-module _ (roles : List ℕ) (b : ℕ) (whole : b % 4 ≡ 0) where
+module _ (roles : List ℕ) (s : ℕ) where
+  abbrev b : ℕ
+  b = 4 * s
+
   abbrev there : Settled
   there = settle_of (at roles b) (at roles (b + 1)) (at roles (b + 2)) (at roles (b + 3))
 
-  after : (b + 4) / 4 ≡ suc (b / 4)
-  after = omega arith
-
-  begins : 4 * (b / 4) ≡ b
-  begins = omega arith
-
-  segment_at : segment_of (at roles) (b / 4) ≡ there
+  segment_at : segment_of (at roles) s ≡ there
   unfolding segment_of
-  segment_at = let e : b + 0 ≡ b = omega arith in rw (begins, e)
+  segment_at = let e : b + 0 ≡ b = omega arith in rw e
 
-  pub next_marks : (m : ℕ) (x : Settled) → x ≡ there → m ≡ glance_marks (at roles) (b / 4) → m + x.marks * 2 ^ b ≡ glance_marks (at roles) ((b + 4) / 4)
+  pub next_marks : (m : ℕ) (x : Settled) → x ≡ there → m ≡ glance_marks (at roles) s → m + x.marks * 2 ^ b ≡ glance_marks (at roles) (s + 1)
   unfolding glance_marks
-  next_marks m x e f = rw (after, segment_at, begins, e, f)
+  next_marks m x e f = rw (add-one s, segment_at, e, f)
 
-  pub next_sum : (i m : ℕ) → m ≡ role_sum i (at roles) (b / 4) → m + (at roles (b + i) + at roles (b + (i + 2))) ≡ role_sum i (at roles) ((b + 4) / 4)
+  pub next_sum : (i m : ℕ) → m ≡ role_sum i (at roles) s → m + (at roles (b + i) + at roles (b + (i + 2))) ≡ role_sum i (at roles) (s + 1)
   unfolding role_sum
-  next_sum i m f = rw (after, begins, f)
+  next_sum i m f = rw (add-one s, f)
 
-  pub next_lower : (m : ℕ) → m ≡ role_sum 0 (at roles) (b / 4) → m + (at roles b + at roles (b + 2)) ≡ role_sum 0 (at roles) ((b + 4) / 4)
+  pub next_lower : (m : ℕ) → m ≡ role_sum 0 (at roles) s → m + (at roles b + at roles (b + 2)) ≡ role_sum 0 (at roles) (s + 1)
   next_lower m f = let e : b + 0 ≡ b = omega arith in ap (λ (k : ℕ). m + (at roles k + at roles (b + 2))) (sym e) ∙ next_sum 0 m f
 
   kind_at : (x : Settled) → x ≡ there → (p : ℕ) → b ≤ p → p < b + 4 → kind_in x.kinds (p - b) ≡ glance_kind (at roles) p
   unfolding glance_kind
   kind_at x e p k u =
-      let d : p / 4 ≡ b / 4 = omega arith in
+      let d : p / 4 ≡ s = omega arith in
       let g : p % 4 ≡ p - b = omega arith in
       rw (d, g, segment_at, e)
 

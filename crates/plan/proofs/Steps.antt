@@ -7,7 +7,7 @@ use Prim.Native.Nat.{ℕ, ◌+◌, ◌-◌, ◌*◌, ◌/◌, ◌%◌, ◌≤◌
 use native.Mathlib.Omega.{arith}
 use lib.Dec.{eqb, ltb, leb}
 use lib.ListN.{length}
-use borrow.Author.Tests.{eq-eqb, ne_eqb, lt-ltb, ltb-true, le-ltb, le-leb, leb-true, lt-leb}
+use borrow.Author.Tests.{eq-eqb, ne_eqb, lt-ltb, ltb-true, le-ltb, leb-true}
 use Rattle.answer.specs.Least.{least}
 use Rattle.answer.proofs.Least.{least_stop, least_end, least_cong, least_none}
 use Rattle.answer.specs.Lists.{at}
@@ -39,19 +39,6 @@ module _ (row : List ℕ) (p : ℕ) (h : least (λ q. wider (at row q)) p ≡ p)
   wider_nowhere l u = let e : p ≡ length row = omega arith in rw (least_end (λ q. wider (at row q)) p (length row) e h) (sym (le-ltb p (length row) l))
 
 -- ---- what a position is given to
-module _ (o : ℕ → ℕ) (a b c q : ℕ) where
-  pub given_below : q < a → false ≡ given o a b c q
-  unfolding given
-  given_below l = rw (lt-leb a q l)
-
-  pub given_above : a ≤ q → b ≤ q → false ≡ given o a b c q
-  unfolding given
-  given_above l m = rw (le-leb a q l, le-ltb q b m)
-
-  pub given_in : a ≤ q → q < b → eqb (o q) c ≡ given o a b c q
-  unfolding given
-  given_in l m = rw (le-leb a q l, lt-ltb q b m)
-
 module _ (o : ℕ → ℕ) (a b c p j : ℕ) where
   pub place_own : (t : Bool) (s : ℕ) → takes c j ≡ true → s ≡ span c * (p / span c) → t ≡ given o a b c (s + j) → t ≡ place_given o a b c p j
   place_own t s e f g = g ∙ rw (f, e)
@@ -93,12 +80,12 @@ module _ (o row : ℕ → ℕ) (a b p c v : ℕ) (e : c ≡ o p) (f : v ≡ row 
   unfolding is_right
   right_rest g = let h : fitting (o p) p (row p) ≡ true = rw (← e, ← f) g in ap (λ (x : ℕ). entirely o a b x p) e ∙ rw h
 
-pub before_first : (o row : ℕ → ℕ) (a b : ℕ) → Before none o row a b (a + 0)
+pub before_first : (o row : ℕ → ℕ) (a b : ℕ) → Before none o row a b a
 before_first o row a b = record { at_first = λ l. refl; at_later = λ l. absurd (omega arith) }
 
-pub before_next : (o row : ℕ → ℕ) (a b j : ℕ) → is_right o row a b (a + j) ≡ true → Before (o (a + j)) o row a b (a + (j + 1))
-before_next o row a b j f =
-    let e : a + (j + 1) - 1 ≡ a + j = omega arith in
+pub before_next : (o row : ℕ → ℕ) (a b p : ℕ) → a ≤ p → is_right o row a b p ≡ true → Before (o p) o row a b (p + 1)
+before_next o row a b p m f =
+    let e : p + 1 - 1 ≡ p = omega arith in
     record { at_first = λ l. absurd (omega arith); at_later = λ l. (ap o (sym e), rw e f) }
 
 -- ---- what the tests say of a part rests on what its own positions are given to
@@ -134,21 +121,26 @@ module _ (row : List ℕ) (n k : ℕ) (o : ℕ → ℕ) where
   wrong_in j = not (is_right (part_plan n (at row)) (at row) start end (start + j))
 
   module _ (same : (q : ℕ) → start ≤ q → q < end → o q ≡ part_plan n (at row) q) where
-    pub wrong_same : (j : ℕ) → j < end - start → wrong_in j ≡ not (is_right o (at row) start end (start + j))
-    wrong_same j l = sym (ap not (right_same o (part_plan n (at row)) start end same (at row) (start + j) (omega arith) (omega arith)))
-
     -- as the code asks it
-    pub wrong_is : (e j : ℕ) (r t : Bool) → e ≡ end → j < e - start → r ≡ is_right o (at row) start e (start + j) → not r ≡ t → wrong_in j ≡ t
-    wrong_is e j r t f l g h = wrong_same j (omega arith) ∙ sym (ap not (g ∙ ap (λ (m : ℕ). is_right o (at row) start m (start + j)) f)) ∙ h
+    pub wrong_is : (e p : ℕ) (r t : Bool) → e ≡ end → start ≤ p → p < e → r ≡ is_right o (at row) start e p → not r ≡ t → wrong_in (p - start) ≡ t
+    wrong_is e p r t f m l g h =
+        let d : start + (p - start) ≡ p = omega arith in
+        ap (λ (q : ℕ). not (is_right (part_plan n (at row)) (at row) start end q)) d
+        ∙ sym (ap not (right_same o (part_plan n (at row)) start end same (at row) p m (omega arith)))
+        ∙ sym (ap not (g ∙ ap (λ (q : ℕ). is_right o (at row) start q p) f))
+        ∙ h
 
-  module _ (j : ℕ) (h : least wrong_in j ≡ j) where
-    pub part_not : j < end - start → wrong_in j ≡ true → false ≡ part_right row n k
+  module _ (p : ℕ) (h : least wrong_in (p - start) ≡ p - start) where
+    pub part_not : start ≤ p → p < end → wrong_in (p - start) ≡ true → false ≡ part_right row n k
     unfolding part_right every_from
-    part_not l e = rw (least_stop wrong_in j (end - start) l h e) (sym (ne_eqb j (end - start) (λ g. omega arith)))
+    part_not m l e =
+        rw (least_stop wrong_in (p - start) (end - start) (omega arith) h e) (sym (ne_eqb (p - start) (end - start) (λ g. omega arith)))
 
-    pub part_all : j ≡ end - start → true ≡ part_right row n k
+    pub part_all : p ≡ end → true ≡ part_right row n k
     unfolding part_right every_from
-    part_all e = rw (least_end wrong_in j (end - start) e h) (sym (eq-eqb j (end - start) e))
+    part_all e =
+        let d : p - start ≡ end - start = omega arith in
+        rw (least_end wrong_in (p - start) (end - start) d h) (sym (eq-eqb (p - start) (end - start) d))
 
 pub size_most : (n : ℕ) → Size n → n ≤ 16
 size_most n h = ⊎_elim (λ e. omega arith) (⊎_elim (λ e. omega arith) (λ e. omega arith)) h
@@ -163,14 +155,6 @@ module _ (row : List ℕ) (s : ℕ) where
   pub held_widest : part_right row 16 (s / 4) ≡ true → true ≡ held_by row s
   unfolding held_by
   held_widest e = rw e
-
-  pub held_half : part_right row 16 (s / 4) ≡ false → part_right row 8 (s / 2) ≡ true → true ≡ held_by row s
-  unfolding held_by
-  held_half e f = rw (e, f)
-
-  pub held_own : part_right row 16 (s / 4) ≡ false → part_right row 8 (s / 2) ≡ false → part_right row 4 s ≡ held_by row s
-  unfolding held_by
-  held_own e f = rw (e, f)
 
 -- the whole width holds every segment of a row that is no longer
 pub whole_holds : (row : List ℕ) → length row ≤ 16 → part_right row 16 0 ≡ true → segments row ≡ first_unheld row

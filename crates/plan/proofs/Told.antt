@@ -12,8 +12,9 @@ use lib.ListN.{length, get_or, replicate, length-replicate, get_or-eq_default}
 use borrow.Author.Tests.{lt-ltb, le-ltb, eq-eqb, ne_eqb}
 use Rattle.answer.specs.Lists.{at, filled}
 use Rattle.answer.specs.Answer.{no}
-use Rattle.answer.specs.declared.Outcome.TheVariants.{Pass, Refuse}
+use Rattle.std.specs.Prelude.{Ok, Err}
 use Rattle.answer.proofs.Lists.{filled_is, filled_length, get_d_filled, get_d_kept}
+use Rattle.answer.specs.declared.Refusal.TheVariants.{OverEightFields}
 use Rattle.resource.specs.Values.{fields_of, smaller_at}
 use Rattle.resource.proofs.Fields.{fields_most}
 use Rattle.resource.proofs.Test.{below_or, below, every_below, wherever, met}
@@ -395,8 +396,8 @@ module _ (row roles : List ℕ) (short : length row ≤ 16) (cast : (p : ℕ) �
     only : (p : ℕ) → p < n → o p ≡ only_plan (at row) p
     only = whole_only row o (signals given)
 
-    passed : Pass ≡ plan_outcome row
-    passed = laid_is row Pass (accepted (o, signals given, eight))
+    passed : (Ok tt) ≡ plan_outcome row
+    passed = laid_is row (Ok tt) (accepted (o, signals given, eight))
 
     zeros : (m i : ℕ) → ◌≡◌ {A = ℕ} (get_or (replicate m 0) i 0) 0
     zeros zero i = refl
@@ -574,8 +575,8 @@ module _ (row roles : List ℕ) (short : length row ≤ 16) (cast : (p : ℕ) �
         let e = ap (λ (x : ℕ). together (o x) (at row) x) (sym q) ∙ place_total s (p % 4) (omega (arith, z_in)) (omega arith) in
         omega (arith, w.3, f, e)
 
-    pub over_outcome : plan_outcome row ≡ Refuse (no 8 0 z)
-    over_outcome = sym (laid_is row (Refuse (no 8 0 z)) (over_eight o (signals over_given) z over_there over_before))
+    pub over_outcome : plan_outcome row ≡ Err (OverEightFields z)
+    over_outcome = sym (laid_is row (Err (OverEightFields z)) (over_eight o (signals over_given) z over_there over_before))
 
 pub told_plan : (row roles : List ℕ) → length row ≤ 16 → ((p : ℕ) → p < 16 → Role (at row p) (fields_at row p) (at roles p)) → (x : Plan)
     → x ≡ glance_of (length row) roles → x.shared < 65536 → x ≡ plan_of row
@@ -586,7 +587,7 @@ told_plan row roles short cast x e l =
 
 -- and where they tell so, the row has a plan with a resource over eight
 pub told_over : (row roles : List ℕ) → length row ≤ 16 → ((p : ℕ) → p < 16 → Role (at row p) (fields_at row p) (at roles p)) → (x : Plan)
-    → x ≡ glance_of (length row) roles → over_in x.shared < 4 → plan_outcome row ≡ Refuse (no 8 0 (over_in x.shared))
+    → x ≡ glance_of (length row) roles → over_in x.shared < 4 → plan_outcome row ≡ Err (OverEightFields (over_in x.shared))
 unfolding glance_of
 told_over row roles short cast x e l =
     let k = (length row + 3) / 4 in
@@ -594,6 +595,6 @@ told_over row roles short cast x e l =
     over_outcome row roles short cast (over_in x.shared)
     (lowest_over (marks_of (at roles) k) (λ s _. digit row roles short cast s) x.shared (f ∙ four_marks (at roles) k (omega arith)) l)
 
-pub glance_passes : (t : Rest) (kinds : List ℕ) (n : ℕ) (roles : List ℕ) → with_kinds t kinds ≡ glance_of n roles → t.outcome ≡ Pass
+pub glance_passes : (t : Rest) (kinds : List ℕ) (n : ℕ) (roles : List ℕ) → with_kinds t kinds ≡ glance_of n roles → t.outcome ≡ Ok tt
 unfolding with_kinds glance_of
 glance_passes t kinds n roles e = ap (λ (p : Plan). p.outcome) e

@@ -13,13 +13,14 @@ use lib.ListN.{length, get_or, replicate}
 use borrow.Author.Tests.{eq-eqb, ne_eqb, lt-ltb, le-ltb}
 use Rattle.answer.proofs.Lists.{get_d_filled, filled_start}
 use Rattle.answer.specs.Answer.{no, ◌or◌}
-use Rattle.answer.specs.declared.Outcome.{Outcome}
-use Rattle.answer.specs.declared.Outcome.TheVariants.{Pass, Refuse}
+use Rattle.answer.specs.Answer.{Outcome}
+use Rattle.std.specs.Prelude.{Ok, Err}
 use Rattle.plan.specs.declared.Plan.{Plan}
 use Rattle.plan.specs.declared.Rest.{Rest}
 use Rattle.resource.specs.Values.{fields_of}
 use Rattle.resource.proofs.Fields.{fields_most as most_fields}
 use Rattle.answer.specs.Lists.{at}
+use Rattle.answer.specs.declared.Refusal.TheVariants.{NoPlan, OverEightFields}
 use Rattle.kinds.specs.Fields.{together, shared, fields_to}
 use Rattle.segments.specs.Engine.{Entered}
 use Rattle.segments.proofs.Entries.{entered_filled}
@@ -162,13 +163,13 @@ module _ (c : ℕ) (row : ℕ → ℕ) where
 
 -- ---- the value
 -- of a row that passes
-pub plan_is : (row kinds : List ℕ) (s f g : ℕ) → Pass ≡ plan_outcome row → kinds ≡ kinds_of row → s ≡ shared_to row (length row)
+pub plan_is : (row kinds : List ℕ) (s f g : ℕ) → Ok tt ≡ plan_outcome row → kinds ≡ kinds_of row → s ≡ shared_to row (length row)
     → f ≡ fields_to 1 (at row) (length row) → g ≡ fields_to 2 (at row) (length row)
-    → ◌≡◌ {A = Plan} (record { outcome = Pass; kinds = kinds; shared = s; fields1 = f; fields2 = g }) (plan_of row)
+    → ◌≡◌ {A = Plan} (record { outcome = (Ok tt); kinds = kinds; shared = s; fields1 = f; fields2 = g }) (plan_of row)
 unfolding plan_of passed_plan
-plan_is row kinds s f g eo ek es ef eg = rw (← eo) (λ i. record { outcome = Pass; kinds = ek i; shared = es i; fields1 = ef i; fields2 = eg i })
+plan_is row kinds s f g eo ek es ef eg = rw (← eo) (λ i. record { outcome = (Ok tt); kinds = ek i; shared = es i; fields1 = ef i; fields2 = eg i })
 
-pub plan_passed : (row : List ℕ) → plan_outcome row ≡ Pass → plan_of row ≡ passed_plan row
+pub plan_passed : (row : List ℕ) → plan_outcome row ≡ Ok tt → plan_of row ≡ passed_plan row
 unfolding plan_of
 plan_passed row e = rw e
 
@@ -177,21 +178,21 @@ unfolding plan_of passed_plan no_plan
 plan_outcome_lem row = go (plan_outcome row)
   where
     go : (o : Outcome) → (plan_at o row).outcome ≡ o
-    go Pass = refl
-    go (Refuse x) = refl
+    go (Ok u) = refl
+    go (Err x) = refl
 
 -- 8 where 7 passes: refused, or passed
 module _ (row : List ℕ) (held : segments row ≤ first_unheld row) where
-  pub over_refuses : (o : Outcome) → first_over row < length row → o ≡ Refuse (no 8 0 (first_over row / 4)) → o ≡ plan_outcome row
-  unfolding plan_outcome ◌or◌
+  pub over_refuses : (o : Outcome) → first_over row < length row → o ≡ Err (OverEightFields (first_over row / 4)) → o ≡ plan_outcome row
+  unfolding plan_outcome
   over_refuses o l e = rw (le-ltb (first_unheld row) (segments row) held, lt-ltb (first_over row) (length row) l) e
 
-  pub none_passes : length row ≤ first_over row → Pass ≡ plan_outcome row
-  unfolding plan_outcome ◌or◌
+  pub none_passes : length row ≤ first_over row → Ok tt ≡ plan_outcome row
+  unfolding plan_outcome
   none_passes l = rw (le-ltb (first_unheld row) (segments row) held, le-ltb (first_over row) (length row) l)
 
-pub unheld_refuses : (row : List ℕ) (o : Outcome) → first_unheld row < segments row → o ≡ Refuse (no 7 0 (first_unheld row)) → o ≡ plan_outcome row
-unfolding plan_outcome ◌or◌
+pub unheld_refuses : (row : List ℕ) (o : Outcome) → first_unheld row < segments row → o ≡ Err (NoPlan (first_unheld row)) → o ≡ plan_outcome row
+unfolding plan_outcome
 unheld_refuses row o l e = rw (lt-ltb (first_unheld row) (segments row) l) e
 
 pub plan_laid : (row : List ℕ) (r : Plan) → r ≡ plan_of row → Laid row r.outcome
@@ -208,5 +209,5 @@ unfolding plan_of no_plan
 told_is row t kinds w = go t.outcome refl
   where
     go : (o : Outcome) → t.outcome ≡ o → plan_from o t kinds ≡ plan_at (plan_outcome row) row
-    go Pass e = w.plans e
-    go (Refuse x) e = rw (sym w.answers ∙ e)
+    go (Ok u) e = w.plans e
+    go (Err x) e = rw (sym w.answers ∙ e)

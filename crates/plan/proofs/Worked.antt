@@ -10,6 +10,7 @@ use borrow.Author.Tests.{ltb-true, ltb-false, le-ltb, not-true, not-false}
 use Rattle.answer.specs.Answer.{no, refuse_if, ◌or◌}
 use Rattle.answer.specs.Lists.{at}
 use Rattle.answer.proofs.Least.{least_holds, least_before}
+use Rattle.answer.specs.declared.Refusal.TheVariants.{NoPlan, OverEightFields}
 use Rattle.resource.proofs.Test.{below_or}
 use Rattle.kinds.specs.Fields.{together}
 use Rattle.kinds.proofs.Tests.{Tested, decides, move, by_test}
@@ -73,11 +74,11 @@ module _ (row : List ℕ) where
   over_there l = over_or row eighth (lowest_lacks (at_most_eight row) (NoneOver row) (segments row) (eight_tested row) l)
 
   pub outcomes_laid : Laid row (outcome7 row or outcome8 row)
-  unfolding outcome7 outcome8 ◌or◌
+  unfolding outcome7 outcome8
   outcomes_laid = go (ltb seventh (segments row)) (ltb eighth (segments row)) refl refl
     where
       go : (a b : Bool) → ltb seventh (segments row) ≡ a → ltb eighth (segments row) ≡ b
-          → Laid row (refuse_if a (no 7 0 seventh) or refuse_if b (no 8 0 eighth))
+          → Laid row (refuse_if a (NoPlan seventh) or refuse_if b (OverEightFields eighth))
       go true b e f =
           let l = ltb-true seventh (segments row) e in
           no_plan seventh l (lowest_lacks (is_held row) (Held row) (segments row) (is_held_tested row) l) below_7

@@ -1,9 +1,10 @@
 -- The answers 7 and 8 of 01's table, "What comes back", with 02's T-07.
 use Rattle.std.specs.Prelude.{◌≡◌, ◌≢◌, ◌⊎◌, List, length, ℕ, ◌+◌, ◌*◌, ◌/◌, ◌<◌, min}
 use Rattle.answer.specs.Answer.{no}
-use Rattle.answer.specs.declared.Outcome.{Outcome}
-use Rattle.answer.specs.declared.Outcome.TheVariants.{Pass, Refuse}
+use Rattle.answer.specs.Answer.{Outcome}
+use Rattle.std.specs.Prelude.{Ok, Err}
 use Rattle.answer.specs.Lists.{at}
+use Rattle.answer.specs.declared.Refusal.TheVariants.{NoPlan, OverEightFields}
 use Rattle.kinds.specs.Signals.{Signals}
 use Rattle.kinds.specs.Fields.{together, Eight}
 
@@ -43,10 +44,10 @@ Over o row s = (p : ℕ) × (p < length row) × (p / 4 ≡ s) × (8 < together (
 -- "7 | no plan, even with any number of fields": "the lowest segment that lies in no such part with a plan" (T-07).
 -- "8 | plan, but a resource over eight fields": "the lowest segment of a resource over eight fields" (T-07), and 7 comes first.
 pub data Laid (row : List ℕ) : Outcome → Type 0 where
-  accepted : SomePlanOfEight row 0 (length row) → Laid row Pass
-  no_plan : (s : ℕ) → s < segments row → (Held row s → ⊥) → ((t : ℕ) → t < s → Held row t) → Laid row (Refuse (no 7 0 s))
+  accepted : SomePlanOfEight row 0 (length row) → Laid row (Ok tt)
+  no_plan : (s : ℕ) → s < segments row → (Held row s → ⊥) → ((t : ℕ) → t < s → Held row t) → Laid row (Err (NoPlan s))
   over_eight : (o : ℕ → ℕ) → Signals o (at row) 0 (length row) → (s : ℕ) → Over o row s → ((t : ℕ) → t < s → Over o row t → ⊥)
-      → Laid row (Refuse (no 8 0 s))
+      → Laid row (Err (OverEightFields s))
 
 -- ---- what 01 answered before: by its segments alone
 abbrev pub segment_end : List ℕ → ℕ → ℕ
@@ -61,11 +62,11 @@ SegmentPlanOfEight row s = SomePlanOfEight row (4 * s) (segment_end row s)
 -- "7 | no plan, even with any number of fields | 0, lowest such segment";
 -- "8 | plan, but a resource over eight fields | 0, lowest such segment"
 pub data LaidBySegments (row : List ℕ) : Outcome → Type 0 where
-  accepted : SomePlanOfEight row 0 (length row) → LaidBySegments row Pass
+  accepted : SomePlanOfEight row 0 (length row) → LaidBySegments row (Ok tt)
   no_plan : (s : ℕ) → s < segments row → (SegmentPlan row s → ⊥) → ((t : ℕ) → t < s → SegmentPlan row t)
-      → LaidBySegments row (Refuse (no 7 0 s))
+      → LaidBySegments row (Err (NoPlan s))
   over_eight : (s : ℕ) → s < segments row → ((t : ℕ) → t < segments row → SegmentPlan row t) → (SegmentPlanOfEight row s → ⊥)
-      → ((t : ℕ) → t < s → SegmentPlanOfEight row t) → LaidBySegments row (Refuse (no 8 0 s))
+      → ((t : ℕ) → t < s → SegmentPlanOfEight row t) → LaidBySegments row (Err (OverEightFields s))
 
 -- a value that T-07 does not add: below 128, and not 88 to 95
 abbrev pub Narrow : ℕ → Type 0

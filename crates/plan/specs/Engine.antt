@@ -29,9 +29,10 @@ use Rattle.std.specs.Prelude.{
 }
 use Rattle.answer.specs.Answer.{no, refuse_if, ◌or◌}
 use Rattle.answer.specs.Least.{least}
-use Rattle.answer.specs.declared.Outcome.{Outcome}
-use Rattle.answer.specs.declared.Outcome.TheVariants.{Pass, Refuse}
+use Rattle.answer.specs.Answer.{Outcome}
+use Rattle.std.specs.Prelude.{Ok, Err}
 use Rattle.answer.specs.Lists.{filled, at}
+use Rattle.answer.specs.declared.Refusal.TheVariants.{NoPlan, OverEightFields}
 use Rattle.resource.specs.Values.{fields_of}
 use Rattle.kinds.specs.Kinds.{none, span, takes}
 use Rattle.kinds.specs.Fields.{together, shared, fields_to}
@@ -108,8 +109,8 @@ first_over row = least (over_at row) (length row)
 -- 7 and 8: the answer of `Worked.antt` (`proofs/Worked.antt`: `outcome_is`)
 unfoldable pub plan_outcome : List ℕ → Outcome
 plan_outcome row =
-    refuse_if (ltb (first_unheld row) (segments row)) (no 7 0 (first_unheld row))
-    or refuse_if (ltb (first_over row) (length row)) (no 8 0 (first_over row / 4))
+    refuse_if (ltb (first_unheld row) (segments row)) (NoPlan (first_unheld row))
+    or refuse_if (ltb (first_over row) (length row)) (OverEightFields (first_over row / 4))
 
 -- the bit of each of the first n positions is set whose User fields share their resource
 unfoldable pub shared_to : List ℕ → ℕ → ℕ
@@ -123,7 +124,7 @@ kinds_of row = filled (only_plan (at row)) (length row) (replicate 16 0)
 -- a row that passes 7 and 8: the kinds; which positions' fields share their resource; the channels' fields
 unfoldable pub passed_plan : List ℕ → Plan
 passed_plan row = record {
-  outcome = Pass;
+  outcome = Ok tt;
   kinds = kinds_of row;
   shared = shared_to row (length row);
   fields1 = fields_to 1 (at row) (length row);
@@ -135,8 +136,8 @@ unfoldable pub no_plan : Outcome → Plan
 no_plan o = record { outcome = o; kinds = replicate 16 0; shared = 0; fields1 = 0; fields2 = 0 }
 
 abbrev pub plan_at : Outcome → List ℕ → Plan
-plan_at Pass row = passed_plan row
-plan_at (Refuse x) row = no_plan (Refuse x)
+plan_at (Ok u) row = passed_plan row
+plan_at (Err x) row = no_plan (Err x)
 
 unfoldable pub plan_of : List ℕ → Plan
 plan_of row = plan_at (plan_outcome row) row
@@ -147,13 +148,13 @@ with_kinds t kinds = record { outcome = t.outcome; kinds = kinds; shared = t.sha
 
 -- the same, of an outcome: a row that is refused has none
 abbrev pub plan_from : Outcome → Rest → List ℕ → Plan
-plan_from Pass t kinds = with_kinds t kinds
-plan_from (Refuse x) t kinds = no_plan (Refuse x)
+plan_from (Ok u) t kinds = with_kinds t kinds
+plan_from (Err x) t kinds = no_plan (Err x)
 
 -- what is told of the row is right, and of one that passes with these kinds its plan
 pub record Tells (row : List ℕ) (t : Rest) (kinds : List ℕ) : Type 0 where
   pub answers : t.outcome ≡ plan_outcome row
-  pub plans : t.outcome ≡ Pass → with_kinds t kinds ≡ plan_of row
+  pub plans : t.outcome ≡ Ok tt → with_kinds t kinds ≡ plan_of row
 
 -- ---- at one glance, by the roles of the values: `proofs/Told.antt` shows that what they tell is the row's plan
 -- the roles of the row's first m values are entered in a list, and the others stand
@@ -193,7 +194,7 @@ role_sum i r (suc s) = role_sum i r s + (r (4 * s + i) + r (4 * s + (i + 2)))
 
 unfoldable pub glance_of : ℕ → List ℕ → Plan
 glance_of n roles = record {
-  outcome = Pass;
+  outcome = Ok tt;
   kinds = filled (glance_kind (at roles)) (4 * ((n + 3) / 4)) (replicate 16 0);
   shared = glance_marks (at roles) ((n + 3) / 4);
   fields1 = role_sum 0 (at roles) ((n + 3) / 4) % 256;
@@ -202,4 +203,4 @@ glance_of n roles = record {
 
 -- the same, of a row of one value that may stand alone
 unfoldable pub lone_of : ℕ → Plan
-lone_of r = record { outcome = Pass; kinds = replicate 16 0; shared = r / 256 % 2; fields1 = r % 256; fields2 = 0 }
+lone_of r = record { outcome = (Ok tt); kinds = replicate 16 0; shared = r / 256 % 2; fields1 = r % 256; fields2 = 0 }

@@ -4,8 +4,9 @@ use Rattle.std.specs.Prelude.{◌≡◌, Bool, not, List, ℕ, ◌*◌, ◌<◌,
 use Rattle.answer.specs.Answer.{no, refuse_if, ◌or◌}
 use Rattle.answer.specs.Least.{least}
 use Rattle.answer.specs.Lists.{at}
-use Rattle.answer.specs.declared.Outcome.{Outcome}
+use Rattle.answer.specs.Answer.{Outcome}
 use Rattle.answer.specs.Decides.{Decides}
+use Rattle.answer.specs.declared.Refusal.TheVariants.{NoPlan, OverEightFields}
 use Rattle.kinds.specs.Signals.{Signals}
 use Rattle.plan.specs.Answers.{segments, segment_end, Held, Over, Laid}
 use Rattle.plan.specs.Engine.{only_plan, held_by, every_from, over_at}
@@ -28,12 +29,12 @@ lowest_without has n = least (λ s. not (has s)) n
 
 -- "7 | no plan, even with any number of fields": "the lowest segment that lies in no such part with a plan"
 unfoldable pub outcome7 : List ℕ → Outcome
-outcome7 row = refuse_if (ltb (lowest_without (is_held row) (segments row)) (segments row)) (no 7 0 (lowest_without (is_held row) (segments row)))
+outcome7 row = refuse_if (ltb (lowest_without (is_held row) (segments row)) (segments row)) (NoPlan (lowest_without (is_held row) (segments row)))
 
 -- "8 | plan, but a resource over eight fields": "the lowest segment of a resource over eight fields"; 7 comes first
 unfoldable pub outcome8 : List ℕ → Outcome
 outcome8 row =
-    refuse_if (ltb (lowest_without (at_most_eight row) (segments row)) (segments row)) (no 8 0 (lowest_without (at_most_eight row) (segments row)))
+    refuse_if (ltb (lowest_without (at_most_eight row) (segments row)) (segments row)) (OverEightFields (lowest_without (at_most_eight row) (segments row)))
 
 pub record Worked (row : List ℕ) : Type 0 where
   -- any plan that signals the row is this one

@@ -3,8 +3,8 @@
 // `kinds`: line 0 is the position itself, and 36 is none.
 #![tactic(auto)]
 
-ghost use Rattle.std.specs.Prelude.{◌≡◌, ◌⊎◌, false, cond, eqb, leb, ℕ, ◌+◌, ◌-◌, ◌*◌, ◌/◌, ◌%◌, ◌^◌, ◌≤◌, ◌<◌, min, length, replicate};
-ghost use Rattle.answer.specs.Answer.{no};
+ghost use Rattle.std.specs.Prelude.{◌≡◌, ◌⊎◌, Ok, Err, IfOk, IfErr, IfSome, IfNone, false, cond, eqb, leb};
+ghost use Rattle.std.specs.Prelude.{ℕ, ◌+◌, ◌-◌, ◌*◌, ◌/◌, ◌%◌, ◌^◌, ◌≤◌, ◌<◌, min, length, replicate};
 ghost use Rattle.answer.specs.Lists.{at};
 ghost use Rattle.resource.specs.Values.{fields_of};
 ghost use Rattle.kinds.specs.Fields.{together, fields_to};
@@ -16,12 +16,12 @@ ghost use Rattle.plan.specs.Engine.{GivenTo, part_right, held_by, first_unheld};
 ghost use Rattle.plan.specs.Engine.{first_over, shared_to, kinds_of, plan_of, with_kinds, plan_from, Tells, Cast, Low};
 ghost use Rattle.plan.specs.Engine.{glance_of, lone_of, over_in, plan_outcome};
 
-use answer::{Answer, Outcome};
+use answer::Refusal;
 
 // The plan of a row.
 #[derive(Clone, Copy)]
 pub struct Plan {
-    pub outcome: Outcome,
+    pub outcome: Result<(), Refusal>,
     // to what each position is given: its kind
     pub kinds: [u16; 16],
     // bit p: the User fields of position p share their resource
@@ -36,7 +36,7 @@ pub struct Plan {
 #[derive(Clone, Copy)]
 pub struct Rest {
     pub fields1: usize,
-    pub outcome: Outcome,
+    pub outcome: Result<(), Refusal>,
     pub fields2: usize,
     pub shared: u32,
 }
@@ -54,13 +54,10 @@ fn is_wider(v: u16) -> bool
 fn has_wider(row: &[u16]) -> bool
     ensures { result ≡ any_wider row.now }
 {
-    let n = row.len();
-    let mut p: usize = 0;
-    while p < n {
+    for p in 0..row.len() {
         if is_wider(row[p]) {
             return true;
         }
-        p += 1;
     }
     false
 }
@@ -68,17 +65,12 @@ fn has_wider(row: &[u16]) -> bool
 // ---- whether a plan signals a part of the row: the positions from a up to e
 
 // Position q is one of them, and given to this kind.
+#[tactic(auto, unfolding(crate::specs::Engine::given))]
 fn is_given(kinds: &[u16; 16], a: usize, e: usize, kind: u16, q: usize) -> bool
     requires { e ≤ 16 }
     ensures { result ≡ given (at kinds.now) a e kind q }
 {
-    if q < a {
-        return false;
-    }
-    if e <= q {
-        return false;
-    }
-    kinds[q] == kind
+    a <= q && q < e && kinds[q] == kind
 }
 
 // Place j of the resource of this kind at position p is not its own, or given to it.
@@ -86,11 +78,7 @@ fn place_given(kinds: &[u16; 16], a: usize, e: usize, kind: u16, p: usize, j: us
     requires { (e ≤ 16) × (kind < 36) × (p < 16) × (j < 16) }
     ensures { result ≡ place_given (at kinds.now) a e kind p j }
 {
-    if kinds::takes_place(kind, j) {
-        is_given(kinds, a, e, kind, kinds::start_of(kind, p) + j)
-    } else {
-        true
-    }
+    !kinds::takes_place(kind, j) || is_given(kinds, a, e, kind, kinds::start_of(kind, p) + j)
 }
 
 // Every place of the resource of this kind at position p is given to it.
@@ -98,13 +86,10 @@ fn is_entire(kinds: &[u16; 16], a: usize, e: usize, kind: u16, p: usize) -> bool
     requires { (e ≤ 16) × (kind < 36) × (p < 16) }
     ensures { result ≡ entirely (at kinds.now) a e kind p }
 {
-    let n = kinds::span_of(kind);
-    let mut j: usize = 0;
-    while j < n {
+    for j in 0..kinds::span_of(kind) {
         if !place_given(kinds, a, e, kind, p, j) {
             return false;
         }
-        j += 1;
     }
     true
 }
@@ -127,13 +112,6 @@ fn is_right(before: u16, kinds: &[u16; 16], row: &[u16], a: usize, e: usize, p: 
 }
 
 // ---- the User fields
-
-fn kind_at(kinds: &[u16; 16], row: &[u16], p: usize) -> u16
-    requires { (length row.now ≤ 16) × (p < length row.now) × (kinds.now ≡ kinds_of row.now) }
-    ensures { (result < 36) × (result ≡ only_plan (at row.now) p) }
-{
-    kinds[p]
-}
 
 // The fields of a position that is given to itself, and leaves it whole.
 fn own_fields(v: u16) -> u16
@@ -170,33 +148,25 @@ fn shared_bit(t: u16, p: usize) -> u32
     if 2 <= t { 1 << p } else { 0 }
 }
 
-// The lowest position of a resource over eight, and which positions before it have fields that share their resource.
-#[derive(Drop)]
-struct Marks {
-    over: usize,
-    shared: u32,
-}
-
-fn sharing(kinds: &[u16; 16], row: &[u16]) -> Marks
+// Which positions have fields that share their resource, or the lowest position of a resource over eight.
+fn sharing(kinds: &[u16; 16], row: &[u16]) -> Result<u32, usize>
     requires { (length row.now ≤ 16) × (kinds.now ≡ kinds_of row.now) }
-    ensures { (result.over ≡ first_over row.now) × (result.shared ≡ shared_to row.now result.over) }
+    ensures shared { IfOk result (λ s. (length row.now ≡ first_over row.now) × (s ≡ shared_to row.now (length row.now))) }
+    ensures over { IfErr result (λ p. (p < length row.now) × (p ≡ first_over row.now)) }
 {
-    let n = row.len();
     let mut shared: u32 = 0;
     let mut before: u16 = 36;
     let mut t: u16 = 0;
-    let mut p: usize = 0;
-    while p < n {
-        let kind = kind_at(kinds, row, p);
+    for p in 0..row.len() {
+        let kind = kinds[p];
         t = total_from(t, before, kind, row, p);
         if 8 < t {
-            return Marks { over: p, shared };
+            return Err(p);
         }
         shared += shared_bit(t, p);
         before = kind;
-        p += 1;
     }
-    Marks { over: p, shared }
+    Ok(shared)
 }
 
 // How many User fields the channel (1 or 2) has.
@@ -204,26 +174,14 @@ pub fn channel_fields(row: &[u16], channel: usize) -> usize
     requires { (length row.now ≤ 16) × (0 < channel) × (channel < 3) }
     ensures { result ≡ fields_to channel (at row.now) (length row.now) }
 {
-    let n = row.len();
     let mut sum: usize = 0;
-    let mut p = channel - 1;
-    while p < n {
-        sum += resource::fields_of(row[p]) as usize;
-        p += 2;
+    for p in (channel - 1..row.len()).step_by(2) {
+        sum += usize::from(resource::fields_of(row[p]));
     }
     sum
 }
 
 // ---- the parts of a row
-
-// The end of the n positions from a on, as far as the row goes.
-fn part_end(row: &[u16], a: usize, n: usize) -> usize
-    requires { (length row.now ≤ 16) × (a < length row.now) × (n ≤ 16) }
-    ensures { (a ≤ result) × (result ≤ 16) × (result ≡ min (a + n) (length row.now)) }
-{
-    let m = row.len();
-    if a + n < m { a + n } else { m }
-}
 
 // What the positions of the k-th part of n are given to is right, all of it.
 fn part_right(kinds: &[u16; 16], row: &[u16], n: usize, k: usize) -> bool
@@ -231,16 +189,13 @@ fn part_right(kinds: &[u16; 16], row: &[u16], n: usize, k: usize) -> bool
     ensures { result ≡ part_right row.now n k }
 {
     let a = n * k;
-    let e = part_end(row, a, n);
-    let m = e - a;
+    let e = (a + n).min(row.len());
     let mut before: u16 = 36;
-    let mut j: usize = 0;
-    while j < m {
-        if !is_right(before, kinds, row, a, e, a + j) {
+    for p in a..e {
+        if !is_right(before, kinds, row, a, e, p) {
             return false;
         }
-        before = kinds[a + j];
-        j += 1;
+        before = kinds[p];
     }
     true
 }
@@ -256,36 +211,29 @@ fn has_plan(row: &[u16], n: usize, k: usize) -> bool
 }
 
 // Segment s lies in a part with a plan.
+#[tactic(auto, unfolding(crate::specs::Engine::held_by))]
 fn is_held(row: &[u16], s: usize) -> bool
     requires { (length row.now ≤ 16) × (4 * s < length row.now) }
     ensures { result ≡ held_by row.now s }
 {
-    if has_plan(row, 16, s / 4) {
-        return true;
-    }
-    if has_plan(row, 8, s / 2) {
-        return true;
-    }
-    has_plan(row, 4, s)
+    has_plan(row, 16, s / 4) || has_plan(row, 8, s / 2) || has_plan(row, 4, s)
 }
 
 // The lowest segment that lies in none, from what each position of the whole row is given to.
-fn first_unheld(kinds: &[u16; 16], row: &[u16]) -> usize
+fn first_unheld(kinds: &[u16; 16], row: &[u16]) -> Option<usize>
     requires { (length row.now ≤ 16) × (0 < length row.now) × (kinds.now ≡ kinds_of row.now) }
-    ensures { result ≡ first_unheld row.now }
+    ensures found { IfSome result (λ s. (s < segments row.now) × (s ≡ first_unheld row.now)) }
+    ensures none { IfNone result (segments row.now ≡ first_unheld row.now) }
 {
-    let n = (row.len() + 3) / 4;
     if part_right(kinds, row, 16, 0) {
-        return n;
+        return None;
     }
-    let mut s: usize = 0;
-    while s < n {
+    for s in 0..(row.len() + 3) / 4 {
         if !is_held(row, s) {
-            return s;
+            return Some(s);
         }
-        s += 1;
     }
-    s
+    None
 }
 
 // ---- the plan of a row
@@ -301,13 +249,13 @@ fn wide_kinds(row: &[u16]) -> [u16; 16]
 }
 
 // The lowest segment with a wrong position, where no resource is wider than a segment.
-fn segment_wrong(kinds: &[u16; 16], row: &[u16]) -> usize
+fn segment_wrong(kinds: &[u16; 16], row: &[u16]) -> Option<usize>
     requires { (length row.now ≤ 16) × (kinds.now ≡ segment_kinds row.now) × (any_wider row.now ≡ false) }
-    ensures { result ≡ first_unheld row.now }
+    ensures found { IfSome result (λ s. (s < segments row.now) × (s ≡ first_unheld row.now)) }
+    ensures none { IfNone result (segments row.now ≡ first_unheld row.now) }
 {
-    let n = row.len();
     let p = segments::first_wrong(kinds, row);
-    if p < n { p / 4 } else { (n + 3) / 4 }
+    if p < row.len() { Some(p / 4) } else { None }
 }
 
 // To what each position is given.
@@ -331,10 +279,11 @@ pub fn kinds_in(row: &[u16]) -> [u16; 16]
 }
 
 // The lowest segment that lies in no part with a plan.
-fn unheld_in(kinds: &[u16; 16], row: &[u16], wide: bool) -> usize
+fn unheld_in(kinds: &[u16; 16], row: &[u16], wide: bool) -> Option<usize>
     requires { (length row.now ≤ 16) × (wide ≡ any_wider row.now) × (kinds.now ≡ kinds_of row.now)
         × (wide ≡ false → kinds.now ≡ segment_kinds row.now) }
-    ensures { result ≡ first_unheld row.now }
+    ensures found { IfSome result (λ s. (s < segments row.now) × (s ≡ first_unheld row.now)) }
+    ensures none { IfNone result (segments row.now ≡ first_unheld row.now) }
 {
     if wide {
         first_unheld(kinds, row)
@@ -344,15 +293,11 @@ fn unheld_in(kinds: &[u16; 16], row: &[u16], wide: bool) -> usize
 }
 
 // Of a row that is refused, the refusal alone is told.
-fn refused(number: u32, segment: usize) -> Rest
-    ensures { result.outcome ≡ Outcome.Refuse (no number 0 segment) }
+fn refused(refusal: Refusal) -> Rest
+    ensures { result.outcome ≡ Err refusal }
 {
     Rest {
-        outcome: Outcome::Refuse(Answer {
-            number,
-            channel: 0,
-            place: segment,
-        }),
+        outcome: Err(refusal),
         shared: 0,
         fields1: 0,
         fields2: 0,
@@ -364,27 +309,27 @@ fn counted(kinds: &[u16; 16], row: &[u16]) -> Rest
     requires { (length row.now ≤ 16) × (kinds.now ≡ kinds_of row.now) × (segments row.now ≤ first_unheld row.now) }
     ensures { Tells row.now result kinds.now }
 {
-    let s = sharing(kinds, row);
-    if s.over < row.len() {
-        return refused(8, s.over / 4);
-    }
-    Rest {
-        outcome: Outcome::Pass,
-        shared: s.shared,
-        fields1: channel_fields(row, 1),
-        fields2: channel_fields(row, 2),
+    match sharing(kinds, row) {
+        Err(over) => refused(Refusal::OverEightFields { segment: over / 4 }),
+        Ok(shared) => Rest {
+            outcome: Ok(()),
+            shared,
+            fields1: channel_fields(row, 1),
+            fields2: channel_fields(row, 2),
+        },
     }
 }
 
-// The lowest whole segment that is wrong, seen without a place, where no resource is wider than one; else their number.
-fn plainly_wrong(row: &[u16], wide: bool) -> usize
+// The lowest whole segment that is wrong, seen without a place, where no resource is wider than one.
+fn plainly_wrong(row: &[u16], wide: bool) -> Option<usize>
     requires { (length row.now ≤ 16) × (wide ≡ any_wider row.now) }
-    ensures { result < length row.now / 4 → result ≡ first_unheld row.now }
+    ensures { IfSome result (λ s. (s < length row.now / 4) × (s ≡ first_unheld row.now)) }
 {
     if wide {
-        return row.len() / 4;
+        return None;
     }
-    segments::first_four_wrong(row)
+    let s = segments::first_four_wrong(row);
+    if s < row.len() / 4 { Some(s) } else { None }
 }
 
 // The plan, sought.
@@ -393,14 +338,12 @@ pub fn seek(kinds: &mut [u16; 16], row: &[u16]) -> Rest
     ensures { Tells row.now result kinds.new }
 {
     let wide = has_wider(row);
-    let s = plainly_wrong(row, wide);
-    if s < row.len() / 4 {
-        return refused(7, s);
+    if let Some(s) = plainly_wrong(row, wide) {
+        return refused(Refusal::NoPlan { segment: s });
     }
     let found = kinds_of(row, wide);
-    let unheld = unheld_in(&found, row, wide);
-    if unheld < (row.len() + 3) / 4 {
-        return refused(7, unheld);
+    if let Some(s) = unheld_in(&found, row, wide) {
+        return refused(Refusal::NoPlan { segment: s });
     }
     *kinds = found;
     counted(kinds, row)
@@ -413,11 +356,8 @@ fn enter_roles(roles: &mut [u64; 16], row: &[u16])
     requires { (length row.now ≤ 16) × (length roles.old ≡ 16) }
     ensures { Cast row.now (length row.now) roles.old roles.new }
 {
-    let n = row.len();
-    let mut p: usize = 0;
-    while p < n {
+    for p in 0..row.len() {
         roles[p] = roles::role_of(row[p]);
-        p += 1;
     }
 }
 
@@ -443,8 +383,8 @@ fn glance(kinds: &mut [u16; 16], n: usize, roles: &[u64; 16]) -> Rest
     let mut shared: u32 = 0;
     let mut fields1: u64 = 0;
     let mut fields2: u64 = 0;
-    let mut b: usize = 0;
-    while b < n {
+    for s in 0..(n + 3) / 4 {
+        let b = 4 * s;
         let r0 = roles[b];
         let r1 = roles[b + 1];
         let r2 = roles[b + 2];
@@ -454,10 +394,9 @@ fn glance(kinds: &mut [u16; 16], n: usize, roles: &[u64; 16]) -> Rest
         let x = roles::settle(r0, r1, r2, r3);
         enter_kinds(kinds, b, x.kinds);
         shared += x.marks << b;
-        b += 4;
     }
     Rest {
-        outcome: Outcome::Pass,
+        outcome: Ok(()),
         shared,
         fields1: (fields1 % 256) as usize,
         fields2: (fields2 % 256) as usize,
@@ -469,7 +408,7 @@ fn lone(r: u64) -> Rest
     ensures { with_kinds result (replicate 16 0) ≡ lone_of r }
 {
     Rest {
-        outcome: Outcome::Pass,
+        outcome: Ok(()),
         shared: (r / 256 % 2) as u32,
         fields1: (r % 256) as usize,
         fields2: 0,
@@ -492,8 +431,8 @@ fn tell_from(kinds: &mut [u16; 16], n: usize, roles: &[u64; 16]) -> Rest
 // What the roles of a row's values tell: its plan, unless the marks are from 65536 on; these may tell 8.
 pub fn tell(kinds: &mut [u16; 16], row: &[u16]) -> Rest
     requires { (length row.now ≤ 16) × (kinds.old ≡ replicate 16 0) }
-    ensures { (result.outcome ≡ Outcome.Pass) × (result.shared < 65536 → Tells row.now result kinds.new)
-        × (over_in result.shared < 4 → plan_outcome row.now ≡ Outcome.Refuse (no 8 0 (over_in result.shared))) }
+    ensures { (result.outcome ≡ Ok tt) × (result.shared < 65536 → Tells row.now result kinds.new)
+        × (over_in result.shared < 4 → plan_outcome row.now ≡ Err (Refusal.OverEightFields (over_in result.shared))) }
 {
     let mut roles = [roles::no_role(); 16];
     enter_roles(&mut roles, row);
@@ -525,9 +464,9 @@ fn plan_with(told: Rest, kinds: [u16; 16]) -> Plan
     ensures { result ≡ plan_from told.outcome told kinds }
 {
     let outcome = told.outcome;
-    if let Outcome::Refuse(x) = outcome {
+    if let Err(x) = outcome {
         return Plan {
-            outcome: Outcome::Refuse(x),
+            outcome: Err(x),
             kinds: [0u16; 16],
             shared: 0,
             fields1: 0,

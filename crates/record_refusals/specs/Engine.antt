@@ -2,8 +2,9 @@
 -- believe it: `trigger/specs/Worked.antt` says what it comes to.
 use Rattle.std.specs.Prelude.{Bool, not, ◌&&◌, List, ℕ, ltb, eqb}
 use Rattle.answer.specs.Answer.{no, refuse_if, ◌or◌}
-use Rattle.answer.specs.declared.Outcome.{Outcome}
+use Rattle.answer.specs.Answer.{Outcome}
 use Rattle.answer.specs.Lists.{at}
+use Rattle.answer.specs.declared.Refusal.TheVariants.{UnknownBandwidth, NotNamed, BufferTooShort, OtherLayout}
 use Rattle.trigger_values.specs.Values.{taken}
 use Rattle.trigger_values.specs.Engine.{value_for}
 
@@ -22,7 +23,7 @@ read_back bw w = fit w && taken bw (value_named w)
 -- the refusals of a record of n bytes by its numbers w, of which it has at least the first where this is not 0, into m bytes
 unfoldable pub numbers_outcome : ℕ → ℕ → List ℕ → ℕ → Outcome
 numbers_outcome bw n w m =
-    refuse_if (ltb 2 bw) (no 1 0 0)
-    or refuse_if (eqb (at w 0) 2007) (no 24 0 0)
-    or refuse_if (not (eqb n 32 && read_back bw w)) (no 17 0 0)
-    or refuse_if (ltb m 5) (no 23 0 5)
+    refuse_if (ltb 2 bw) UnknownBandwidth
+    or refuse_if (eqb (at w 0) 2007) (OtherLayout 0)
+    or refuse_if (not (eqb n 32 && read_back bw w)) (NotNamed 0)
+    or refuse_if (ltb m 5) (BufferTooShort 5)

@@ -5,6 +5,7 @@ use mathlib.Core.Bool.{Bool, true, false, cond}
 use mathlib.Core.List.{List}
 use Prim.Native.Nat.{ℕ, zero, suc, ◌+◌, ◌*◌, ◌%◌, ◌≤◌, ◌<◌}
 use native.Mathlib.Omega.{arith}
+use mir.Val.{bool_byte}
 use borrow.Author.Tests.{eqb-true}
 use lib.Dec.{eqb}
 use lib.ListN.{length, get_or, set, replicate, length-replicate, get_or-replicate}
@@ -22,9 +23,14 @@ use Rattle.records.proofs.Lead.{lowest_below}
 use Rattle.records.proofs.Listing.{records_most}
 use Rattle.records.proofs.Owners.{before_next, before_rise, found_left, nothing}
 
-pub one_most : (t : Bool) → cond t 1 0 ≤ 1
-one_most true = omega arith
-one_most false = omega arith
+-- a `bool` as a number
+pub bit_is : (t : Bool) → bool_byte t ≡ cond t 1 0
+bit_is true = refl
+bit_is false = refl
+
+pub bit_most : (t : Bool) → bool_byte t ≤ 1
+bit_most true = omega arith
+bit_most false = omega arith
 
 -- ---- the lowest place is no later one
 pub only_below : (row : ℕ → ℕ) (p : ℕ) → lowest (only_plan row p) p ≤ p

@@ -121,13 +121,11 @@ pub fn larger_tones(kind: u16, p: usize) -> Tones
     if kind < 7 {
         return subcarriers::places_tones((4 * (p / 4)) as u32, mask << (from % 4));
     }
-    subcarriers::spread_tones(from as u32, mask as u32, (kinds::span_of(kind) / 4) as u16)
-}
-
-fn one_if(t: bool) -> u16
-    ensures { result ≡ cond t 1 0 }
-{
-    if t { 1 } else { 0 }
+    subcarriers::spread_tones(
+        from as u32,
+        u32::from(mask),
+        (kinds::span_of(kind) / 4) as u16,
+    )
 }
 
 // Position p is the lowest place of the resource of this kind that lies there.
@@ -146,10 +144,11 @@ pub fn listed_of(kind: u16, p: usize, v: u16) -> u16
     if kind == 0 {
         return resource::pieces_of(v);
     }
-    one_if(is_lowest(kind, p))
+    u16::from(is_lowest(kind, p))
 }
 
-// ---- the numbers of the resources, for what is asked of every position
+// ---- the numbers of the resources, for what is asked of every position. The kinds, the numbers before and the row go together; they stay
+// parameters of their own, as `numbers_before`, `count_in`, `first_owner` and `owners_of` are public, and a type of the three would ask callers more
 
 // For each position, how many resources have a lower one for their lowest; past the last, how many there are. In room that is lent, so that
 // nothing is copied.
@@ -159,13 +158,11 @@ pub fn enter_numbers(before: &mut [u16; 17], kinds: &[u16; 16], row: &[u16])
 {
     let n = row.len();
     let mut sum: u16 = 0;
-    let mut p: usize = 0;
-    while p < n {
+    for p in 0..n {
         before[p] = sum;
         sum += listed_of(kinds[p], p, kinds::value_at(row, p)); // over the whole plan, not from each segment's first position
-        p += 1;
     }
-    before[p] = sum;
+    before[n] = sum;
 }
 
 // The same as a value.
@@ -217,17 +214,15 @@ fn enter_owners(
         ≡ filled (owner_of (only_plan (at row.now)) (at row.now) channel (length row.now)) result (replicate 72 144) }
 {
     let v = kinds::value_at(row, p);
-    let f = in_channel(channel, p, resource::fields_of(v)) as usize;
+    let f = usize::from(in_channel(channel, p, resource::fields_of(v)));
     if f == 0 {
         return j;
     }
-    let step = one_if(resource::is_divided(v)); // each field of a divided position is another piece's
+    let step = u16::from(resource::is_divided(v)); // each field of a divided position is another piece's
     let mut number = first_owner(kinds, before, row, p);
-    let mut k: usize = 0;
-    while k < f {
+    for k in 0..f {
         owners[j + k] = number;
         number += step;
-        k += 1;
     }
     j + f
 }
@@ -238,13 +233,10 @@ pub fn owners_of(kinds: &[u16; 16], before: &[u16; 17], row: &[u16], channel: us
     requires { (length row.now ≤ 16) × (kinds.now ≡ kinds_of row.now) × (before.now ≡ numbers_of row.now) }
     ensures { result ≡ build (owner_of (only_plan (at row.now)) (at row.now) channel (length row.now)) 72 }
 {
-    let n = row.len();
     let mut owners = [144u16; 72];
     let mut j: usize = 0;
-    let mut p: usize = 0;
-    while p < n {
+    for p in 0..row.len() {
         j = enter_owners(&mut owners, kinds, before, row, channel, p, j);
-        p += 1;
     }
     owners
 }

@@ -173,17 +173,13 @@ fn nth_start(m: u16, k: u32) -> u16
     ensures { result ≡ nth_from m k 0 9 }
 {
     let mut left = k;
-    let mut bits = m;
-    let mut s = 0;
-    while s < 9 {
-        if bits % 2 == 1 {
+    for s in 0..9 {
+        if (m >> s) % 2 == 1 {
             if left == 0 {
                 return s;
             }
             left -= 1;
         }
-        bits /= 2;
-        s += 1;
     }
     9
 }
@@ -210,7 +206,7 @@ pub fn piece_at(v: u16, k: u16) -> Piece
     ensures { result ≡ piece_at v k }
 {
     let m = starts_of(v);
-    let k = k as u32;
+    let k = u32::from(k);
     let s = nth_start(m, k);
     let e = nth_start(m, k + 1);
     piece_from(s, e)

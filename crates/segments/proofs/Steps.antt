@@ -66,16 +66,6 @@ pub or_else_high : (x y : ℕ) → 36 ≤ x → y ≡ or_else x y
 unfolding or_else
 or_else_high x y h = rw (le-ltb x 36 h)
 
--- ---- what the first place of a kind may hold
-module _ (c v : ℕ) where
-  pub tells_own : v / 8 ≡ family c → true ≡ tells c v
-  unfolding tells
-  tells_own e = rw (eq-eqb (v / 8) (family c) e)
-
-  pub tells_blank : (v / 8 ≡ family c → ⊥) → eqb v (blank_at c 0) ≡ tells c v
-  unfolding tells
-  tells_blank e = rw (ne_eqb (v / 8) (family c) e)
-
 -- ---- the choice
 module _ (k u v j : ℕ) where
   pub choose_named : k < 36 → (t : Bool) → takes k j ≡ t → cond t k 0 ≡ choose k u v j
@@ -110,28 +100,12 @@ module _ (c p v : ℕ) where
   fitting_other true e f = fitting_place e
   fitting_other false e f = fitting_none e f
 
-pub and_yes : (s t : Bool) → s ≡ true → t ≡ s && t
-and_yes s t e = rw e
-
-pub and_no : (s t : Bool) → s ≡ false → false ≡ s && t
-and_no s t e = rw e
-
 -- ---- a position that is given to itself
 pub fitting_alone : (p v : ℕ) → (eqb (v / 8) 8 || eqb v 28 || smaller_at (p % 4) v) ≡ fitting 0 p v
 unfolding fitting
 fitting_alone p v =
     let l = place_mod 0 p (omega arith) in
     rw (full 0 (omega arith) (p % span 0) l, plain_family 0 (omega arith), plain_blank 0 (omega arith) (p % span 0) l)
-
-pub right_alone : (c p v n : ℕ) → c ≡ 0 → p < n → fitting 0 p v ≡ (fitting c p v && within c p n)
-right_alone c p v n e l = rw (e, yes_within 0 p n (omega arith) l here) (and_true (fitting 0 p v))
-  where
-    here : (q : ℕ) → Place 0 p q → q < n
-    here q w = let f = rw span_0 at w.0 in omega arith
-
-    and_true : (t : Bool) → t ≡ t && true
-    and_true true = refl
-    and_true false = refl
 
 -- ---- the bit of a position
 pub one_bit : (p m : ℕ) → p ≤ 16 → 65536 < m → 1 * 2 ^ p % m ≡ 2 ^ p

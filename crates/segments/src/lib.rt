@@ -24,7 +24,8 @@ fn name_of(v: u16) -> u16
     }
 }
 
-// What the values before name, or else what v does.
+// What the values before name, or else what v does. Crate `spans` has the same of 8 and 16 values: one function of both would be no plainer,
+// as it would take the naming as a closure, and ask in a clause what that answers, for a body of a line.
 fn named_or(k: u16, v: u16) -> u16
     requires { k ≤ 36 }
     ensures { (result ≤ 36) × (result ≡ or_else k (name_of 4 v)) }
@@ -38,22 +39,18 @@ fn first_named(row: &[u16], b: usize) -> u16
     ensures { (result ≤ 36) × (result ≡ first_named 4 (at row.now) b 4) }
 {
     let mut k: u16 = 36;
-    let mut i: usize = 0;
-    while i < 4 {
+    for i in 0..4 {
         k = named_or(k, kinds::value_at(row, b + i));
-        i += 1;
     }
     k
 }
 
 // The first place of a resource of this kind may hold v.
+#[tactic(auto, unfolding(crate::specs::Engine::tells))]
 fn tells_kind(kind: u16, v: u16) -> bool
     ensures { result ≡ tells kind v }
 {
-    if resource::family_of(v) == kinds::family_of(kind) {
-        return true;
-    }
-    v == kinds::blank_of(kind, 0)
+    resource::family_of(v) == kinds::family_of(kind) || v == kinds::blank_of(kind, 0)
 }
 
 // From the kind that is named, the segment's first value, the pair's first value, and the place.
@@ -63,22 +60,13 @@ fn choice(k: u16, u: u16, v: u16, j: usize) -> u16
 {
     if k < 36 {
         if kinds::takes_place(k, j) { k } else { 0 }
+    } else if tells_kind(2, u) {
+        2
+    } else if tells_kind(1, v) {
+        1
     } else {
-        if tells_kind(2, u) {
-            2
-        } else {
-            if tells_kind(1, v) { 1 } else { 0 }
-        }
+        0
     }
-}
-
-// The position after the segment that begins at b.
-fn segment_end(row: &[u16], b: usize) -> usize
-    requires { (length row.now ≤ 16) × (b < length row.now) }
-    ensures { (b < result) × (result ≤ b + 4) × (result ≤ length row.now) × (result < length row.now → result ≡ b + 4) }
-{
-    let n = row.len();
-    if b + 4 < n { b + 4 } else { n }
 }
 
 // Enters to what the positions of the segment that begins at b are given; returns the position after it.
@@ -89,11 +77,9 @@ pub fn enter_segment(kinds: &mut [u16; 16], row: &[u16], b: usize) -> usize
 {
     let k = first_named(row, b);
     let u = row[b];
-    let e = segment_end(row, b);
-    let mut p = b;
-    while p < e {
+    let e = (b + 4).min(row.len());
+    for p in b..e {
         kinds[p] = choice(k, u, kinds::value_at(row, 2 * (p / 2)), p % 4);
-        p += 1;
     }
     e
 }
@@ -103,27 +89,26 @@ pub fn kinds_of(row: &[u16]) -> [u16; 16]
     requires { length row.now ≤ 16 }
     ensures { result ≡ segment_kinds row.now }
 {
-    let n = row.len();
     let mut kinds = [0u16; 16];
-    let mut b: usize = 0;
-    while b < n {
-        b = enter_segment(&mut kinds, row, b);
+    for s in 0..(row.len() + 3) / 4 {
+        enter_segment(&mut kinds, row, 4 * s);
     }
     kinds
 }
 
 // ---- whether it signals the row
 
-// The value v may stand at place j of this kind.
-fn fits_place(kind: u16, j: usize, v: u16) -> bool
-    requires { j < 16 }
+// The value v may stand at place j of this kind, which holds `blank` with no field.
+fn fits_place(kind: u16, j: usize, v: u16, blank: u16) -> bool
+    requires { (j < 16) × (blank ≡ blank_at kind j) }
     ensures { result ≡ (takes kind j && (eqb (v / 8) (family kind) || eqb v (blank_at kind j))) }
 {
     kinds::takes_place(kind, j)
-        & ((resource::family_of(v) == kinds::family_of(kind)) | (v == kinds::blank_of(kind, j)))
+        & ((resource::family_of(v) == kinds::family_of(kind)) | (v == blank))
 }
 
-// What place j holds with no field, of one that a segment can hold: such a one has all four places, or not.
+// What place j holds with no field, of one that a segment can hold: such a one has all four places, or not. Every row without wider resources
+// asks it.
 fn blank_in(kind: u16, j: usize) -> u16
     requires { (kind < 7) × (j < 4) }
     ensures { result ≡ blank_at kind j }
@@ -137,15 +122,6 @@ fn blank_in(kind: u16, j: usize) -> u16
     } else {
         28
     }
-}
-
-// The same as `fits_place`, of one that a segment can hold: every row without wider resources asks it.
-fn fits_in(kind: u16, j: usize, v: u16) -> bool
-    requires { (kind < 7) × (j < 4) }
-    ensures { result ≡ (takes kind j && (eqb (v / 8) (family kind) || eqb v (blank_at kind j))) }
-{
-    kinds::takes_place(kind, j)
-        & ((resource::family_of(v) == kinds::family_of(kind)) | (v == blank_in(kind, j)))
 }
 
 // The place of position p among the span of one that a segment can hold.
@@ -175,7 +151,20 @@ pub fn fits(kind: u16, p: usize, v: u16) -> bool
     if kind == 0 {
         return fits_alone(p, v);
     }
-    fits_place(kind, kinds::place_in(kind, p), v)
+    let j = kinds::place_in(kind, p);
+    fits_place(kind, j, v, kinds::blank_of(kind, j))
+}
+
+// The same, of those kinds that a segment can hold.
+fn fits_at(kind: u16, p: usize, v: u16) -> bool
+    requires { kind < 7 }
+    ensures { result ≡ fitting kind p v }
+{
+    if kind == 0 {
+        return fits_alone(p, v);
+    }
+    let j = place_of(kind, p);
+    fits_place(kind, j, v, blank_in(kind, j))
 }
 
 // Every place of the resource of this kind at position p lies below n.
@@ -183,7 +172,7 @@ fn lies_within(kind: u16, p: usize, n: usize) -> bool
     requires { (kind < 36) × (p < n) × (n ≤ 16) }
     ensures { result ≡ within kind p n }
 {
-    (kinds::mask_of(kind) as usize) < 1 << (n - kinds::start_of(kind, p))
+    usize::from(kinds::mask_of(kind)) < 1 << (n - kinds::start_of(kind, p))
 }
 
 // Position p of n, which is given to this kind and has the value v, is as the plan says.
@@ -191,21 +180,7 @@ fn is_right(kind: u16, p: usize, v: u16, n: usize) -> bool
     requires { (kind < 7) × (p < n) × (n ≤ 16) }
     ensures { result ≡ (fitting kind p v && within kind p n) }
 {
-    if kind == 0 {
-        return fits_alone(p, v);
-    }
-    if fits_in(kind, place_of(kind, p), v) {
-        lies_within(kind, p, n)
-    } else {
-        false
-    }
-}
-
-fn kind_at(kinds: &[u16; 16], row: &[u16], p: usize) -> u16
-    requires { (length row.now ≤ 16) × (p < length row.now) × (kinds.now ≡ segment_kinds row.now) }
-    ensures { (result < 7) × (result ≡ segment_plan (at row.now) p) }
-{
-    kinds[p]
+    fits_at(kind, p, v) && lies_within(kind, p, n)
 }
 
 // The lowest position at which what the segments say does not signal the row.
@@ -214,28 +189,15 @@ pub fn first_wrong(kinds: &[u16; 16], row: &[u16]) -> usize
     ensures { result ≡ first_wrong row.now }
 {
     let n = row.len();
-    let mut p: usize = 0;
-    while p < n {
-        if !is_right(kind_at(kinds, row, p), p, row[p], n) {
+    for p in 0..n {
+        if !is_right(kinds[p], p, row[p], n) {
             return p;
         }
-        p += 1;
     }
-    p
+    n
 }
 
 // ---- the same of whole segments, without a place: most rows that are asked have a wrong one, and what is seen of four values at once waits for no branch
-
-// The value v may stand at position p, which is given to this kind, of those that a segment can hold.
-fn fits_at(kind: u16, p: usize, v: u16) -> bool
-    requires { kind < 7 }
-    ensures { result ≡ fitting kind p v }
-{
-    if kind == 0 {
-        return fits_alone(p, v);
-    }
-    fits_in(kind, place_of(kind, p), v)
-}
 
 // To what position p of the segment that begins at b is given, from the kind that is named, the segment's first value and the pair's.
 fn kind_by(row: &[u16], b: usize, p: usize, k: u16, u: u16, v: u16) -> u16
@@ -266,12 +228,10 @@ pub fn first_four_wrong(row: &[u16]) -> usize
     ensures { result ≡ first_four_wrong row.now }
 {
     let n = row.len() / 4;
-    let mut s: usize = 0;
-    while s < n {
+    for s in 0..n {
         if !is_four_right(row, 4 * s) {
             return s;
         }
-        s += 1;
     }
-    s
+    n
 }

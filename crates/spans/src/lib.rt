@@ -29,7 +29,7 @@ fn name_in(n: usize, v: u16) -> u16
     36
 }
 
-// What the values before name, or else what v does.
+// What the values before name, or else what v does; of four, `segments::named_or`, and why there are two.
 fn named_or(n: usize, k: u16, v: u16) -> u16
     requires { ((n ≡ 8) ⊎ (n ≡ 16)) × (k ≤ 36) }
     ensures { (result ≤ 36) × (result ≡ or_else k (name_of n v)) }
@@ -43,10 +43,8 @@ fn first_in(n: usize, row: &[u16], b: usize) -> u16
     ensures { (result ≤ 36) × (result ≡ first_named n (at row.now) b n) }
 {
     let mut k: u16 = 36;
-    let mut i: usize = 0;
-    while i < n {
+    for i in 0..n {
         k = named_or(n, k, kinds::value_at(row, b + i));
-        i += 1;
     }
     k
 }
@@ -63,7 +61,7 @@ fn tell_tale(kind: u16) -> usize
     requires { (24 ≤ kind) × (kind < 30) }
     ensures { (result < 16) × (result ≡ tell_tale kind) }
 {
-    let j = (2 * (kind - 24)) as usize;
+    let j = usize::from(2 * (kind - 24));
     if kind < 26 { j + 4 } else { j }
 }
 
@@ -98,15 +96,6 @@ fn named_in(n: usize, row: &[u16], b: usize) -> u16
 
 // ---- the search
 
-// The position after the n from b on, as far as the row goes.
-fn span_end(row: &[u16], b: usize, n: usize) -> usize
-    requires { (b < 4096) × (n ≤ 16) }
-    ensures { result ≡ min (b + n) (length row.now) }
-{
-    let e = row.len();
-    if b + n < e { b + n } else { e }
-}
-
 // To what place j is given: to this kind where it has the place, or else to what it was.
 fn over(kind: u16, j: usize, was: u16) -> u16
     requires { j < 16 }
@@ -124,10 +113,8 @@ fn overlay(kinds: &mut [u16; 16], kind: u16, b: usize, e: usize)
     requires { (length kinds.old ≡ 16) × (b ≤ e) × (e ≤ 16) }
     ensures { Entered (overlaid kind b (at kinds.old)) b e kinds.old kinds.new }
 {
-    let mut p = b;
-    while p < e {
+    for p in b..e {
         kinds[p] = over(kind, p - b, kinds[p]);
-        p += 1;
     }
 }
 
@@ -147,5 +134,5 @@ pub fn enter_span(kinds: &mut [u16; 16], row: &[u16], b: usize, n: usize)
     let half = n / 2;
     enter_span(kinds, row, b, half);
     enter_span(kinds, row, b + half, half);
-    overlay(kinds, named_in(n, row, b), b, span_end(row, b, n));
+    overlay(kinds, named_in(n, row, b), b, (b + n).min(row.len()));
 }

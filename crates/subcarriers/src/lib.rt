@@ -1,10 +1,10 @@
 // The subcarriers of a resource, as runs (01, "Index and subcarriers").
 #![tactic(auto)]
 
-ghost use Rattle.std.specs.Prelude.{◌≡◌, ◌+◌, ◌-◌, ◌*◌, ◌/◌, ◌%◌, ◌≤◌, ◌<◌, length, cond, List, [], ◌∷◌, ◌++◌, T, eqb};
+ghost use Rattle.std.specs.Prelude.{◌≡◌, ◌+◌, ◌-◌, ◌*◌, ◌/◌, ◌%◌, ◌≤◌, ◌<◌, length, get_or, cond, List, [], ◌∷◌, ◌++◌, T, eqb};
 ghost use Rattle.resource.specs.Index.{is_piece, from_positions, resource_at};
-ghost use Rattle.resource.specs.Engine.{run_of, edge, the242, offset26, offset52, offset106};
-ghost use Rattle.resource.specs.Engine.{wide, wide_with26, the242_if, places_runs, spread_runs, narrow26, narrow52, narrow106};
+ghost use Rattle.resource.specs.Engine.{run_of, edge, the242, wide};
+ghost use Rattle.resource.specs.Engine.{wide_with26, the242_if, places_runs, spread_runs};
 ghost use Rattle.resource.specs.Engine.{narrow, narrow_with26, runs_of, no_run, held};
 
 use resource::{Piece, Run, Size, Tones};
@@ -23,6 +23,8 @@ fn no_run() -> Run
     Run { lo: 0, hi: 0 }
 }
 
+// None, one or two runs. One function over a slice would be no plainer: it copies by a length, where these are each one literal.
+#[tactic(auto, unfolding(resource::specs::Engine::held))]
 fn no_tones() -> Tones
     ensures { result ≡ held [] }
 {
@@ -32,6 +34,7 @@ fn no_tones() -> Tones
     }
 }
 
+#[tactic(auto, unfolding(resource::specs::Engine::held))]
 fn one_run(a: Run) -> Tones
     ensures { result ≡ held (a ∷ []) }
 {
@@ -42,6 +45,7 @@ fn one_run(a: Run) -> Tones
     }
 }
 
+#[tactic(auto, unfolding(resource::specs::Engine::held))]
 fn two_runs(a: Run, b: Run) -> Tones
     ensures { result ≡ held (a ∷ b ∷ []) }
 {
@@ -71,55 +75,33 @@ fn run_242(p: u32) -> Run
     run_of(edge_of(p), 242)
 }
 
-// How far above its 242's lowest subcarrier the j-th of its kind starts, from 40 MHz.
-fn offset_26(j: u16) -> u32
-    ensures { (result ≡ offset26 j) × (result < 256) }
+// Where the j-th of a size starts, by that size's table; 0 past its end.
+fn start_in(table: &[u8], j: u16) -> u32
+    ensures { (result ≡ get_or table.now j 0) × (result < 256) }
 {
-    match j {
-        0 => 1,
-        1 => 27,
-        2 => 55,
-        3 => 81,
-        4 => 108,
-        5 => 135,
-        6 => 161,
-        7 => 189,
-        8 => 215,
-        _ => 0,
+    match table.get(usize::from(j)) {
+        Some(start) => u32::from(*start),
+        None => 0,
     }
 }
 
-fn offset_52(j: u16) -> u32
-    ensures { (result ≡ offset52 j) × (result < 256) }
-{
-    match j {
-        0 => 1,
-        1 => 55,
-        2 => 135,
-        3 => 189,
-        _ => 0,
-    }
-}
+// How far above its 242's lowest subcarrier the j-th of each size starts, from 40 MHz.
+const WIDE_26: [u8; 9] = [1, 27, 55, 81, 108, 135, 161, 189, 215];
 
-fn offset_106(j: u16) -> u32
-    ensures { (result ≡ offset106 j) × (result < 256) }
-{
-    match j {
-        0 => 1,
-        1 => 135,
-        _ => 0,
-    }
-}
+const WIDE_52: [u8; 4] = [1, 55, 135, 189];
+
+const WIDE_106: [u8; 2] = [1, 135];
 
 // The runs of the j-th single resource of its size at position p of the channel, from 40 MHz.
+#[tactic(auto, using(resource::proofs::Places::own_place), unfolding(resource::specs::Engine::wide))]
 fn wide_tones(p: u32, size: Size, j: u16) -> Tones
     requires { p < 1000000 }
     ensures { result ≡ held (wide p size j) }
 {
     match size {
-        Size::S26 => one_run(run_of(edge_of(p) + offset_26(j), 26)),
-        Size::S52 => one_run(run_of(edge_of(p) + offset_52(j), 52)),
-        Size::S106 => one_run(run_of(edge_of(p) + offset_106(j), 106)),
+        Size::S26 => one_run(run_of(edge_of(p) + start_in(&WIDE_26, j), 26)),
+        Size::S52 => one_run(run_of(edge_of(p) + start_in(&WIDE_52, j), 52)),
+        Size::S106 => one_run(run_of(edge_of(p) + start_in(&WIDE_106, j), 106)),
         Size::S242 => one_run(run_242(p)),
         Size::S484 => no_tones(),
         Size::S996 => no_tones(),
@@ -127,6 +109,7 @@ fn wide_tones(p: u32, size: Size, j: u16) -> Tones
     }
 }
 
+#[tactic(auto, unfolding(resource::specs::Engine::wide_with26))]
 fn wide_joined(p: u32, j: u16) -> Tones
     requires { p < 1000000 }
     ensures { result ≡ held (wide_with26 p j) }
@@ -139,46 +122,15 @@ fn wide_joined(p: u32, j: u16) -> Tones
     }
 }
 
-// Where the j-th of its kind starts, at 20 MHz.
-fn narrow_26(j: u16) -> u32
-    ensures { (result ≡ narrow26 j) × (result < 256) }
-{
-    match j {
-        0 => 7,
-        1 => 33,
-        2 => 60,
-        3 => 86,
-        5 => 145,
-        6 => 171,
-        7 => 198,
-        8 => 224,
-        _ => 0,
-    }
-}
+// Where the j-th of each size starts, at 20 MHz; the middle 26 is in two parts, and stands here as 0.
+const NARROW_26: [u8; 9] = [7, 33, 60, 86, 0, 145, 171, 198, 224];
 
-fn narrow_52(j: u16) -> u32
-    ensures { (result ≡ narrow52 j) × (result < 256) }
-{
-    match j {
-        0 => 7,
-        1 => 60,
-        2 => 145,
-        3 => 198,
-        _ => 0,
-    }
-}
+const NARROW_52: [u8; 4] = [7, 60, 145, 198];
 
-fn narrow_106(j: u16) -> u32
-    ensures { (result ≡ narrow106 j) × (result < 256) }
-{
-    match j {
-        0 => 6,
-        1 => 145,
-        _ => 0,
-    }
-}
+const NARROW_106: [u8; 2] = [6, 145];
 
 // The runs of the j-th single resource of its size, at 20 MHz.
+#[tactic(auto, unfolding(resource::specs::Engine::narrow))]
 fn narrow_tones(size: Size, j: u16) -> Tones
     ensures { result ≡ held (narrow size j) }
 {
@@ -187,11 +139,11 @@ fn narrow_tones(size: Size, j: u16) -> Tones
             if j == 4 {
                 two_runs(run_of(112, 13), run_of(132, 13))
             } else {
-                one_run(run_of(narrow_26(j), 26))
+                one_run(run_of(start_in(&NARROW_26, j), 26))
             }
         }
-        Size::S52 => one_run(run_of(narrow_52(j), 52)),
-        Size::S106 => one_run(run_of(narrow_106(j), 106)),
+        Size::S52 => one_run(run_of(start_in(&NARROW_52, j), 52)),
+        Size::S106 => one_run(run_of(start_in(&NARROW_106, j), 106)),
         Size::S242 => two_runs(run_of(6, 121), run_of(130, 121)),
         Size::S484 => no_tones(),
         Size::S996 => no_tones(),
@@ -200,6 +152,7 @@ fn narrow_tones(size: Size, j: u16) -> Tones
 }
 
 // The middle 26 goes on in the 106 or the 106 in it.
+#[tactic(auto, unfolding(resource::specs::Engine::narrow_with26))]
 fn narrow_joined(j: u16) -> Tones
     ensures { result ≡ held (narrow_with26 j) }
 {
@@ -217,7 +170,7 @@ fn part_tones(n: u16, p: u16, size: Size, j: u16) -> Tones
     if n == 1 {
         return narrow_tones(size, j);
     }
-    wide_tones(p as u32, size, j)
+    wide_tones(u32::from(p), size, j)
 }
 
 fn with_26_tones(n: u16, p: u16, j: u16) -> Tones
@@ -226,7 +179,7 @@ fn with_26_tones(n: u16, p: u16, j: u16) -> Tones
     if n == 1 {
         return narrow_joined(j);
     }
-    wide_joined(p as u32, j)
+    wide_joined(u32::from(p), j)
 }
 
 // The subcarriers of a piece of position p of a channel of n.
@@ -241,6 +194,7 @@ pub fn piece_tones(n: u16, p: u16, x: Piece) -> Tones
 }
 
 // The 242 of position p, where it is a place of the resource's, before the runs of t.
+#[tactic(auto, using(resource::proofs::Held::held_before))]
 fn with_242(own: bool, p: u32, t: Tones) -> Tones
     requires { (p < 1048576) × (t.count < 8) × (length t.runs ≡ 8) }
     ensures value { (rs : List Run) → t ≡ held rs → result ≡ held (the242_if own p ++ rs) }
@@ -271,13 +225,14 @@ pub fn places_tones(b: u32, mask: u16) -> Tones
 }
 
 // One run more, after those of t.
+#[tactic(auto, using(resource::proofs::Held::held_after))]
 fn with_run(t: Tones, a: Run) -> Tones
     requires { (t.count < 8) × (length t.runs ≡ 8) }
     ensures value { (rs : List Run) → t ≡ held rs → result ≡ held (rs ++ (a ∷ [])) }
     ensures bounded { (result.count ≡ t.count + 1) × (length result.runs ≡ 8) }
 {
     let mut next = t;
-    next.runs[t.count as usize] = a;
+    next.runs[usize::from(t.count)] = a;
     next.count = t.count + 1;
     next
 }
@@ -288,10 +243,8 @@ fn with_runs(t: Tones, u: Tones) -> Tones
     ensures { (rs ws : List Run) → t ≡ held rs → u ≡ held ws → result ≡ held (rs ++ ws) }
 {
     let mut next = t;
-    let mut k: u16 = 0;
-    while k < u.count {
-        next = with_run(next, u.runs[k as usize]);
-        k += 1;
+    for k in 0..usize::from(u.count) {
+        next = with_run(next, u.runs[k]);
     }
     next
 }
@@ -302,14 +255,10 @@ pub fn spread_tones(b: u32, mask: u32, segments: u16) -> Tones
     ensures { result ≡ held (spread_runs b mask segments) }
 {
     let mut t = no_tones();
-    let mut from = b;
     let mut left = mask;
-    let mut s = segments;
-    while s > 0 {
-        t = with_runs(t, places_tones(from, (left % 16) as u16));
-        from += 4;
+    for s in 0..u32::from(segments) {
+        t = with_runs(t, places_tones(b + 4 * s, (left % 16) as u16));
         left /= 16;
-        s -= 1;
     }
     t
 }

@@ -9,10 +9,11 @@ use borrow.Author.Tests.{ltb-false, le-ltb, eqb-true, ne_eqb, lt-leb, le-leb}
 use lib.Dec.{T, ltb, leb, eqb}
 use lib.ListN.{length, take, drop, get_or-eq_default}
 use Rattle.answer.specs.Answer.{no, ◌or◌}
-use Rattle.answer.specs.declared.Outcome.TheVariants.{Pass}
+use Rattle.std.specs.Prelude.{Ok}
 use Rattle.answer.specs.Lists.{at, build, filled}
 use Rattle.answer.proofs.Lists.{length_build, get_d_build, get_d_filled, build_is, take_filled, drop_filled}
 use Rattle.answer.proofs.Order.{pass_if, if_pass, or_pass, pass_not_refuse}
+use Rattle.answer.specs.declared.Refusal.TheVariants.{UnknownBandwidth, NotWholeEntries, NotNamed, BufferTooShort, OtherLayout}
 use Rattle.bits.specs.Bits.{Small}
 use Rattle.word_bytes.specs.Bytes.{byte_at, word_at, words_in}
 use Rattle.word_bytes.proofs.Back.{words_back, word_same}
@@ -35,7 +36,7 @@ use Rattle.trigger.proofs.Judged.{entry_judged, record_judged, record_exactly}
 pub record EntryPassed (bw : ℕ) (e : List ℕ) (n : ℕ) : Type 0 where
   pub narrow : bw ≤ 2
   pub five : length e ≡ 5
-  pub info : info_outcome bw (info_of e) ≡ Pass
+  pub info : info_outcome bw (info_of e) ≡ Ok tt
   pub room : 32 ≤ n
 
 pub entry_passed : (bw : ℕ) (e : List ℕ) (n : ℕ) → (entry_answer bw e n).number ≡ 0 → EntryPassed bw e n
@@ -43,22 +44,22 @@ unfolding above2 not_five no_record_room info_outcome
 entry_passed bw e n z =
     let a = ((entry_judged bw e n).accepted z).1 in
     record {
-      narrow = (let h = ltb-false 2 bw (pass_if (ltb 2 bw) (no 1 0 0) (a 0)) in omega arith);
-      five = eqb-true (length e) 5 (not_false (eqb (length e) 5) (pass_if (not (eqb (length e) 5)) (no 15 0 0) (a 1)));
+      narrow = (let h = ltb-false 2 bw (pass_if (ltb 2 bw) UnknownBandwidth (a 0)) in omega arith);
+      five = eqb-true (length e) 5 (not_false (eqb (length e) 5) (pass_if (not (eqb (length e) 5)) NotWholeEntries (a 1)));
       info = or_pass _ _ (or_pass _ _ (a 2) (a 3)) (a 4);
-      room = ltb-false n 32 (pass_if (ltb n 32) (no 23 0 32) (a 5));
+      room = ltb-false n 32 (pass_if (ltb n 32) (BufferTooShort 32) (a 5));
     }
 
-pub entry_outcome_lem : (bw : ℕ) (e : List ℕ) (n : ℕ) → EntryPassed bw e n → entry_outcome bw e n ≡ Pass
+pub entry_outcome_lem : (bw : ℕ) (e : List ℕ) (n : ℕ) → EntryPassed bw e n → entry_outcome bw e n ≡ Ok tt
 unfolding above2 not_five no_record_room
 entry_outcome_lem bw e n p =
     let narrow = p.narrow in
     sym (read_chain bw e n)
     ∙ or_pass _ _
     (or_pass _ _
-    (or_pass _ _ (if_pass (ltb 2 bw) (no 1 0 0) (le-ltb 2 bw (omega arith))) (if_pass (not (eqb (length e) 5)) (no 15 0 0) (rw p.five)))
+    (or_pass _ _ (if_pass (ltb 2 bw) UnknownBandwidth (le-ltb 2 bw (omega arith))) (if_pass (not (eqb (length e) 5)) NotWholeEntries (rw p.five)))
     p.info)
-    (if_pass (ltb n 32) (no 23 0 32) (le-ltb n 32 p.room))
+    (if_pass (ltb n 32) (BufferTooShort 32) (le-ltb n 32 p.room))
 
 -- what it reads to
 module _ (bw : ℕ) (e w : List ℕ) where
@@ -108,21 +109,22 @@ unfolding above2 says2007 of_none no_entry_room
 record_passed bw t n z =
     let a = ((record_judged bw t n).accepted z).1 in
     record {
-      narrow = (let h = ltb-false 2 bw (pass_if (ltb 2 bw) (no 1 0 0) (a 0)) in omega arith);
-      other_aid = pass_if (leb 4 (length t) && eqb (word_at t 0) 2007) (no 24 0 0) (a 1);
-      some = not_false (some_entry bw t) (pass_if (not (some_entry bw t)) (no 17 0 0) (a 2));
-      room = ltb-false n 5 (pass_if (ltb n 5) (no 23 0 5) (a 3));
+      narrow = (let h = ltb-false 2 bw (pass_if (ltb 2 bw) UnknownBandwidth (a 0)) in omega arith);
+      other_aid = pass_if (leb 4 (length t) && eqb (word_at t 0) 2007) (OtherLayout 0) (a 1);
+      some = not_false (some_entry bw t) (pass_if (not (some_entry bw t)) (NotNamed 0) (a 2));
+      room = ltb-false n 5 (pass_if (ltb n 5) (BufferTooShort 5) (a 3));
     }
 
-record_outcome_lem : (bw : ℕ) (t : List ℕ) (n : ℕ) → RecordPassed bw t n → record_outcome bw t n ≡ Pass
+record_outcome_lem : (bw : ℕ) (t : List ℕ) (n : ℕ) → RecordPassed bw t n → record_outcome bw t n ≡ Ok tt
 unfolding record_outcome above2 says2007 of_none no_entry_room
 record_outcome_lem bw t n p =
     let narrow = p.narrow in
     or_pass _ _
     (or_pass _ _
-    (or_pass _ _ (if_pass (ltb 2 bw) (no 1 0 0) (le-ltb 2 bw (omega arith))) (if_pass (leb 4 (length t) && eqb (word_at t 0) 2007) (no 24 0 0) p.other_aid))
-    (if_pass (not (some_entry bw t)) (no 17 0 0) (ap not p.some)))
-    (if_pass (ltb n 5) (no 23 0 5) (le-ltb n 5 p.room))
+    (or_pass _ _ (if_pass (ltb 2 bw) UnknownBandwidth (le-ltb 2 bw (omega arith))) (if_pass (leb 4 (length t) && eqb (word_at t 0) 2007)
+    (OtherLayout 0) p.other_aid))
+    (if_pass (not (some_entry bw t)) (NotNamed 0) (ap not p.some)))
+    (if_pass (ltb n 5) (BufferTooShort 5) (le-ltb n 5 p.room))
 
 -- the first number, where there is one
 first_there : (t : List ℕ) → (at (words_in t) 0 ≡ 2007) → (4 ≤ length t) × (word_at t 0 ≡ 2007)
@@ -179,7 +181,7 @@ module _ (bw : ℕ) (t : List ℕ) where
 
   -- 17
   pub refused_17 : (n : ℕ) → Small t → bw ≤ 2 → (4 ≤ length t → word_at t 0 ≡ 2007 → ⊥) → (SomeEntry bw t → ⊥) → (record_answer bw t n).number ≡ 17
-  unfolding record_answer record_outcome above2 says2007 of_none no_entry_room ◌or◌
+  unfolding record_answer record_outcome above2 says2007 of_none no_entry_room
   refused_17 n s h m k =
       let other : at (words_in t) 0 ≡ 2007 → ⊥ = λ e. (let w = first_there t e in m w.0 w.1) in
       rw (le-ltb 2 bw (omega arith), not_said t other, none (some_entry bw t) (λ e. k (the_entry t, the_entry_small, reads_to bw t s other e)))
@@ -194,5 +196,5 @@ module _ (bw : ℕ) (t : List ℕ) where
   pub refused_17_none : (n : ℕ) → (record_answer bw t n).number ≡ 17 → (e : List ℕ) → EntryReads bw e t → ⊥
   unfolding of_none
   refused_17_none n z e r =
-      let a = (record_exactly bw t n 2 (omega arith) z).refuses in
-      pass_not_refuse (if_pass (not (some_entry bw t)) (no 17 0 0) (ap not (found bw t e r))) a
+      let a = (record_exactly bw t n 2 (omega arith) z).applies.refuses in
+      pass_not_refuse (if_pass (not (some_entry bw t)) (NotNamed 0) (ap not (found bw t e r))) a

@@ -5,11 +5,12 @@ use mathlib.Core.List.{List, [], ◌∷◌}
 use Prim.Native.Nat.{ℕ, ◌<◌}
 use lib.Dec.{ltb, leb, eqb}
 use lib.ListN.{length, get_or}
-use Rattle.answer.specs.Order.{first_of, Applies, Judged}
+use Rattle.answer.specs.Order.{first_of, Judged, Answers}
 use Rattle.answer.specs.Lists.{at, filled}
 use Rattle.answer.proofs.Numbers.{only_if, Gives, distinct, absent, judged, number_applies, none, more}
 use Rattle.answer.proofs.First.{first_chain}
 use Rattle.answer.proofs.Order.{after_answered}
+use Rattle.answer.specs.declared.Refusal.TheVariants.{UnknownBandwidth, NotWholeEntries, ReservedBitSet, NotNamed, BufferTooShort, OtherLayout}
 use Rattle.word_bytes.specs.Bytes.{byte_at, word_at}
 use Rattle.trigger_values.specs.UserInfo.{info_of, aid12, b0, value_in, ps160}
 use Rattle.trigger_values.specs.Values.{taken}
@@ -27,11 +28,11 @@ entry_gives : (bw : ℕ) (e : List ℕ) (n : ℕ) → Gives entry_numbers (entry
 unfolding above2 not_five is2007 bit_set not_taken no_record_room
 entry_gives bw e n =
     let x = info_of e in
-    more (only_if (ltb 2 bw) 1 0 0)
-    (more (only_if (not (eqb (length e) 5)) 15 0 0)
-    (more (only_if (eqb (aid12 x) 2007) 24 0 0)
-    (more (only_if (not (eqb (ps160 x) 0) || not (eqb (b0 x) 0)) 16 0 0)
-    (more (only_if (not (taken bw (value_in x))) 17 0 0) (more (only_if (ltb n 32) 23 0 32) none)))))
+    more (only_if (ltb 2 bw) UnknownBandwidth)
+    (more (only_if (not (eqb (length e) 5)) NotWholeEntries)
+    (more (only_if (eqb (aid12 x) 2007) (OtherLayout 0))
+    (more (only_if (not (eqb (ps160 x) 0) || not (eqb (b0 x) 0)) (ReservedBitSet 0))
+    (more (only_if (not (taken bw (value_in x))) (NotNamed 0)) (more (only_if (ltb n 32) (BufferTooShort 32)) none)))))
 
 entry_first : (bw : ℕ) (e : List ℕ) (n : ℕ) → first_of (entry_checks bw e n) ≡ entry_outcome bw e n
 unfolding entry_outcome
@@ -54,9 +55,9 @@ record_distinct = refl
 record_gives : (bw : ℕ) (t : List ℕ) (n : ℕ) → Gives record_numbers (record_checks bw t n)
 unfolding above2 says2007 of_none no_entry_room
 record_gives bw t n =
-    more (only_if (ltb 2 bw) 1 0 0)
-    (more (only_if (leb 4 (length t) && eqb (word_at t 0) 2007) 24 0 0)
-    (more (only_if (not (some_entry bw t)) 17 0 0) (more (only_if (ltb n 5) 23 0 5) none)))
+    more (only_if (ltb 2 bw) UnknownBandwidth)
+    (more (only_if (leb 4 (length t) && eqb (word_at t 0) 2007) (OtherLayout 0))
+    (more (only_if (not (some_entry bw t)) (NotNamed 0)) (more (only_if (ltb n 5) (BufferTooShort 5)) none)))
 
 record_first : (bw : ℕ) (t : List ℕ) (n : ℕ) → first_of (record_checks bw t n) ≡ record_outcome bw t n
 unfolding record_outcome
@@ -68,7 +69,7 @@ record_judged bw t n = rw (record_first bw t n) at (judged (record_gives bw t n)
 
 -- a number is its row's
 pub record_exactly : (bw : ℕ) (t : List ℕ) (n k : ℕ) → k < 4 → (record_answer bw t n).number ≡ get_or record_numbers k 0
-    → Applies (record_checks bw t n) k (record_answer bw t n)
+    → Answers (record_checks bw t n) k (record_answer bw t n)
 unfolding record_answer
 record_exactly bw t n k l e =
     rw (record_first bw t n) at (number_applies (record_gives bw t n) record_distinct 5 k l (rw (← record_first bw t n) at e))

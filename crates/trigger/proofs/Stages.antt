@@ -11,11 +11,13 @@ use lib.Dec.{T, ltb, leb, eqb, eqb→eq}
 use lib.ListN.{length, replicate}
 use Rattle.answer.specs.Answer.{no, refuse_if, ◌or◌, after, passes}
 use Rattle.answer.specs.declared.Answer.{Answer}
-use Rattle.answer.specs.declared.Outcome.{Outcome}
-use Rattle.answer.specs.declared.Outcome.TheVariants.{Pass, Refuse}
+use Rattle.answer.specs.Answer.{Outcome}
+use Rattle.std.specs.Prelude.{Ok, Err}
 use Rattle.answer.specs.Lists.{at, build, filled}
 use Rattle.answer.proofs.Lists.{get_d_filled, get_d_kept}
 use Rattle.answer.proofs.Order.{pass_left, pass_right, pass_if, or_assoc}
+use Rattle.answer.specs.declared.Refusal.TheVariants.{UnknownBandwidth, ReservedBitSet, NotNamed, BufferTooShort, OtherLayout}
+use Rattle.answer.specs.declared.Refusal.{Refusal}
 use Rattle.trigger_values.specs.UserInfo.{info_of, aid12, b0, value_in, ps160}
 use Rattle.trigger_values.specs.Values.{taken}
 use Rattle.trigger.specs.Reading.{above2, not_five, is2007, bit_set, not_taken, info_outcome, no_record_room, entry_outcome}
@@ -41,9 +43,8 @@ read_outcome_lem bw e m x o f g =
     g ∙ ap (λ (x : ℕ). above2 bw or not_five (length e) or info_outcome bw x or no_record_room m) f ∙ read_chain bw e m
 
 -- 24, 16 and 17 by one test
-read_test : (a b c d : Bool) (x y z : Answer)
+read_test : (a b c d : Bool) (x y z : Refusal)
     → ((not a && (b && c)) && d) ≡ passes (refuse_if a x or refuse_if (not b || not c) y or refuse_if (not d) z)
-unfolding ◌or◌
 read_test true b c d x y z = refl
 read_test false true true true x y z = refl
 read_test false true true false x y z = refl
@@ -54,12 +55,12 @@ pub info_read : (bw x : ℕ)
     → ((not (eqb (aid12 x) 2007) && (eqb (ps160 x) 0 && eqb (b0 x) 0)) && taken bw (value_in x)) ≡ passes (info_outcome bw x)
 unfolding info_outcome is2007 bit_set not_taken
 info_read bw x =
-    read_test (eqb (aid12 x) 2007) (eqb (ps160 x) 0) (eqb (b0 x) 0) (taken bw (value_in x)) (no 24 0 0) (no 16 0 0) (no 17 0 0)
+    read_test (eqb (aid12 x) 2007) (eqb (ps160 x) 0) (eqb (b0 x) 0) (taken bw (value_in x)) (OtherLayout 0) (ReservedBitSet 0) (NotNamed 0)
 
 -- what passed has room
-pub read_room : (bw : ℕ) (e : List ℕ) (m : ℕ) → entry_outcome bw e m ≡ Pass → 32 ≤ m
+pub read_room : (bw : ℕ) (e : List ℕ) (m : ℕ) → entry_outcome bw e m ≡ Ok tt → 32 ≤ m
 unfolding entry_outcome no_record_room
-read_room bw e m f = ltb-false m 32 (pass_if (ltb m 32) (no 23 0 32) (pass_right _ (refuse_if (ltb m 32) (no 23 0 32)) f))
+read_room bw e m f = ltb-false m 32 (pass_if (ltb m 32) (BufferTooShort 32) (pass_right _ (refuse_if (ltb m 32) (BufferTooShort 32)) f))
 
 pub both_true : (a b : Bool) → (a && b) ≡ true → (a ≡ true) × (b ≡ true)
 both_true true b e = (refl, e)
@@ -75,21 +76,21 @@ pub record Passed (bw : ℕ) (w : List ℕ) (m : ℕ) : Type 0 where
   pub named : taken bw (value_named w) ≡ true
   pub room : 5 ≤ m
 
-pub numbers_passed : (bw n : ℕ) (w : List ℕ) (m : ℕ) → numbers_outcome bw n w m ≡ Pass → Passed bw w m
+pub numbers_passed : (bw n : ℕ) (w : List ℕ) (m : ℕ) → numbers_outcome bw n w m ≡ Ok tt → Passed bw w m
 unfolding numbers_outcome read_back
 numbers_passed bw n w m e =
-    let c1 = refuse_if (ltb 2 bw) (no 1 0 0) in
-    let c24 = refuse_if (eqb (at w 0) 2007) (no 24 0 0) in
+    let c1 = refuse_if (ltb 2 bw) UnknownBandwidth in
+    let c24 = refuse_if (eqb (at w 0) 2007) (OtherLayout 0) in
     let t = eqb n 32 && (fit w && taken bw (value_named w)) in
-    let c17 = refuse_if (not t) (no 17 0 0) in
-    let c23 = refuse_if (ltb m 5) (no 23 0 5) in
+    let c17 = refuse_if (not t) (NotNamed 0) in
+    let c23 = refuse_if (ltb m 5) (BufferTooShort 5) in
     let u = both_true (eqb n 32) (fit w && taken bw (value_named w))
-    (not_false t (pass_if (not t) (no 17 0 0) (pass_right (c1 or c24) c17 (pass_left (c1 or c24 or c17) c23 e)))) in
+    (not_false t (pass_if (not t) (NotNamed 0) (pass_right (c1 or c24) c17 (pass_left (c1 or c24 or c17) c23 e)))) in
     let f = both_true (fit w) (taken bw (value_named w)) u.1 in
     record {
       fits = f.0;
       named = f.1;
-      room = ltb-false m 5 (pass_if (ltb m 5) (no 23 0 5) (pass_right (c1 or c24 or c17) c23 e));
+      room = ltb-false m 5 (pass_if (ltb m 5) (BufferTooShort 5) (pass_right (c1 or c24 or c17) c23 e));
     }
 
 -- each number below its bound
@@ -149,13 +150,13 @@ module _ (t : List ℕ) (k : ℕ) (w : List ℕ) (ek : k ≡ min (length t / 4) 
   write_chain bw m = rw (first_2007, same_17 bw)
 
 -- a lent buffer by the outcome: only what was passed is written
-pub after_same : (o : Outcome) (x y d : List ℕ) → (o ≡ Pass → x ≡ y) → after o x d ≡ after o y d
-after_same Pass x y d f = f refl
-after_same (Refuse a) x y d f = refl
+pub after_same : (o : Outcome) (x y d : List ℕ) → (o ≡ Ok tt → x ≡ y) → after o x d ≡ after o y d
+after_same (Ok u) x y d f = f refl
+after_same (Err a) x y d f = refl
 
-pub passed_32 : (bw : ℕ) (t : List ℕ) (m : ℕ) → record_outcome bw t m ≡ Pass → length t ≡ 32
+pub passed_32 : (bw : ℕ) (t : List ℕ) (m : ℕ) → record_outcome bw t m ≡ Ok tt → length t ≡ 32
 unfolding record_outcome of_none some_entry
 passed_32 bw t m e =
     let b = eqb (length t) 32 && read_back bw (words_in t) in
-    let p = pass_if (not b) (no 17 0 0) (pass_right (above2 bw or says2007 t) (refuse_if (not b) (no 17 0 0)) (pass_left _ (no_entry_room m) e)) in
+    let p = pass_if (not b) (NotNamed 0) (pass_right (above2 bw or says2007 t) (refuse_if (not b) (NotNamed 0)) (pass_left _ (no_entry_room m) e)) in
     eqb→eq (length t) 32 (rw (both_true (eqb (length t) 32) (read_back bw (words_in t)) (not_false b p)).0 tt)

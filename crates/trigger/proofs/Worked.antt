@@ -9,10 +9,11 @@ use borrow.Author.Tests.{lt-ltb, eqb-true, eq-eqb, ne_eqb}
 use lib.Dec.{T, ltb, ltb→lt, eqb}
 use lib.ListN.{length}
 use Rattle.answer.specs.Answer.{no, refuse_if, ◌or◌}
-use Rattle.answer.specs.declared.Outcome.TheVariants.{Pass}
+use Rattle.std.specs.Prelude.{Ok}
 use Rattle.answer.specs.Lists.{at, build}
 use Rattle.answer.proofs.Lists.{length_build, build_is}
 use Rattle.answer.proofs.Order.{pass_left, pass_right, pass_if}
+use Rattle.answer.specs.declared.Refusal.TheVariants.{ReservedBitSet, NotNamed, OtherLayout}
 use Rattle.bits.specs.Bits.{bit, Small}
 use Rattle.bits.specs.Pack.{pack, Fit}
 use Rattle.bits.proofs.Fields.{field_lt, field_bit}
@@ -45,23 +46,23 @@ either_false true true e = (refl, refl)
 either_false true false e = absurd (subst (λ (t : Bool). T t) e tt)
 either_false false b e = absurd (subst (λ (t : Bool). T t) e tt)
 
-pub accepted : (bw x : ℕ) → info_outcome bw x ≡ Pass → Accepted bw x
+pub accepted : (bw x : ℕ) → info_outcome bw x ≡ Ok tt → Accepted bw x
 unfolding info_outcome is2007 bit_set not_taken
 accepted bw x e =
-    let c24 = refuse_if (eqb (aid12 x) 2007) (no 24 0 0) in
-    let c16 = refuse_if (not (eqb (ps160 x) 0) || not (eqb (b0 x) 0)) (no 16 0 0) in
-    let c17 = refuse_if (not (taken bw (value_in x))) (no 17 0 0) in
+    let c24 = refuse_if (eqb (aid12 x) 2007) (OtherLayout 0) in
+    let c16 = refuse_if (not (eqb (ps160 x) 0) || not (eqb (b0 x) 0)) (ReservedBitSet 0) in
+    let c17 = refuse_if (not (taken bw (value_in x))) (NotNamed 0) in
     let l = pass_left (c24 or c16) c17 e in
-    let f = either_false (eqb (ps160 x) 0) (eqb (b0 x) 0) (pass_if (not (eqb (ps160 x) 0) || not (eqb (b0 x) 0)) (no 16 0 0) (pass_right c24 c16 l)) in
+    let f = either_false (eqb (ps160 x) 0) (eqb (b0 x) 0) (pass_if (not (eqb (ps160 x) 0) || not (eqb (b0 x) 0)) (ReservedBitSet 0) (pass_right c24 c16 l)) in
     record {
-      other_aid = λ h. subst (λ (t : Bool). T t) (pass_if (eqb (aid12 x) 2007) (no 24 0 0) (pass_left c24 c16 l)) (rw h tt);
+      other_aid = λ h. subst (λ (t : Bool). T t) (pass_if (eqb (aid12 x) 2007) (OtherLayout 0) (pass_left c24 c16 l)) (rw h tt);
       b0_clear = eqb-true (b0 x) 0 f.1;
       ps160_clear = eqb-true (ps160 x) 0 f.0;
-      takes = not_false (taken bw (value_in x)) (pass_if (not (taken bw (value_in x))) (no 17 0 0) (pass_right (c24 or c16) c17 e));
+      takes = not_false (taken bw (value_in x)) (pass_if (not (taken bw (value_in x))) (NotNamed 0) (pass_right (c24 or c16) c17 e));
     }
 
-pub accept : (bw x : ℕ) → Accepted bw x → info_outcome bw x ≡ Pass
-unfolding info_outcome is2007 bit_set not_taken ◌or◌
+pub accept : (bw x : ℕ) → Accepted bw x → info_outcome bw x ≡ Ok tt
+unfolding info_outcome is2007 bit_set not_taken
 accept bw x a = rw (ne_eqb (aid12 x) 2007 a.other_aid, a.b0_clear, a.ps160_clear, a.takes)
 
 -- ---- the fields of 40 bits, and their record

@@ -6,8 +6,9 @@
 use Rattle.std.specs.Prelude.{not, ◌||◌, List, [], ◌∷◌, ℕ, ltb, eqb, length}
 use Rattle.answer.specs.Answer.{no, refuse_if, ◌or◌, answer_at, after}
 use Rattle.answer.specs.declared.Answer.{Answer}
-use Rattle.answer.specs.declared.Outcome.{Outcome}
+use Rattle.answer.specs.Answer.{Outcome}
 use Rattle.answer.specs.Lists.{filled}
+use Rattle.answer.specs.declared.Refusal.TheVariants.{UnknownBandwidth, NotWholeEntries, ReservedBitSet, NotNamed, BufferTooShort, OtherLayout}
 use Rattle.resource.specs.Names.{name_of, number_of}
 use Rattle.word_bytes.specs.Bytes.{byte_at}
 use Rattle.trigger_values.specs.UserInfo.{info_of, aid12, b0, value_in, coding, mcs, reserved, spatial, power, ps160}
@@ -15,24 +16,24 @@ use Rattle.trigger_values.specs.Values.{resource_of, taken}
 
 -- 1: "Bandwidth codes above 2 get 1 here."
 unfoldable pub above2 : ℕ → Outcome
-above2 bw = refuse_if (ltb 2 bw) (no 1 0 0)
+above2 bw = refuse_if (ltb 2 bw) UnknownBandwidth
 
 -- 15, of n bytes
 unfoldable pub not_five : ℕ → Outcome
-not_five n = refuse_if (not (eqb n 5)) (no 15 0 0)
+not_five n = refuse_if (not (eqb n 5)) NotWholeEntries
 
 -- ---- of an entry's 40 bits x, each entry of a list too
 -- 24
 unfoldable pub is2007 : ℕ → Outcome
-is2007 x = refuse_if (eqb (aid12 x) 2007) (no 24 0 0)
+is2007 x = refuse_if (eqb (aid12 x) 2007) (OtherLayout 0)
 
 -- 16
 unfoldable pub bit_set : ℕ → Outcome
-bit_set x = refuse_if (not (eqb (ps160 x) 0) || not (eqb (b0 x) 0)) (no 16 0 0)
+bit_set x = refuse_if (not (eqb (ps160 x) 0) || not (eqb (b0 x) 0)) (ReservedBitSet 0)
 
 -- 17
 unfoldable pub not_taken : ℕ → ℕ → Outcome
-not_taken bw x = refuse_if (not (taken bw (value_in x))) (no 17 0 0)
+not_taken bw x = refuse_if (not (taken bw (value_in x))) (NotNamed 0)
 
 unfoldable pub info_outcome : ℕ → ℕ → Outcome
 info_outcome bw x = is2007 x or bit_set x or not_taken bw x
@@ -40,7 +41,7 @@ info_outcome bw x = is2007 x or bit_set x or not_taken bw x
 -- ---- an entry e, into a record of n bytes
 -- 23
 unfoldable pub no_record_room : ℕ → Outcome
-no_record_room n = refuse_if (ltb n 32) (no 23 0 32)
+no_record_room n = refuse_if (ltb n 32) (BufferTooShort 32)
 
 unfoldable pub entry_outcome : ℕ → List ℕ → ℕ → Outcome
 entry_outcome bw e n =

@@ -1,7 +1,7 @@
 -- The entry that a record is written as, and whether there is any, as functions. An engine works them out, and nobody has to believe it:
 -- beside them stands that it is the entry that reads to the record (`Worked`), and `proofs/Worked.antt` shows it of all records (`worked`).
 use Rattle.std.specs.Prelude.{◌≡◌, Bool, ◌&&◌, List, ℕ, eqb, length}
-use Rattle.answer.specs.declared.Outcome.TheVariants.{Pass}
+use Rattle.std.specs.Prelude.{Ok}
 use Rattle.answer.specs.Decides.{Decides}
 use Rattle.answer.specs.Lists.{at, build}
 use Rattle.bits.specs.Bits.{Small}
@@ -14,7 +14,7 @@ use Rattle.trigger.specs.Engine.{info_with}
 -- five bytes e that read to exactly the record t
 pub record EntryReads (bw : ℕ) (e t : List ℕ) : Type 0 where
   pub five : length e ≡ 5
-  pub accepted : info_outcome bw (info_of e) ≡ Pass
+  pub accepted : info_outcome bw (info_of e) ≡ Ok tt
   pub exactly : build (byte_at (numbers_of (info_of e))) 32 ≡ t
 
 -- there are such

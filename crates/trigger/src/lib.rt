@@ -14,7 +14,7 @@ ghost use Rattle.record_refusals.specs.Engine.{value_named, fit, numbers_outcome
 ghost use Rattle.trigger.specs.Engine.{info_with};
 ghost use Rattle.trigger.specs.Writing.{record_answer, entry_written};
 
-use answer::{Answer, Outcome};
+use answer::{Answer, Refusal};
 use resource::Resource;
 use trigger_values::{is_taken, part_of, resource_of};
 
@@ -25,22 +25,21 @@ pub fn info_at(entries: &[u8], i: usize) -> u64
 {
     let low = bits::field_at(entries, 40 * i, 15);
     let high = bits::field_at(entries, 40 * i + 15, 25);
-    low as u64 + 32768 * high as u64
+    u64::from(low) + 32768 * u64::from(high)
 }
 
 // ---- reading
 
 // 24, 16 and 17 of an entry's 40 bits.
-pub fn judge(bandwidth: u32, x: u64) -> Outcome
+#[tactic(auto, unfolding(crate::specs::Reading::info_outcome, crate::specs::Reading::is2007, crate::specs::Reading::bit_set, crate::specs::Reading::not_taken))]
+pub fn judge(bandwidth: u32, x: u64) -> Result<(), Refusal>
     ensures { result ≡ info_outcome bandwidth x }
 {
-    answer::or_else(
-        answer::or_else(
-            answer::refuse_if(part_of(x, 0) == 2007, 24, 0, 0),
-            answer::refuse_if((part_of(x, 8) != 0) | (part_of(x, 1) != 0), 16, 0, 0),
-        ),
-        answer::refuse_if(!is_taken(bandwidth, part_of(x, 2)), 17, 0, 0),
-    )
+    answer::refuse_if(part_of(x, 0) == 2007, Refusal::OtherLayout { entry: 0 })?;
+    let reserved = (part_of(x, 8) != 0) | (part_of(x, 1) != 0);
+    answer::refuse_if(reserved, Refusal::ReservedBitSet { entry: 0 })?;
+    let named = is_taken(bandwidth, part_of(x, 2));
+    answer::refuse_if(!named, Refusal::NotNamed { entry: 0 })
 }
 
 // Whether an entry's 40 bits pass 24, 16 and 17: for a list, whose entries mostly do.
@@ -53,19 +52,14 @@ pub fn is_read(bandwidth: u32, x: u64) -> bool
 }
 
 // All refusals of a read, in their order: n bytes with the 40 bits x, into a record of room bytes.
-fn judge_read(bandwidth: u32, n: usize, x: u64, room: usize) -> Outcome
+#[tactic(auto, unfolding(crate::specs::Reading::above2, crate::specs::Reading::not_five, crate::specs::Reading::no_record_room))]
+fn judge_read(bandwidth: u32, n: usize, x: u64, room: usize) -> Result<(), Refusal>
     ensures { result ≡ (above2 bandwidth or not_five n) or info_outcome bandwidth x or no_record_room room }
 {
-    answer::or_else(
-        answer::or_else(
-            answer::or_else(
-                answer::refuse_if(2 < bandwidth, 1, 0, 0),
-                answer::refuse_if(n != 5, 15, 0, 0),
-            ),
-            judge(bandwidth, x),
-        ),
-        answer::refuse_if(room < 32, 23, 0, 32),
-    )
+    answer::refuse_if(2 < bandwidth, Refusal::UnknownBandwidth)?;
+    answer::refuse_if(n != 5, Refusal::NotWholeEntries)?;
+    judge(bandwidth, x)?;
+    answer::refuse_if(room < 32, Refusal::BufferTooShort { needed: 32 })
 }
 
 // The eight numbers of an entry that is accepted, as bytes.
@@ -75,14 +69,14 @@ fn put_record(out: &mut [u8], x: u64)
 {
     let r = resource_of(part_of(x, 2));
     let numbers = [
-        part_of(x, 0) as u32,
+        u32::from(part_of(x, 0)),
         resource::subcarriers_of(r),
-        resource::number_of(r) as u32,
-        part_of(x, 3) as u32,
-        part_of(x, 4) as u32,
-        part_of(x, 5) as u32,
-        part_of(x, 6) as u32,
-        part_of(x, 7) as u32,
+        u32::from(resource::number_of(r)),
+        u32::from(part_of(x, 3)),
+        u32::from(part_of(x, 4)),
+        u32::from(part_of(x, 5)),
+        u32::from(part_of(x, 6)),
+        u32::from(part_of(x, 7)),
     ];
     word_bytes::put_bytes(out, &numbers, 8);
 }
@@ -94,15 +88,11 @@ pub fn read(bandwidth: u32, entry: &[u8], out: &mut [u8]) -> Answer
 {
     let x = info_at(entry, 0);
     let judged = judge_read(bandwidth, entry.len(), x, out.len());
-    if let Outcome::Refuse(refused) = judged {
-        return refused;
+    if let Err(refusal) = judged {
+        return refusal.into();
     }
     put_record(out, x);
-    Answer {
-        number: 0,
-        channel: 0,
-        place: 32,
-    }
+    Answer::accepted(32)
 }
 
 // ---- writing
@@ -119,6 +109,7 @@ fn nth_of(i: u32, n: u32, first: u16) -> u16
 }
 
 // The value that could name a resource of this size with index i.
+#[tactic(auto, unfolding(trigger_values::specs::Engine::value_for))]
 fn value_for(size: u32, i: u32) -> u16
     ensures { result ≡ value_for size i }
 {
@@ -149,17 +140,18 @@ fn info_with(numbers: &[u32], v: u16) -> u64
     ensures { result ≡ info_with numbers.now }
 {
     packed(
-        numbers[0] as u64,
-        v as u64,
-        numbers[3] as u64,
-        numbers[4] as u64,
-        numbers[5] as u64,
-        numbers[6] as u64,
-        numbers[7] as u64,
+        u64::from(numbers[0]),
+        u64::from(v),
+        u64::from(numbers[3]),
+        u64::from(numbers[4]),
+        u64::from(numbers[5]),
+        u64::from(numbers[6]),
+        u64::from(numbers[7]),
     )
 }
 
-// 40 bits as bytes.
+// 40 bits as bytes, one by one: `copy_from_slice` of a few bytes tests as it runs whether they overlap, which in a trial of words took 1.24 of
+// the time of the stores.
 fn put_entry(entry: &mut [u8], x: u64)
     requires { 5 ≤ length entry.old }
     ensures { entry.new ≡ filled (at (entry_of x)) 5 entry.old }
@@ -181,23 +173,18 @@ fn write_numbers(bandwidth: u32, n: usize, numbers: &[u32], entry: &mut [u8]) ->
 {
     let v = value_for(numbers[1], numbers[2]);
     let judged = record_refusals::judge_write(bandwidth, n, numbers, v, entry.len());
-    if let Outcome::Refuse(refused) = judged {
-        return refused;
+    if let Err(refusal) = judged {
+        return refusal.into();
     }
     put_entry(entry, info_with(numbers, v));
-    Answer {
-        number: 0,
-        channel: 0,
-        place: 5,
-    }
+    Answer::accepted(5)
 }
 
 // How many of a record's eight numbers its bytes have.
 fn eight_at_most(bytes: usize) -> usize
     ensures { (result ≤ 8) × (4 * result ≤ bytes) × (result ≡ min (bytes / 4) 8) }
 {
-    let n = bytes / 4;
-    if n < 8 { n } else { 8 }
+    (bytes / 4).min(8)
 }
 
 // A record written as an entry. Of one that has not eight numbers those that it has are taken: its first may be 2007.

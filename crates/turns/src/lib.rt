@@ -10,11 +10,12 @@ ghost use Rattle.turns.specs.Turns.{fields_in};
 ghost use Rattle.turns.specs.Engine.{among, having, Numbered, Few, turn_code};
 
 // The owner of field x, by the owners of channel 1's m fields and of channel 2's.
-fn owner_in(first: &[u16; 72], second: &[u16; 72], m: usize, x: usize) -> u16
+#[tactic(auto, unfolding(crate::specs::Engine::among))]
+fn owner_in(first: &[u16; 72], second: &[u16; 72], m: usize, x: usize) -> usize
     requires { (m ≤ 72) × (x < m + 72) }
     ensures { result ≡ among first.now second.now m x }
 {
-    if x < m { first[x] } else { second[x - m] }
+    usize::from(if x < m { first[x] } else { second[x - m] })
 }
 
 // Enters which of its resource's fields each of the first n is: as many of these were met before. Then `met` has how many each resource has.
@@ -33,13 +34,10 @@ fn enter_turns(
         turns.old }
     ensures met_after { met.new ≡ build (λ i. having (among first.now second.now m) i n) 144 }
 {
-    let mut x: usize = 0;
-    while x < n {
-        let i = owner_in(first, second, m, x) as usize;
-        let t = met[i];
-        turns[x] = t;
-        met[i] = t + 1;
-        x += 1;
+    for x in 0..n {
+        let i = owner_in(first, second, m, x);
+        turns[x] = met[i];
+        met[i] += 1;
     }
 }
 
@@ -58,11 +56,9 @@ fn add_users(
         ≡ filled (λ x. at turns.old x + 256 * at met.now (among first.now second.now m x)) n
         turns.old }
 {
-    let mut x: usize = 0;
-    while x < n {
-        let i = owner_in(first, second, m, x) as usize;
-        turns[x] = turns[x] + 256 * met[i];
-        x += 1;
+    for x in 0..n {
+        let i = owner_in(first, second, m, x);
+        turns[x] += 256 * met[i];
     }
 }
 

@@ -4,7 +4,7 @@ use Rattle.kinds.proofs.Steps.{span_least, span_segment, span_half, span_whole}
 use Rattle.kinds.proofs.span_of.Goals as goal
 
 pub returns-then-kind-lt2 : goal.returns-then-kind-lt2
-returns-then-kind-lt2 c = (omega arith, omega arith, span_least _ (omega arith) (omega arith))
+returns-then-kind-lt2 c = rw c.from.ensures (omega arith, omega arith, span_least _ (omega arith) (omega arith))
 
 pub returns-then-kind-lt7 : goal.returns-then-kind-lt7
 returns-then-kind-lt7 c = (omega arith, omega arith, span_segment _ (omega arith) (omega arith) (omega arith))

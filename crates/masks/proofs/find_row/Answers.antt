@@ -26,10 +26,11 @@ loop-j-preserved c = let m = at c.args.masks.now in
     c.is_meeting.ensures in (
       omega arith,
       omega arith,
-      omega (arith, e, tally_most m c.args.n (32 * c.args.i + (c.loop-j.j + 1)) (omega arith)),
-      e,
-      pairs_found m c.args.n c.args.i c.loop-j.j c.loop-j.end (omega arith) (omega arith) (omega arith) c.loop-j.invariant.3 c.loop-j.found c.is_meeting.result
-          c.is_meeting.ensures c.loop-j.invariant.5 c.loop-j.invariant.4,
+      omega (arith, c.from.ensures, e, tally_most m c.args.n (32 * c.args.i + (c.loop-j.j + 1)) (omega arith)),
+      rw c.from.ensures e,
+      rw c.from.ensures
+          (pairs_found m c.args.n c.args.i c.loop-j.j c.loop-j.end (omega arith) (omega arith) (omega arith) c.loop-j.invariant.3 c.loop-j.found
+          c.is_meeting.result c.is_meeting.ensures c.loop-j.invariant.5 c.loop-j.invariant.4),
       simp length-set c.loop-j.invariant.5,
     )
 

@@ -5,17 +5,17 @@ use Rattle.overlaps.specs.Result.{overlaps_answer, pairs_after}
 use Rattle.overlaps.proofs.Stages.{length_refused, few, refused_answer, refused_kept, answered, written}
 use Rattle.overlaps.proofs.overlaps.Goals as goal
 
-pub returns-in-Refuse-clause-value : goal.returns-in-Refuse-clause-value
+pub returns-in-Err-clause-value : goal.returns-in-Err-clause-value
 unfolding overlaps_answer pairs_after
-returns-in-Refuse-clause-value c =
-    let e = sym c.judge_length-judged.ensures ∙ c.in-Refuse.is in
+returns-in-Err-clause-value c =
+    let e = sym c.judge_length-judged.ensures ∙ c.in-Err.is in
     let f = length_refused c.args.bandwidth c.args.entries.now (length c.args.pairs.now) _ e in
-    rw f
+    rw f c.into.ensures
 
-pub returns-in-Refuse-clause-pairs_after : goal.returns-in-Refuse-clause-pairs_after
+pub returns-in-Err-clause-pairs_after : goal.returns-in-Err-clause-pairs_after
 unfolding overlaps_answer pairs_after
-returns-in-Refuse-clause-pairs_after c =
-    let e = sym c.judge_length-judged.ensures ∙ c.in-Refuse.is in
+returns-in-Err-clause-pairs_after c =
+    let e = sym c.judge_length-judged.ensures ∙ c.in-Err.is in
     let f = length_refused c.args.bandwidth c.args.entries.now (length c.args.pairs.now) _ e in
     rw f
 

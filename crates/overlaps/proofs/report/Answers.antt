@@ -13,7 +13,7 @@ returns-then-all_apart-clause-value c =
     let a : apart_to m c.args.n ≡ true = sym c.all_apart.ensures ∙ c.if-all_apart.true in
     let z = none_counted m c.args.n a in
     let f = le-ltb (length c.args.pairs.now / 2) (tally (hit m c.args.n) (32 * c.args.n)) (omega arith) in
-    rw (f, z)
+    rw (f, z) c.accepted.ensures
 
 pub returns-then-all_apart-clause-pairs_after : goal.returns-then-all_apart-clause-pairs_after
 returns-then-all_apart-clause-pairs_after c =

@@ -1,11 +1,8 @@
--- What the loops of `plan::channel_fields` keep, and what falls.
+-- What the loops of `plan::channel_fields` keep.
 use Rattle.kinds.specs.Fields.{fields_to}
 use Rattle.answer.specs.Lists.{at}
-use Rattle.std.proofs.Common.{◌+◌, ◌-◌, ◌%◌, ◌≤◌, ◌≡◌}
+use Rattle.std.proofs.Common.{length, ◌+◌, ◌%◌, ◌≤◌, ◌≡◌}
 use Rattle.plan.proofs.channel_fields.Given as goal
 
 abbrev pub invariant-loop-p : goal.invariant-loop-p
-invariant-loop-p l = (l.p ≤ l.n + 1) × (l.p % 2 + 1 ≡ l.fn.channel) × (l.sum ≡ fields_to l.fn.channel (at l.fn.row) l.p)
-
-abbrev pub decreases-loop-p : goal.decreases-loop-p
-decreases-loop-p l = l.n + 1 - l.p
+invariant-loop-p l = (l.p ≤ length l.fn.row + 1) × (l.p % 2 + 1 ≡ l.fn.channel) × (l.sum ≡ fields_to l.fn.channel (at l.fn.row) l.p)

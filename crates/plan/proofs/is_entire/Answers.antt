@@ -5,13 +5,13 @@ use Rattle.answer.proofs.Least.{least_start, least_step}
 use Rattle.plan.proofs.is_entire.Goals as goal
 
 pub loop-j-init : goal.loop-j-init
-loop-j-init c = (omega arith, least_start _)
+loop-j-init c = least_start _
 
 pub returns-then-not-place_given : goal.returns-then-not-place_given
-returns-then-not-place_given c = entire_not _ _ _ _ _ _ c.loop-j.invariant.1 (omega arith) (rw (← c.place_given.ensures) (ap not c.if-not-place_given.true))
+returns-then-not-place_given c = entire_not _ _ _ _ _ _ c.loop-j.invariant (omega arith) (rw (← c.place_given.ensures) (ap not c.if-not-place_given.true))
 
 pub loop-j-preserved : goal.loop-j-preserved
-loop-j-preserved c = (omega arith, least_step _ _ c.loop-j.invariant.1 (rw (← c.place_given.ensures, c.if-not-place_given.false)))
+loop-j-preserved c = least_step _ _ c.loop-j.invariant (rw (← c.place_given.ensures, c.if-not-place_given.false))
 
 pub returns : goal.returns
-returns c = entire_all _ _ _ _ _ _ c.loop-j.invariant.1 (omega arith)
+returns c = entire_all _ _ _ _ _ _ c.loop-j.invariant (omega arith)

@@ -2,9 +2,9 @@
 use Rattle.plan.specs.Engine.{no_plan, with_kinds}
 use Rattle.plan.proofs.plan_with.Goals as goal
 
-pub returns-in-Refuse : goal.returns-in-Refuse
+pub returns-in-Err : goal.returns-in-Err
 unfolding no_plan
-returns-in-Refuse c = rw c.in-Refuse.is
+returns-in-Err c = rw c.in-Err.is
 
 pub returns : goal.returns
 unfolding with_kinds

@@ -3,17 +3,17 @@ use Rattle.records.proofs.Tables.{kind_in, kind_known}
 use Rattle.records.proofs.Listing.{next_length, records_most, here_is}
 use Rattle.records.specs.Records.{list_at, records_from}
 use Rattle.records.specs.Engine.{numbers_of}
-use Rattle.answer.specs.Lists.{filled, at}
+use Rattle.answer.specs.Lists.{at}
 use Rattle.answer.proofs.Lists.{filled_start, filled_step}
 use Rattle.plan.specs.Engine.{only_plan}
-use Rattle.std.proofs.Common.{length, replicate, set, length-set, List, ℕ, ◌+◌, arith, ◌≡◌, refl, ap, ◌∙◌}
+use Rattle.std.proofs.Common.{length, replicate, set, length-set, List, ℕ, arith, ◌≡◌, refl, ap, ◌∙◌}
 use lib.ListN.{length-replicate}
 use Rattle.records.proofs.enter_numbers.Goals as goal
 
 pub loop-p-init : goal.loop-p-init
 loop-p-init c =
     let f : ℕ → ℕ = λ q. length (records_from (only_plan (at c.args.row.now)) (at c.args.row.now) q) in
-    (omega arith, ap length c.requires.0 ∙ length-replicate {A = ℕ} 17 0, refl, c.requires.0 ∙ filled_start f (replicate 17 0))
+    (ap length c.requires.0 ∙ length-replicate {A = ℕ} 17 0, refl, c.requires.0 ∙ filled_start f (replicate 17 0))
 
 pub listed_of-sum-requires : goal.listed_of-sum-requires
 listed_of-sum-requires c = (kind_known c.args.kinds.now c.args.row.now c.loop-p.p c.requires.2 (omega arith), omega arith)
@@ -26,11 +26,10 @@ loop-p-preserved c =
     let k = kind_in c.args.kinds.now c.args.row.now c.loop-p.p c.requires.2 (omega arith) in
     let h : c.listed_of-sum.result ≡ length (list_at (only_plan (at c.args.row.now) c.loop-p.p) (at c.args.row.now) c.loop-p.p) =
     here_is (at c.args.row.now) _ _ _ _ k c.value_at.ensures c.listed_of-sum.ensures.0 in (
-      omega arith,
-      length-set c.loop-p.before c.loop-p.p c.loop-p.sum ∙ c.loop-p.invariant.1,
+      length-set c.loop-p.before c.loop-p.p c.loop-p.sum ∙ c.loop-p.invariant.0,
       omega (arith, h, next_length (only_plan (at c.args.row.now)) (at c.args.row.now) c.loop-p.p),
-      ap (λ (w : List ℕ). set w c.loop-p.p c.loop-p.sum) c.loop-p.invariant.3
-          ∙ filled_step _ c.loop-p.p c.loop-p.sum (replicate 17 0) (omega (arith, length-replicate {A = ℕ} 17 0)) c.loop-p.invariant.2,
+      ap (λ (w : List ℕ). set w c.loop-p.p c.loop-p.sum) c.loop-p.invariant.2
+          ∙ filled_step _ c.loop-p.p c.loop-p.sum (replicate 17 0) (omega (arith, length-replicate {A = ℕ} 17 0)) c.loop-p.invariant.1,
     )
 
 pub returns : goal.returns
@@ -38,6 +37,5 @@ unfolding numbers_of
 returns c =
     let e : c.loop-p.p ≡ length c.args.row.now = omega arith in
     let f : ℕ → ℕ = λ q. length (records_from (only_plan (at c.args.row.now)) (at c.args.row.now) q) in
-    ap (λ (w : List ℕ). set w c.loop-p.p c.loop-p.sum) c.loop-p.invariant.3
-    ∙ filled_step f c.loop-p.p c.loop-p.sum (replicate 17 0) (omega (arith, length-replicate {A = ℕ} 17 0)) c.loop-p.invariant.2
-    ∙ ap (λ (q : ℕ). filled f (q + 1) (replicate 17 0)) e
+    rw e at (ap (λ (w : List ℕ). set w c.loop-p.p c.loop-p.sum) c.loop-p.invariant.2
+    ∙ filled_step f c.loop-p.p c.loop-p.sum (replicate 17 0) (omega (arith, length-replicate {A = ℕ} 17 0)) c.loop-p.invariant.1)

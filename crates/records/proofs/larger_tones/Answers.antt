@@ -30,10 +30,10 @@ returns-then-kind-lt7 c =
 
 pub spread_tones-requires : goal.spread_tones-requires
 spread_tones-requires c =
-    let e = spread_is c.args.kind c.args.p _ _ _ c.start_of-from.ensures.1 c.mask_of-mask.ensures c.span_of.ensures.2 in
+    let e = spread_is c.args.kind c.args.p _ _ _ c.start_of-from.ensures.1 (c.from.ensures ∙ c.mask_of-mask.ensures) c.span_of.ensures.2 in
     (omega arith, omega arith, rw e (wide_few c.args.kind (span c.args.kind * (c.args.p / span c.args.kind)) c.requires.0))
 
 pub returns : goal.returns
 returns c =
-    let e = spread_is c.args.kind c.args.p _ _ _ c.start_of-from.ensures.1 c.mask_of-mask.ensures c.span_of.ensures.2 in
+    let e = spread_is c.args.kind c.args.p _ _ _ c.start_of-from.ensures.1 (c.from.ensures ∙ c.mask_of-mask.ensures) c.span_of.ensures.2 in
     c.spread_tones.ensures ∙ ap held (e ∙ sym (wide_is c.args.kind c.args.p c.requires.0 c.if-kind-lt7.false))

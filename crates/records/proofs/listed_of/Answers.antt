@@ -1,4 +1,5 @@
 -- `records::listed_of` meets its contract.
+use Rattle.records.proofs.Entering.{bit_is}
 use Rattle.records.proofs.Listing.{listed_most}
 use Rattle.records.specs.Engine.{listed}
 use Rattle.std.proofs.Common.{ℕ, ◌≤◌, Bool, cond, ◌≡◌, ap, ◌∙◌, eq-eqb, ne_eqb}
@@ -14,7 +15,8 @@ returns-then-kind-eq0 c = with_most c.pieces_of.result c.args.kind c.args.p c.ar
 pub returns : goal.returns
 unfolding listed
 returns c =
-    with_most c.one_if.result c.args.kind c.args.p c.args.v
-    (c.one_if.ensures
+    with_most c.from.result c.args.kind c.args.p c.args.v
+    (c.from.ensures
+    ∙ bit_is _
     ∙ ap (λ (t : Bool). cond t 1 0) c.is_lowest.ensures
     ∙ rw (ne_eqb c.args.kind 0 c.if-kind-eq0.false))

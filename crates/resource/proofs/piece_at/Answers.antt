@@ -5,4 +5,4 @@ use Rattle.resource.proofs.piece_at.Goals as goal
 
 pub returns : goal.returns
 returns c = c.piece_from.ensures
-    ∙ rw (c.nth_start-s.ensures, c.nth_start-e.ensures, c.starts_of-m.ensures) (found_right _ _)
+    ∙ rw (c.nth_start-s.ensures, c.nth_start-e.ensures, c.starts_of-m.ensures, c.from-k.ensures) (found_right _ _)

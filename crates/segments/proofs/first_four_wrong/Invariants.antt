@@ -1,5 +1,5 @@
--- What the loops of `segments::first_four_wrong` keep, and what falls.
-use Prim.Native.Nat.{◌-◌, ◌*◌, ◌≤◌}
+-- What the loops of `segments::first_four_wrong` keep.
+use Prim.Native.Nat.{◌*◌}
 use mathlib.Core.Path.{◌≡◌}
 use mathlib.Core.Bool.{not}
 use Rattle.answer.specs.Least.{least}
@@ -8,7 +8,4 @@ use Rattle.segments.specs.Engine.{four_right}
 use Rattle.segments.proofs.first_four_wrong.Given as goal
 
 abbrev pub invariant-loop-s : goal.invariant-loop-s
-invariant-loop-s l = (l.s ≤ l.n) × (least (λ k. not (four_right (at l.fn.row) (4 * k))) l.s ≡ l.s)
-
-abbrev pub decreases-loop-s : goal.decreases-loop-s
-decreases-loop-s l = l.n - l.s
+invariant-loop-s l = least (λ k. not (four_right (at l.fn.row) (4 * k))) l.s ≡ l.s

@@ -4,4 +4,4 @@ use Rattle.segments.proofs.Steps.{place_is, fitting_other}
 use Rattle.segments.proofs.fits_at.Goals as goal
 
 pub returns : goal.returns
-returns c = fitting_other _ _ _ _ (place_is _ _ _ _ _ _ c.place_of.ensures.1 c.fits_in.ensures refl) c.if-kind-eq0.false
+returns c = fitting_other _ _ _ _ (place_is _ _ _ _ _ _ c.place_of-j.ensures.1 c.fits_place.ensures refl) c.if-kind-eq0.false

@@ -3,26 +3,25 @@ use Rattle.segments.proofs.Entries.{entered_filled}
 use Rattle.segments.specs.Engine.{segment_kinds}
 use Rattle.answer.proofs.Lists.{filled_start}
 use lib.ListN.{length, replicate, length-replicate}
-use Prim.Native.Nat.{ℕ}
-use mathlib.Core.Path.{◌≡◌, ◌∙◌}
+use Prim.Native.Nat.{ℕ, ◌+◌, ◌*◌, min}
+use mathlib.Core.Path.{◌≡◌, refl, ◌∙◌}
 use native.Mathlib.Omega.{arith}
 use Rattle.segments.proofs.kinds_of.Goals as goal
 
-pub loop-b-init : goal.loop-b-init
-loop-b-init c = (omega arith, λ h. omega arith, length-replicate {A = ℕ} 16 0, filled_start _ _)
+pub loop-s-init : goal.loop-s-init
+loop-s-init c = let e : min 0 (length c.args.row.now) ≡ 0 = omega arith in (refl, rw e (filled_start _ _))
 
-pub loop-b-preserved : goal.loop-b-preserved
-loop-b-preserved c = (
-  c.enter_segment-b.ensures.ends.2,
-  λ h.
-      let e = c.enter_segment-b.ensures.ends.3 h in
-      let z = c.loop-b.invariant.1 (omega arith) in
-      omega arith,
-  c.enter_segment-b.ensures.entered.as_long ∙ c.loop-b.invariant.2,
-  entered_filled _ c.loop-b.b _ (replicate 16 0) _ _ (omega arith) (omega (arith, length-replicate {A = ℕ} 16 0)) c.loop-b.invariant.3
-      c.enter_segment-b.ensures.entered,
-)
+pub loop-s-preserved : goal.loop-s-preserved
+loop-s-preserved c =
+    let b : min (4 * c.loop-s.s) (length c.args.row.now) ≡ 4 * c.loop-s.s = omega arith in
+    let e : c.enter_segment.result ≡ min (4 * (c.loop-s.s + 1)) (length c.args.row.now) = grind (arith, c.enter_segment.ensures.ends) in (
+      c.enter_segment.ensures.entered.as_long ∙ c.loop-s.invariant.0,
+      entered_filled _ (4 * c.loop-s.s) _ (replicate 16 0) _ _ (omega arith) (omega (arith, length-replicate {A = ℕ} 16 0)) (rw b at c.loop-s.invariant.1)
+          (rw e at c.enter_segment.ensures.entered),
+    )
 
 pub returns : goal.returns
 unfolding segment_kinds
-returns c = let e : c.loop-b.b ≡ length c.args.row.now = omega arith in rw (← e) c.loop-b.invariant.3
+returns c =
+    let e : min (4 * c.loop-s.s) (length c.args.row.now) ≡ length c.args.row.now = omega arith in
+    rw e at c.loop-s.invariant.1

@@ -9,5 +9,5 @@ returns-then-n-eq4 t c = span_segment _ _ _ _ _ _ _ c.if-n-eq4.true c.enter_segm
 
 pub returns : goal.returns
 returns t c = span_halves _ _ _ _ _ _ _ _ _ _ (wide _ c.requires.2 c.if-n-eq4.false) c.requires.3
-    c.named_in.ensures.1 c.span_end.ensures
+    c.named_in.ensures.1 c.min.ensures
     c.enter_span.ensures c.enter_span-2.ensures c.overlay.ensures

@@ -5,6 +5,6 @@ use Rattle.std.proofs.Common.{◌∙◌, inr, arith}
 use Rattle.spans.proofs.overlay.Goals as goal
 
 pub loop-p-preserved : goal.loop-p-preserved
-loop-p-preserved c = let x = overlaid_next _ _ c.loop-p.p _ _ c.args.kinds.now (c.loop-p.invariant.3.stands c.loop-p.p (inr (omega arith))) c.over.ensures in
-    let g = entered_next _ _ c.loop-p.p _ _ c.loop-p.kinds c.loop-p.invariant.0 (omega (arith, c.loop-p.invariant.2)) x c.loop-p.invariant.3 in
-    (omega arith, omega arith, g.as_long ∙ c.requires.0, g)
+loop-p-preserved c = let x = overlaid_next _ _ c.loop-p.p _ _ c.args.kinds.now (c.loop-p.invariant.1.stands c.loop-p.p (inr (omega arith))) c.over.ensures in
+    let g = entered_next _ _ c.loop-p.p _ _ c.loop-p.kinds (omega arith) (omega (arith, c.loop-p.invariant.0)) x c.loop-p.invariant.1 in
+    (g.as_long ∙ c.requires.0, g)

@@ -1,7 +1,7 @@
--- What the loops of `subcarriers::with_runs` keep, and what falls.
+-- What the loops of `subcarriers::with_runs` keep.
 use mathlib.Core.Path.{◌≡◌}
 use mathlib.Core.List.{List, ◌++◌}
-use Prim.Native.Nat.{◌+◌, ◌-◌, ◌≤◌}
+use Prim.Native.Nat.{◌+◌, ◌≤◌}
 use lib.ListN.{length, take}
 use Rattle.resource.specs.declared.Run.{Run}
 use Rattle.resource.specs.Engine.{held}
@@ -12,6 +12,3 @@ invariant-loop-k l = (l.k ≤ l.fn.u.count)
     × (l.next.count ≡ l.initial.next.count + l.k)
     × (length l.next.runs ≡ 8)
     × ((rs ws : List Run) → l.initial.next ≡ held rs → l.fn.u ≡ held ws → l.next ≡ held (rs ++ take l.k ws))
-
-abbrev pub decreases-loop-k : goal.decreases-loop-k
-decreases-loop-k l = l.fn.u.count - l.k

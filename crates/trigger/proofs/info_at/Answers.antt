@@ -5,7 +5,7 @@ use Rattle.trigger.proofs.info_at.Goals as goal
 
 pub returns : goal.returns
 returns c =
-    two c.field_at-low.result c.field_at-high.result c.field_at-low.ensures c.field_at-high.ensures
+    two c.from.result c.from-2.result (c.from.ensures ∙ c.field_at-low.ensures) (c.from-2.ensures ∙ c.field_at-high.ensures)
     ∙ sym (field_split c.args.entries.now (40 * c.args.i) 15 25)
   where
     two : (a b : ℕ) {x y : ℕ} → a ≡ x → b ≡ y → a + 32768 * b ≡ x + y * 32768

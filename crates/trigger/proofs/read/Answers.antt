@@ -6,20 +6,20 @@ use Rattle.trigger.specs.Reading.{numbers_of, entry_answer, record_read}
 use Rattle.trigger.proofs.Stages.{read_outcome_lem, read_room}
 use Rattle.trigger.proofs.read.Goals as goal
 
-pub returns-in-Refuse-clause-value : goal.returns-in-Refuse-clause-value
+pub returns-in-Err-clause-value : goal.returns-in-Err-clause-value
 unfolding entry_answer record_read
-returns-in-Refuse-clause-value c =
+returns-in-Err-clause-value c =
     let f =
     sym (read_outcome_lem c.args.bandwidth c.args.entry.now (length c.args.out.now) _ _ c.info_at-x.ensures c.judge_read-judged.ensures)
-    ∙ c.in-Refuse.is in
-    rw f
+    ∙ c.in-Err.is in
+    rw f c.into.ensures
 
-pub returns-in-Refuse-clause-out_after : goal.returns-in-Refuse-clause-out_after
+pub returns-in-Err-clause-out_after : goal.returns-in-Err-clause-out_after
 unfolding entry_answer record_read
-returns-in-Refuse-clause-out_after c =
+returns-in-Err-clause-out_after c =
     let f =
     sym (read_outcome_lem c.args.bandwidth c.args.entry.now (length c.args.out.now) _ _ c.info_at-x.ensures c.judge_read-judged.ensures)
-    ∙ c.in-Refuse.is in
+    ∙ c.in-Err.is in
     rw f
 
 pub put_record-requires : goal.put_record-requires
@@ -34,7 +34,7 @@ returns-clause-value c =
     let f =
     sym (read_outcome_lem c.args.bandwidth c.args.entry.now (length c.args.out.now) _ _ c.info_at-x.ensures c.judge_read-judged.ensures)
     ∙ c.in_default.is in
-    rw f
+    rw f c.accepted.ensures
 
 pub returns-clause-out_after : goal.returns-clause-out_after
 unfolding entry_answer record_read

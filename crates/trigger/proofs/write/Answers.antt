@@ -1,7 +1,7 @@
 -- `trigger::write` meets its contract.
 use Rattle.std.proofs.Common.{◌∙◌, ap, List, ℕ, length}
 use Rattle.answer.specs.Answer.{answer_at, after}
-use Rattle.answer.specs.declared.Outcome.{Outcome}
+use Rattle.answer.specs.Answer.{Outcome}
 use Rattle.answer.specs.Lists.{at, filled}
 use Rattle.trigger_values.specs.UserInfo.{entry_of}
 use Rattle.trigger.specs.Engine.{info_with}
