@@ -18,6 +18,7 @@ pub struct Parts {
 }
 
 // Whether the bandwidth has the channel.
+#[tactic(auto, unfolding(crate::specs::Layout::present))]
 pub fn is_present(bw: u32, channel: u32) -> bool
     ensures { result ≡ present bw channel }
 {
@@ -33,6 +34,7 @@ pub fn positions_of(bw: u32) -> usize
 }
 
 // How many RU Allocation subfields a channel has in the first part of its common field, and in the second.
+#[tactic(auto, unfolding(crate::specs::Layout::firsts))]
 pub fn firsts_of(bw: u32) -> usize
     ensures value { result ≡ firsts bw }
     ensures upper_bound { result ≤ 2 }
@@ -40,6 +42,7 @@ pub fn firsts_of(bw: u32) -> usize
     if bw < 2 { 1 } else { 2 }
 }
 
+#[tactic(auto, unfolding(crate::specs::Layout::seconds))]
 pub fn seconds_of(bw: u32) -> usize
     ensures value { result ≡ seconds bw }
     ensures upper_bound { result ≤ 6 }
@@ -51,6 +54,7 @@ pub fn seconds_of(bw: u32) -> usize
 }
 
 // The bits that the first common check covers, from bit 0; so its place too.
+#[tactic(auto, unfolding(crate::specs::Layout::first_bits))]
 pub fn first_bits(bw: u32) -> usize
     ensures value { result ≡ first_bits bw }
     ensures upper_bound { result ≤ 35 }
@@ -59,6 +63,7 @@ pub fn first_bits(bw: u32) -> usize
 }
 
 // The bits that the second covers, from the end of the first tail.
+#[tactic(auto, unfolding(crate::specs::Layout::second_bits))]
 pub fn second_bits(bw: u32) -> usize
     ensures value { result ≡ second_bits bw }
     ensures upper_bound { result ≤ 54 }
@@ -67,6 +72,7 @@ pub fn second_bits(bw: u32) -> usize
 }
 
 // Where they start.
+#[tactic(auto, unfolding(crate::specs::Layout::second_at))]
 pub fn second_at(bw: u32) -> usize
     ensures value { result ≡ second_at bw }
     ensures upper_bound { result ≤ 45 }
@@ -82,12 +88,14 @@ pub fn second_check(bw: u32) -> usize
     second_at(bw) + second_bits(bw)
 }
 
+#[tactic(auto, unfolding(crate::specs::Layout::has_second))]
 pub fn has_second(bw: u32) -> bool
     ensures { result ≡ has_second bw }
 {
     0 < seconds_of(bw)
 }
 
+#[tactic(auto, unfolding(crate::specs::Layout::common))]
 pub fn common_bits(bw: u32) -> usize
     ensures value { result ≡ common bw }
     ensures upper_bound { result ≤ 109 }
@@ -100,6 +108,7 @@ pub fn common_bits(bw: u32) -> usize
 }
 
 // How many RU Allocation subfields the channel has.
+#[tactic(auto, unfolding(crate::specs::Layout::subfields_in, crate::specs::Layout::subfields))]
 pub fn subfields_of(bw: u32, channel: u32) -> usize
     ensures value { result ≡ subfields_in bw channel }
     ensures upper_bound { result ≤ 8 }
@@ -112,6 +121,7 @@ pub fn subfields_of(bw: u32, channel: u32) -> usize
 }
 
 // The first bit of the k-th of them.
+#[tactic(auto, unfolding(crate::specs::Layout::value_at))]
 pub fn value_bit(bw: u32, k: usize) -> usize
     requires { k ≤ 8 }
     ensures { result ≡ value_at bw k }
@@ -147,7 +157,7 @@ fn from_45(s: &[u8]) -> u64
     requires { 14 ≤ length s.now }
     ensures { result ≡ field s.now 45 64 }
 {
-    (bits::four(s, 2) >> 29) as u64 + (bits::eight(s, 6) << 3)
+    u64::from(bits::four(s, 2) >> 29) + (bits::eight(s, 6) << 3)
 }
 
 // The second part, 0 where there is none.
@@ -191,11 +201,9 @@ fn put_turns(row: &mut [u16; 16], p: usize, n: usize, x: u64, y: u64)
     requires { (n ≤ 6) × (p ≤ 4) × (length row.old ≡ 16) }
     ensures { Turns row.old p n x y row.new }
 {
-    let mut k: usize = 0;
-    while k < n {
+    for k in 0..n {
         row[p + 2 * k] = ((x >> (9 * k)) % 512) as u16;
         row[p + 2 * k + 1] = ((y >> (9 * k)) % 512) as u16;
-        k += 1;
     }
 }
 
@@ -215,6 +223,7 @@ pub fn put_row(row: &mut [u16; 16], bw: u32, parts: Parts)
 }
 
 // The first bit of User field i.
+#[tactic(auto, unfolding(crate::specs::Layout::user_at))]
 pub fn user_bit(bw: u32, i: usize) -> usize
     requires { i ≤ 72 }
     ensures { result ≡ user_at bw i }
@@ -223,6 +232,7 @@ pub fn user_bit(bw: u32, i: usize) -> usize
 }
 
 // The first bit of User block b.
+#[tactic(auto, unfolding(crate::specs::Layout::block_at))]
 pub fn block_bit(bw: u32, b: usize) -> usize
     requires { b ≤ 36 }
     ensures value { result ≡ block_at bw b }
@@ -232,6 +242,7 @@ pub fn block_bit(bw: u32, b: usize) -> usize
 }
 
 // The bits of User block b that its check covers, of n fields.
+#[tactic(auto, unfolding(crate::specs::Layout::covered))]
 pub fn covered_bits(n: usize, b: usize) -> usize
     requires { b ≤ 36 }
     ensures value { result ≡ covered n b }
@@ -241,6 +252,7 @@ pub fn covered_bits(n: usize, b: usize) -> usize
 }
 
 // The end of the last block of n fields.
+#[tactic(auto, unfolding(crate::specs::Layout::end_of))]
 pub fn end_bit(bw: u32, n: usize) -> usize
     requires { n ≤ 72 }
     ensures value { result ≡ end_of bw n }

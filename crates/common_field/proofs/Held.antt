@@ -15,8 +15,9 @@ use borrow.Author.Tests.{lt-ltb, le-ltb, eq-eqb, ne_eqb}
 use Rattle.answer.specs.Answer as A
 use Rattle.answer.specs.Answer.{refuse_if, ◌or◌}
 use Rattle.answer.specs.Least.{least}
-use Rattle.answer.specs.declared.Outcome.TheVariants.{Pass}
+use Rattle.std.specs.Prelude.{Ok}
 use Rattle.answer.proofs.Least.{least_none, least_found}
+use Rattle.answer.specs.declared.Refusal.TheVariants.{WrongOverflow}
 use Rattle.bits.specs.Bits.{bit, field, differs}
 use Rattle.bits.proofs.Differs.{differ, agree}
 use Rattle.bits.proofs.Fields.{bit_lt, field_part, field_bit}
@@ -128,7 +129,7 @@ module _ (bw : ℕ) (a b : List ℕ) where
       (differ a b t (λ e. odd_apart _ _ e (sym (apart_bit t (inside l)) ∙ one l)))
       (λ k h. agree a b k (even_same _ _ (bit_lt a k) (bit_lt b k) (sym (apart_bit k (omega (arith, inside l))) ∙ zeros_below 64 apart k h)))
 
-  found : Dec (0 < apart) → differ_in apart ≡ refuse_if (ltb (least (differs a b) 17) 17) (A.no 5 2 (least (differs a b) 17))
+  found : Dec (0 < apart) → differ_in apart ≡ refuse_if (ltb (least (differs a b) 17) 17) (WrongOverflow 2 (least (differs a b) 17))
   unfolding differ_in
   found (yes l) = rw (lt-ltb 0 apart l, apart_some l, lt-ltb (count_trailing_zeros 64 apart) 17 (inside l)) refl
   found (no l) = rw (le-ltb 0 apart (omega arith), apart_none (omega arith)) refl
@@ -136,11 +137,11 @@ module _ (bw : ℕ) (a b : List ℕ) where
 -- so 5 of the numbers is 5 of the channels
 pub parts_differ : (bw : ℕ) (a b : List ℕ) → overflow_in bw (parts_of bw a b) ≡ overflow_differs bw a b
 unfolding overflow_in parts_of overflow_differs
-parts_differ bw a b = ap₂ ◌or◌ (ap (λ (n : ℕ). refuse_if (ltb 4 n) (A.no 5 1 6)) (symbols bw a)) (go (ℕ_discrete bw 0))
+parts_differ bw a b = ap₂ ◌or◌ (ap (λ (n : ℕ). refuse_if (ltb 4 n) (WrongOverflow 1 6)) (symbols bw a)) (go (ℕ_discrete bw 0))
   where
     go : Dec (bw ≡ 0)
-        → cond (eqb bw 0) Pass (differ_in (bit_xor (first_part bw a) (cond (present bw 2) (first_part bw b) 0) % 131072))
-        ≡ refuse_if (present bw 2 && ltb (least (differs a b) 17) 17) (A.no 5 2 (least (differs a b) 17))
+        → cond (eqb bw 0) (Ok tt) (differ_in (bit_xor (first_part bw a) (cond (present bw 2) (first_part bw b) 0) % 131072))
+        ≡ refuse_if (present bw 2 && ltb (least (differs a b) 17) 17) (WrongOverflow 2 (least (differs a b) 17))
     go (yes o) =
         let n : present bw 2 ≡ false = rw o absent_2 in
         rw (eq-eqb bw 0 o, n) refl

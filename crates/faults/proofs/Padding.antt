@@ -13,6 +13,7 @@ use Rattle.answer.specs.Answer.{refuse_if, ◌or◌}
 use Rattle.answer.specs.Least.{least}
 use Rattle.answer.proofs.Lists.{build_cong}
 use Rattle.answer.proofs.Least.{least_cong}
+use Rattle.answer.specs.declared.Refusal.TheVariants.{WrongOverflow, ValueNotCarried, WrongUserCheck}
 use Rattle.bits.specs.Bits.{bit, field, differs, Same}
 use Rattle.bits.proofs.Fields.{field_ext}
 use Rattle.block.specs.Check.{right}
@@ -80,7 +81,7 @@ unfolding not_carried first_uncarried uncarried
 not_carried_same bw c s t h =
     let e : least (uncarried bw s) (subfields_in bw c) ≡ least (uncarried bw t) (subfields_in bw c) =
     least_cong (uncarried bw s) (uncarried bw t) (subfields_in bw c) (λ k l. ap (λ (v : ℕ). not (carried v)) (value_same bw c s t h k l)) in
-    ap (λ (k : ℕ). refuse_if (ltb k (subfields_in bw c)) (A.no 6 c (value_at bw k))) e
+    ap (λ (k : ℕ). refuse_if (ltb k (subfields_in bw c)) (ValueNotCarried c (value_at bw k))) e
 
 pub count_same : (bw c : ℕ) (s t : List ℕ) → Alike bw c s t → count bw c s ≡ count bw c t
 unfolding count
@@ -106,8 +107,10 @@ module _ (bw : ℕ) (a b a' b' : List ℕ) (h1 : Alike bw 1 a a') (h2 : Alike bw
   overflow_differs_same = rw (symbols_same refl) (go (present bw 2) refl)
     where
       go : (t : Bool) → present bw 2 ≡ t
-          → refuse_if (ltb 4 (ltf_symbols a')) (A.no 5 1 6) or refuse_if (t && ltb (least (differs a b) 17) 17) (A.no 5 2 (least (differs a b) 17))
-          ≡ refuse_if (ltb 4 (ltf_symbols a')) (A.no 5 1 6) or refuse_if (t && ltb (least (differs a' b') 17) 17) (A.no 5 2 (least (differs a' b') 17))
+          → refuse_if (ltb 4 (ltf_symbols a')) (WrongOverflow 1 6) or refuse_if (t && ltb (least (differs a b) 17) 17) (WrongOverflow 2 (least
+          (differs a b) 17))
+          ≡ refuse_if (ltb 4 (ltf_symbols a')) (WrongOverflow 1 6) or refuse_if (t && ltb (least (differs a' b') 17) 17) (WrongOverflow 2 (least
+          (differs a' b') 17))
       go true p = rw (differs_same refl p)
       go false p = refl
 
@@ -163,7 +166,7 @@ wrong_users_same bw c s t h =
     least_cong (wrong_block bw s n) (wrong_block bw t n) (blocks n) (λ b l.
     ap not (right_in s t (end_of bw n) (block_at bw b) (covered n b)
     (h.to_end (present_count bw c s (blocks_some n b l))) (block_inside bw n b l))) in
-    ap (λ (b : ℕ). refuse_if (ltb b (blocks n)) (A.no 10 c (block_at bw b + covered n b))) e
+    ap (λ (b : ℕ). refuse_if (ltb b (blocks n)) (WrongUserCheck c (block_at bw b + covered n b))) e
     ∙ ap (wrong_users_of bw c t) (count_same bw c s t (alike_of bw c s t h))
 
 pub user_same : (bw c : ℕ) (s t : List ℕ) → AlikeToEnd bw c s t → (i : ℕ) → i < count bw c s → field s (user_at bw i) 22 ≡ field t (user_at bw i) 22

@@ -7,7 +7,7 @@ use native.Mathlib.Omega.{arith}
 use lib.Dec.{eqb, leb}
 use lib.ListN.{length}
 use borrow.Author.Tests.{leb-true, eqb-true, le-leb, lt-leb}
-use Rattle.answer.specs.declared.Outcome.TheVariants.{Pass}
+use Rattle.std.specs.Prelude.{Ok}
 use Rattle.channel.specs.Layout.{present, firsts, seconds, first_bits, second_at, second_bits, has_second, common}
 use Rattle.channel.proofs.Laws.{present_1, present_wide}
 use Rattle.faults.specs.Checks.{too_long, cut_common}
@@ -23,10 +23,10 @@ fits_says bw s e =
 
 pub record Passes (bw : ℕ) (a b : List ℕ) : Type 0 where
   pub known : bw ≤ 4
-  pub long_1 : too_long bw 1 a ≡ Pass
-  pub long_2 : too_long bw 2 b ≡ Pass
-  pub cut_1 : cut_common bw 1 a ≡ Pass
-  pub cut_2 : cut_common bw 2 b ≡ Pass
+  pub long_1 : too_long bw 1 a ≡ Ok tt
+  pub long_2 : too_long bw 2 b ≡ Ok tt
+  pub cut_1 : cut_common bw 1 a ≡ Ok tt
+  pub cut_2 : cut_common bw 2 b ≡ Ok tt
 
 pub lent_passes : (bw : ℕ) (a b : List ℕ) → lent bw a b ≡ true → Passes bw a b
 unfolding lent

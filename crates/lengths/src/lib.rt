@@ -9,8 +9,9 @@ ghost use Rattle.faults.specs.RanOut.{ran_out_at};
 ghost use Rattle.faults.specs.Checks.{too_long, short_common, cut_common, short_users, cut_users};
 ghost use Rattle.lengths.specs.Engine.{fits_in, lent};
 
-use answer::{Answer, Outcome};
+use answer::Refusal;
 
+#[tactic(auto, unfolding(crate::specs::Engine::fits_in))]
 fn fits(s: &[u8], n: usize) -> bool
     ensures { result ≡ fits_in s.now n }
 {
@@ -32,11 +33,14 @@ pub fn is_lent(bw: u32, a: &[u8], b: &[u8]) -> bool
 }
 
 // Answer 2 for one channel.
-pub fn too_long(bw: u32, channel: u32, s: &[u8]) -> Outcome
+pub fn too_long(bw: u32, channel: u32, s: &[u8]) -> Result<(), Refusal>
     ensures { result ≡ too_long bw channel s.now }
 {
     let there = channel::is_present(bw, channel);
-    answer::refuse_if((512 < s.len()) | (!there & (0 < s.len())), 2, channel, 0)
+    answer::refuse_if(
+        (512 < s.len()) | (!there & (0 < s.len())),
+        Refusal::WrongLength { channel },
+    )
 }
 
 // How many of the n bits from `at` lie past the end.
@@ -64,14 +68,12 @@ fn ran_out_at(bw: u32, s: &[u8], n: usize) -> usize
 {
     let m = named_fields::named_fields(bw, n);
     let mut at: usize = 0;
-    let mut k: usize = 0;
-    while k < m {
+    for k in 0..m {
         let w = named_fields::named_width(bw, n, k);
         if 0 < lacks_at(s, at, w) {
             return at;
         }
         at += w;
-        k += 1;
     }
     0
 }
@@ -85,19 +87,15 @@ pub fn is_short_common(bw: u32, channel: u32, s: &[u8]) -> bool
 }
 
 // Answer 3.
-pub fn cut_common(bw: u32, channel: u32, s: &[u8]) -> Outcome
+pub fn cut_common(bw: u32, channel: u32, s: &[u8]) -> Result<(), Refusal>
     requires { length s.now ≤ 512 }
     ensures { result ≡ cut_common bw channel s.now }
 {
     if !is_short_common(bw, channel, s) {
-        return Outcome::Pass;
+        return Ok(());
     }
     let place = ran_out_at(bw, s, 0);
-    Outcome::Refuse(Answer {
-        number: 3,
-        channel,
-        place,
-    })
+    Err(Refusal::CommonFieldCut { channel, place })
 }
 
 // The same of a channel whose common field is whole and whose User blocks are not: the block in which its bits run out, and there the field,
@@ -128,21 +126,17 @@ pub fn is_short_users(bw: u32, s: &[u8], n: usize) -> bool
 }
 
 // Answer 9, of a channel that has n fields.
-pub fn cut_users(bw: u32, channel: u32, s: &[u8], n: usize) -> Outcome
+pub fn cut_users(bw: u32, channel: u32, s: &[u8], n: usize) -> Result<(), Refusal>
     requires { (length s.now ≤ 512) × (n ≤ 72) × (n ≡ count bw channel s.now) }
     ensures { result ≡ cut_users bw channel s.now }
 {
     if !is_short_users(bw, s, n) {
-        return Outcome::Pass;
+        return Ok(());
     }
     let place = if 8 * s.len() < channel::common_bits(bw) {
         ran_out_at(bw, s, n)
     } else {
         users_ran_out_at(bw, s, n)
     };
-    Outcome::Refuse(Answer {
-        number: 9,
-        channel,
-        place,
-    })
+    Err(Refusal::UserBlocksCut { channel, place })
 }

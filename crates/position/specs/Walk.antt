@@ -2,20 +2,19 @@
 --
 -- 01, "Bandwidth and channels": "A reading position that carries its channel's bytes with it is wanted, after the same walk stands over
 -- plain bytes and a bit number." Everything here is said of a channel's bytes and a bit number, by the definitions of `bits` and `channel`.
-use Rattle.std.specs.Prelude.{ℕ, ◌+◌, ◌-◌, ◌*◌, ◌/◌, ◌%◌, cond, List, length, replicate, eqb, ltb}
+use Rattle.std.specs.Prelude.{ℕ, ◌+◌, ◌-◌, ◌*◌, ◌/◌, ◌%◌, cond, List, length, replicate, eqb, ltb, Result, Ok, Err}
 use Rattle.answer.specs.Lists.{filled}
 use Rattle.bits.specs.Bits.{field, lacks}
 use Rattle.resource.specs.Values.{fields_of}
 use Rattle.channel.specs.Layout.{overflow, common, subfields, value_at, value, total, count, user_at, end_of}
-use Rattle.position.specs.declared.Field.{Field}
-use Rattle.position.specs.declared.Field.TheVariants.{Value, Lacks}
+use Rattle.position.specs.declared.Lacks.{Lacks}
 use Rattle.position.specs.declared.CommonField.{CommonField}
 use Rattle.position.specs.declared.Channel.{Channel}
 use Rattle.position.specs.declared.Users.{Users}
 
 -- ---- a read: the value of the n bits from `at` and the bit after them, or how many of the n lie past the end
-unfoldable pub read_at : List ℕ → ℕ → ℕ → Field
-read_at s at n = cond (eqb (lacks s at n) 0) (Value (field s at n) (at + n)) (Lacks (lacks s at n))
+unfoldable pub read_at : List ℕ → ℕ → ℕ → Result (ℕ × ℕ) Lacks
+read_at s at n = cond (eqb (lacks s at n) 0) (Ok (field s at n, at + n)) (Err (record { bits = lacks s at n }))
 
 -- how many bits there are from `at` on
 unfoldable pub left_at : List ℕ → ℕ → ℕ

@@ -7,11 +7,10 @@ ghost use Rattle.bits.specs.Bits.{field};
 ghost use Rattle.position.specs.Walk.{read_at, left_at, common_at, users_at, first_lacking, blocks_at, whole};
 ghost use Rattle.position.specs.Engine.{past_check, past_user};
 
-// What reading n bits comes to: their value and the bit after them, or how many of them lie past the end.
-#[derive(Clone, Copy)]
-pub enum Field {
-    Value(u32, usize),
-    Lacks(usize),
+// Why reading n bits gives no value: so many of them lie past the end.
+#[derive(Clone, Copy, PartialEq, Eq)]
+pub struct Lacks {
+    pub bits: usize,
 }
 
 // A common field: its overflow, its values, 0 past them, how many User fields these give, and the bit after its last tail.
@@ -23,7 +22,8 @@ pub struct CommonField {
     pub next: usize,
 }
 
-// All that a channel holds. `end` is the first bit of its padding; `lacking` is how many bits it lacks, 0 where it is whole.
+// All that a channel holds, in fixed memory: `users` has `count` fields, as `whole` in specs/ has it.
+// `end` is the first bit of its padding; `lacking` is how many bits it lacks, 0 where it is whole.
 #[derive(Clone, Copy)]
 pub struct Channel {
     pub overflow: u32,
@@ -43,20 +43,22 @@ struct Users {
 
 // ---- over plain bytes and a bit number
 
-// The n bits from `at`.
-pub fn read_at(s: &[u8], at: usize, n: usize) -> Field
+// The n bits from `at`: their value and the bit after them.
+#[tactic(auto, unfolding(crate::specs::Walk::read_at))]
+pub fn read_at(s: &[u8], at: usize, n: usize) -> Result<(u32, usize), Lacks>
     requires { (n ≤ 25) × (at + n < 2 ^ 64) }
     ensures { result ≡ read_at s.now at n }
 {
     let lacking = lengths::lacks_at(s, at, n);
     if lacking == 0 {
-        Field::Value(bits::field_at(s, at, n), at + n)
+        Ok((bits::field_at(s, at, n), at + n))
     } else {
-        Field::Lacks(lacking)
+        Err(Lacks { bits: lacking })
     }
 }
 
 // How many bits there are from `at` on.
+#[tactic(auto, unfolding(crate::specs::Walk::left_at))]
 pub fn left_at(s: &[u8], at: usize) -> usize
     requires { 8 * length s.now < 2 ^ 64 }
     ensures { result ≡ left_at s.now at }
@@ -66,6 +68,7 @@ pub fn left_at(s: &[u8], at: usize) -> usize
 }
 
 // The bit after the first check and tail where `next` stands at that check, `check`; else `next`.
+#[tactic(auto, unfolding(crate::specs::Engine::past_check))]
 fn past_check(next: usize, check: usize) -> usize
     requires { next ≤ 8192 }
     ensures { result ≡ past_check next check }
@@ -91,14 +94,12 @@ pub fn common_at(s: &[u8], at: usize, bw: u32) -> CommonField
     let mut values = [0u16; 8];
     let mut count: usize = 0;
     let mut next = at + 17;
-    let mut k: usize = 0;
-    while k < n {
+    for k in 0..n {
         next = past_check(next, check);
         let v = value_from(s, next);
         values[k] = v;
         count += resource::fields_of(v) as usize;
         next += 9;
-        k += 1;
     }
     CommonField {
         overflow,
@@ -109,6 +110,7 @@ pub fn common_at(s: &[u8], at: usize, bw: u32) -> CommonField
 }
 
 // The bit after User field i of n, which starts at `next`; after its block's check and tail where it is the block's last.
+#[tactic(auto, unfolding(crate::specs::Engine::past_user))]
 fn past_user(next: usize, i: usize, n: usize) -> usize
     requires { (next ≤ 8192) × (i < 72) }
     ensures { result ≡ past_user next i n }
@@ -129,16 +131,15 @@ fn users_at(s: &[u8], at: usize, n: usize) -> Users
 {
     let mut users = [0u32; 72];
     let mut next = at;
-    let mut i: usize = 0;
-    while i < n {
+    for i in 0..n {
         users[i] = bits::field_at(s, next, 22);
         next = past_user(next, i, n);
-        i += 1;
     }
     Users { users, next }
 }
 
 // The bits lacking: of the common field, or else of the User blocks.
+#[tactic(auto, unfolding(crate::specs::Walk::first_lacking))]
 fn first_lacking(common: usize, users: usize) -> usize
     ensures { result ≡ first_lacking common users }
 {
@@ -172,7 +173,7 @@ pub fn walk(bw: u32, s: &[u8]) -> Channel
     blocks_at(s, c.next, c)
 }
 
-// ---- through a position
+// ---- through a position: free functions, not methods, since docs/CONTRACTS.md and docs/CLAIMS.md name each of them
 
 // A place in a channel, with the channel's bytes.
 #[derive(Clone, Copy)]
@@ -189,7 +190,7 @@ pub fn start<'a>(channel: &'a [u8]) -> Position<'a>
 }
 
 // The n bits from a position; the bit after them is where to move on to.
-pub fn read<'a>(p: Position<'a>, n: usize) -> Field
+pub fn read<'a>(p: Position<'a>, n: usize) -> Result<(u32, usize), Lacks>
     requires { (n ≤ 25) × (p.bit + n < 2 ^ 64) }
     ensures { result ≡ read_at p.entry.channel.now p.entry.bit n }
 {

@@ -20,7 +20,7 @@ use Rattle.answer.proofs.Lists.{get_d_filled}
 use Rattle.bits.proofs.Windows.{field_low}
 use Rattle.channel.specs.Layout.{user_at, user, user_of}
 use Rattle.stations.specs.Stations.{seen_before, repeated, station_at, station_of, station_place, first_repeated, twice, station_twice}
-use Rattle.stations.specs.Engine.{station_in, any_repeated}
+use Rattle.stations.specs.Engine.{station_in, station_from, any_repeated}
 use Rattle.stations.proofs.Kept.{among, among_next}
 
 pub station_lt : (ids : List ℕ) (i : ℕ) → station_in ids i < 2048
@@ -151,6 +151,15 @@ repeat_cong f g t h = least_cong (repeated f) (repeated g) t here
   where
     here : (k : ℕ) → k < t → repeated f k ≡ repeated g k
     here k l = rw (h k l, least_cong (λ i. eqb (f i) (g k)) (λ i. eqb (g i) (g k)) k (λ i m. ap (λ (y : ℕ). eqb y (g k)) (h i (omega arith))))
+
+pub any_cong : (f g : ℕ → ℕ) (t : ℕ) → ((k : ℕ) → k < t → f k ≡ g k) → any_repeated f t ≡ any_repeated g t
+unfolding any_repeated
+any_cong f g t h = ap (λ (j : ℕ). ltb j t) (repeat_cong f g t h)
+
+-- from bit 0 on
+pub from_first : (fields : List ℕ) (t : ℕ) → any_repeated (station_from 0 fields) t ≡ any_repeated (station_in fields) t
+unfolding station_from station_in
+from_first fields t = any_cong (station_from 0 fields) (station_in fields) t (λ k l. omega arith)
 
 -- in the array of 144
 pub repeat_held : (fields w : List ℕ) (t : ℕ) → first_repeated (station_in (filled (station_in fields) t w)) t ≡ first_repeated (station_in fields) t

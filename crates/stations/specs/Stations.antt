@@ -3,10 +3,11 @@
 -- 01, "What comes back": "11 | a STA-ID from 1 to 2006 seen before (channel 1 then 2) | channel, first bit of the later
 -- field". a and b are the bytes of channel 1 and channel 2.
 use Rattle.std.specs.Prelude.{Bool, cond, ◌&&◌, List, ℕ, ◌+◌, ◌-◌, ltb, leb, eqb}
-use Rattle.answer.specs.Answer.{no, refuse_if}
+use Rattle.answer.specs.Answer.{refuse_if}
 use Rattle.answer.specs.Least.{least}
-use Rattle.answer.specs.declared.Answer.{Answer}
-use Rattle.answer.specs.declared.Outcome.{Outcome}
+use Rattle.answer.specs.declared.Refusal.{Refusal}
+use Rattle.answer.specs.Answer.{Outcome}
+use Rattle.answer.specs.declared.Refusal.TheVariants.{StationTwice}
 use Rattle.bits.specs.Bits.{field}
 use Rattle.channel.specs.Layout.{user_at}
 
@@ -26,8 +27,8 @@ abbrev pub repeated : (ℕ → ℕ) → ℕ → Bool
 repeated id j = seen_before id j (id j)
 
 -- where the j-th stands: "channel, first bit of the later field"
-abbrev pub station_place : ℕ → ℕ → ℕ → Answer
-station_place bw n j = cond (ltb j n) (no 11 1 (user_at bw j)) (no 11 2 (user_at bw (j - n)))
+abbrev pub station_place : ℕ → ℕ → ℕ → Refusal
+station_place bw n j = cond (ltb j n) (StationTwice 1 (user_at bw j)) (StationTwice 2 (user_at bw (j - n)))
 
 -- the lowest of t that was
 unfoldable pub first_repeated : (ℕ → ℕ) → ℕ → ℕ

@@ -5,9 +5,9 @@ ghost use Rattle.std.specs.Prelude.{◌≡◌, ◌+◌, ◌/◌, ◌%◌, ◌^�
 ghost use Rattle.std.specs.Int.Bits.{bit_or};
 ghost use Rattle.answer.specs.Lists.{filled};
 ghost use Rattle.stations.specs.Stations.{repeated, station_place, first_repeated, twice};
-ghost use Rattle.stations.specs.Engine.{station_in, any_repeated};
+ghost use Rattle.stations.specs.Engine.{station_in, station_from, any_repeated};
 
-use answer::{Answer, Outcome};
+use answer::Refusal;
 
 // "room for 144 STA-IDs is set aside at once, empty": those of the first t User fields.
 fn stations_of(fields: &[u32], t: usize) -> [u16; 144]
@@ -15,10 +15,8 @@ fn stations_of(fields: &[u32], t: usize) -> [u16; 144]
     ensures { result ≡ filled (station_in fields.now) t (replicate 144 0) }
 {
     let mut ids = [0u16; 144];
-    let mut j = 0;
-    while j < t {
+    for j in 0..t {
         ids[j] = (fields[j] % 2048) as u16;
-        j += 1;
     }
     ids
 }
@@ -45,59 +43,53 @@ fn any_again(ids: &[u16; 144], t: usize) -> bool
 {
     let mut marks = [0u64; 32];
     let mut again = false;
-    let mut j = 0;
-    while j < t {
+    for j in 0..t {
         let id = ids[j] % 2048;
         let k = id as usize / 64;
         let w = marks[k];
-        again = again | is_marked(w, id);
+        again |= is_marked(w, id);
         marks[k] = with_mark(w, id);
-        j += 1;
     }
     again
 }
 
-// ---- the same of few, each by those before it: no room is cleared for them
+// ---- the same of few, each by those before it: no room is cleared for them. A STA-ID stands from bit AT of its number on
 
 // Whether the j-th may not stand again and does.
-fn stands_again(fields: &[u32], j: usize) -> bool
-    requires { j < length fields.now }
-    ensures { result ≡ repeated (station_in fields.now) j }
+fn stands_again<const AT: u32>(numbers: &[u32], j: usize) -> bool
+    requires { (AT < 32) × (j < length numbers.now) }
+    ensures { result ≡ repeated (station_from AT numbers.now) j }
 {
-    let id = fields[j] % 2048;
+    let id = (numbers[j] >> AT) % 2048;
     let mut met = false;
-    let mut i = 0;
-    while i < j {
-        met = met | (fields[i] % 2048 == id);
-        i += 1;
+    for i in 0..j {
+        met |= (numbers[i] >> AT) % 2048 == id;
     }
     (0 < id) & (id <= 2006) & met
 }
 
 // Whether any of t does.
-fn any_of_few(fields: &[u32], t: usize) -> bool
-    requires { t ≤ length fields.now }
-    ensures { result ≡ any_repeated (station_in fields.now) t }
+pub fn any_of_few<const AT: u32>(numbers: &[u32], t: usize) -> bool
+    requires { (AT < 32) × (t ≤ length numbers.now) }
+    ensures { result ≡ any_repeated (station_from AT numbers.now) t }
 {
     let mut again = false;
-    let mut j = 0;
-    while j < t {
-        again = again | stands_again(fields, j);
-        j += 1;
+    for j in 0..t {
+        again |= stands_again::<AT>(numbers, j);
     }
     again
 }
 
 // ---- which: asked only where one does
 
-// The first of t that may not stand again and does.
+// The first of t that may not stand again and does. Only where there is one: this loop, with its way out, took up to 1.15 of the time of
+// `any_again`, which gathers over all, where both were timed in C.
 fn first_again(ids: &[u16; 144], t: usize) -> usize
     requires { t ≤ 144 }
     ensures { (result ≤ t) × (result ≡ first_repeated (station_in ids.now) t) }
 {
     let mut marks = [0u64; 32];
-    let mut j = 0;
-    while j < t {
+    for j in 0..t {
         let id = ids[j] % 2048;
         let k = id as usize / 64;
         let w = marks[k];
@@ -105,9 +97,8 @@ fn first_again(ids: &[u16; 144], t: usize) -> usize
             return j;
         }
         marks[k] = with_mark(w, id);
-        j += 1;
     }
-    j
+    t
 }
 
 // The first of t fields whose STA-ID was seen before.
@@ -118,10 +109,8 @@ fn first_repeated(fields: &[u32], t: usize) -> usize
     if t < 2 {
         return t; // one station repeats none
     }
-    if t <= 8 {
-        if !any_of_few(fields, t) {
-            return t;
-        }
+    if t <= 8 && !any_of_few::<0>(fields, t) {
+        return t;
     }
     let ids = stations_of(fields, t);
     if !any_again(&ids, t) {
@@ -130,19 +119,17 @@ fn first_repeated(fields: &[u32], t: usize) -> usize
     first_again(&ids, t)
 }
 
-fn station_place(bw: u32, n: usize, j: usize) -> Answer
+fn station_place(bw: u32, n: usize, j: usize) -> Refusal
     requires { (n ≤ 72) × (j ≤ n + 72) }
     ensures { result ≡ station_place bw n j }
 {
     if j < n {
-        Answer {
-            number: 11,
+        Refusal::StationTwice {
             channel: 1,
             place: channel::user_bit(bw, j),
         }
     } else {
-        Answer {
-            number: 11,
+        Refusal::StationTwice {
             channel: 2,
             place: channel::user_bit(bw, j - n),
         }
@@ -150,13 +137,13 @@ fn station_place(bw: u32, n: usize, j: usize) -> Answer
 }
 
 // Answer 11, of fields that are held as numbers: channel 1's n, then channel 2's m.
-pub fn station_twice(fields: &[u32], bw: u32, n: usize, m: usize) -> Outcome
+pub fn station_twice(fields: &[u32], bw: u32, n: usize, m: usize) -> Result<(), Refusal>
     requires { (n ≤ 72) × (m ≤ 72) × (n + m ≤ length fields.now) }
     ensures { result ≡ twice bw (station_in fields.now) n m }
 {
     let j = first_repeated(fields, n + m);
     if j < n + m {
-        return Outcome::Refuse(station_place(bw, n, j));
+        return Err(station_place(bw, n, j));
     }
-    Outcome::Pass
+    Ok(())
 }

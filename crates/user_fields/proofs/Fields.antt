@@ -10,8 +10,8 @@ use lib.ListN.{length, set, take, drop}
 use borrow.Author.Tests.{lt-ltb, le-ltb}
 use borrow.Rule.Slice.PartMut.{put_mid}
 use Rattle.answer.specs.Answer.{◌or◌}
-use Rattle.answer.specs.declared.Outcome.{Outcome}
-use Rattle.answer.specs.declared.Outcome.TheVariants.{Pass}
+use Rattle.answer.specs.Answer.{Outcome}
+use Rattle.std.specs.Prelude.{Ok}
 use Rattle.answer.specs.Every.{every}
 use Rattle.answer.specs.Lists.{filled}
 use Rattle.answer.proofs.Every.{every_next, every_at, all_every}
@@ -131,7 +131,7 @@ none_right bw s n e = rw e refl
 -- ---- 10: a channel's passes where all its blocks are right, and only there
 
 module _ (bw c : ℕ) (s : List ℕ) (n : ℕ) (e : n ≡ count bw c s) where
-  pub right_passes : users_right bw s n ≡ true → wrong_users bw c s ≡ Pass
+  pub right_passes : users_right bw s n ≡ true → wrong_users bw c s ≡ Ok tt
   unfolding users_right block_right
   right_passes h =
       pass_wrong_users bw c s
@@ -139,7 +139,7 @@ module _ (bw c : ℕ) (s : List ℕ) (n : ℕ) (e : n ≡ count bw c s) where
       right_says s (block_at bw b) (covered (count bw c s) b)
       (every_at (block_right bw s (count bw c s)) (blocks (count bw c s)) (rw e at h) b l))
 
-  pub wrong_refuses : users_right bw s n ≡ false → wrong_users bw c s ≡ Pass → ⊥
+  pub wrong_refuses : users_right bw s n ≡ false → wrong_users bw c s ≡ Ok tt → ⊥
   unfolding users_right block_right
   wrong_refuses h p =
       false≢true

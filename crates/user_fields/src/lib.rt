@@ -2,7 +2,7 @@
 // looked at once; which block it is, is sought only where one is wrong.
 #![tactic(auto)]
 
-ghost use Rattle.std.specs.Prelude.{◌≡◌, ◌+◌, ◌-◌, ◌*◌, ◌/◌, ◌%◌, ◌^◌, ◌≤◌, ◌<◌, length, set};
+ghost use Rattle.std.specs.Prelude.{◌≡◌, ◌+◌, ◌-◌, ◌*◌, ◌/◌, ◌%◌, ◌^◌, ◌≤◌, ◌<◌, length, set, Ok};
 ghost use Rattle.answer.specs.Answer.{◌or◌};
 ghost use Rattle.answer.specs.Every.{every};
 ghost use Rattle.answer.specs.Lists.{filled};
@@ -11,7 +11,7 @@ ghost use Rattle.channel.specs.Layout.{count, user, user_of, end_of};
 ghost use Rattle.faults.specs.Checks.{wrong_users};
 ghost use Rattle.user_fields.specs.Engine.{block_right, users_right};
 
-use answer::Outcome;
+use answer::Refusal;
 
 // The two fields of a block that w starts with.
 fn first_in(w: u64) -> u32
@@ -43,17 +43,15 @@ fn take_pairs(fields: &mut [u32], bw: u32, s: &[u8], n: usize) -> bool
     ensures fields_after { fields.new ≡ filled (user bw s.now) (2 * (n / 2)) fields.old }
 {
     let m = n / 2;
-    let mut q: u64 = 18446744073709551615;
+    let mut q = u64::MAX;
     let mut x: u64 = 0;
-    let mut b: usize = 0;
-    while b < m {
+    for b in 0..m {
         let at = channel::block_bit(bw, b);
         let w = window_to(s, at, at + 54);
         fields[2 * b] = first_in(w);
         fields[2 * b + 1] = second_in(w);
-        q = q & register::leaving(w);
-        x = x | w;
-        b += 1;
+        q &= register::leaving(w);
+        x |= w;
     }
     register::all_right(q, x, 44)
 }
@@ -84,21 +82,29 @@ fn take_fields(fields: &mut [u32], bw: u32, s: &[u8], n: usize) -> bool
 }
 
 // 10, and where it passes the fields of both channels, channel 1's n first.
-pub fn take_users(fields: &mut [u32], bw: u32, a: &[u8], b: &[u8], n: usize, m: usize) -> Outcome
+#[inline(always)]
+pub fn take_users(
+    fields: &mut [u32],
+    bw: u32,
+    a: &[u8],
+    b: &[u8],
+    n: usize,
+    m: usize,
+) -> Result<(), Refusal>
     requires { (n + m ≤ length fields.old) × (n ≤ 72) × (m ≤ 72) × (n ≡ count bw 1 a.now) × (m ≡ count bw 2 b.now)
         × (0 < n → end_of bw n ≤ 8 * length a.now) × (0 < m → end_of bw m ≤ 8 * length b.now) }
     ensures value { result ≡ (wrong_users bw 1 a.now or wrong_users bw 2 b.now) }
-    ensures fields_after { result ≡ Outcome.Pass
+    ensures fields_after { result ≡ Ok tt
         → fields.new ≡ filled (user_of bw a.now b.now n) (n + m) fields.old }
 {
     if !take_fields(fields, bw, a, n) {
         return wrong_blocks::wrong_users(bw, 1, a, n);
     }
     if m == 0 {
-        return Outcome::Pass;
+        return Ok(());
     }
     if !take_fields(&mut fields[n..], bw, b, m) {
         return wrong_blocks::wrong_users(bw, 2, b, m);
     }
-    Outcome::Pass
+    Ok(())
 }

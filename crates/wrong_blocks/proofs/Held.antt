@@ -7,7 +7,8 @@ use native.Mathlib.Omega.{arith}
 use borrow.Author.Tests.{lt-ltb, le-ltb, ne_eqb}
 use Rattle.answer.specs.Answer as A
 use Rattle.answer.specs.Answer.{refuse_if, ◌or◌}
-use Rattle.answer.specs.declared.Outcome.TheVariants.{Pass, Refuse}
+use Rattle.answer.specs.declared.Refusal.TheVariants.{WrongCommonCheck}
+use Rattle.std.specs.Prelude.{Ok, Err}
 use Rattle.register.specs.Engine.{right_of}
 use Rattle.block.specs.Check.{right}
 use Rattle.block.proofs.Word.{right_whole}
@@ -52,33 +53,33 @@ module _ (bw z : ℕ) where
 -- ---- 4, place and all: the first part that is wrong gives the answer
 
 module _ (bw : ℕ) (p : Parts) where
-  pub wrong_first_lem : right_of p.first1 (first_bits bw) ≡ false → Refuse (A.no 4 1 (first_bits bw)) ≡ wrong_parts bw p
-  unfolding wrong_parts wrong_held ◌or◌
+  pub wrong_first_lem : right_of p.first1 (first_bits bw) ≡ false → Err (WrongCommonCheck 1 (first_bits bw)) ≡ wrong_parts bw p
+  unfolding wrong_parts wrong_held
   wrong_first_lem e = rw e refl
 
   module _ (f : right_of p.first1 (first_bits bw) ≡ true) where
-    pub right_20 : bw ≡ 0 → Pass ≡ wrong_parts bw p
-    unfolding wrong_parts wrong_held ◌or◌
+    pub right_20 : bw ≡ 0 → Ok tt ≡ wrong_parts bw p
+    unfolding wrong_parts wrong_held
     right_20 e =
         let n : present bw 2 ≡ false = rw e absent_2 in
         let s : second_right bw p.second1 ≡ true = sym (tested_none bw p.second1 (omega arith)) in
         rw (f, n, s) refl
 
-    pub wrong_second_lem : second_right bw p.second1 ≡ false → Refuse (A.no 4 1 (second_at bw + second_bits bw)) ≡ wrong_parts bw p
-    unfolding wrong_parts wrong_held ◌or◌
+    pub wrong_second_lem : second_right bw p.second1 ≡ false → Err (WrongCommonCheck 1 (second_at bw + second_bits bw)) ≡ wrong_parts bw p
+    unfolding wrong_parts wrong_held
     wrong_second_lem e = rw (f, e) refl
 
     module _ (s : second_right bw p.second1 ≡ true) (d : bw ≡ 0 → ⊥) where
       there : present bw 2 ≡ true
       there = present_wide bw 2 (omega arith)
 
-      pub wrong_first_2 : right_of p.first2 (first_bits bw) ≡ false → Refuse (A.no 4 2 (first_bits bw)) ≡ wrong_parts bw p
-      unfolding wrong_parts wrong_held ◌or◌
+      pub wrong_first_2 : right_of p.first2 (first_bits bw) ≡ false → Err (WrongCommonCheck 2 (first_bits bw)) ≡ wrong_parts bw p
+      unfolding wrong_parts wrong_held
       wrong_first_2 e = rw (f, s, there, e) refl
 
       pub wrong_second_2 : right_of p.first2 (first_bits bw) ≡ true
-          → refuse_if (not (second_right bw p.second2)) (A.no 4 2 (second_at bw + second_bits bw)) ≡ wrong_parts bw p
-      unfolding wrong_parts wrong_held ◌or◌
+          → refuse_if (not (second_right bw p.second2)) (WrongCommonCheck 2 (second_at bw + second_bits bw)) ≡ wrong_parts bw p
+      unfolding wrong_parts wrong_held
       wrong_second_2 e = rw (f, s, there, e) refl
 
 -- a channel's parts are wrong where 4 says so
@@ -94,7 +95,7 @@ held_common bw c s e =
     let f = right_whole s 0 (first_bits bw) (first_part bw s) (unfold second_at in first_low bw s) in
     rw (e, f, second_common bw s (has_second bw) refl) refl
 
-absent_pass : (bw c : ℕ) (s : List ℕ) → present bw c ≡ false → wrong_common bw c s ≡ Pass
+absent_pass : (bw c : ℕ) (s : List ℕ) → present bw c ≡ false → wrong_common bw c s ≡ Ok tt
 absent_pass bw c s e = pass_wrong_common bw c s (λ p. absurd (false≢true (sym e ∙ p)))
 
 -- so 4 of the numbers is 4 of the channels, its place too
@@ -103,6 +104,6 @@ unfolding wrong_parts parts_of
 parts_wrong bw a b = ap₂ ◌or◌ (held_common bw 1 a (present_1 bw)) (two (present bw 2) refl)
   where
     two : (t : Bool) → present bw 2 ≡ t
-        → cond (present bw 2) (wrong_held bw 2 (cond (present bw 2) (first_part bw b) 0) (second_part bw b)) Pass ≡ wrong_common bw 2 b
+        → cond (present bw 2) (wrong_held bw 2 (cond (present bw 2) (first_part bw b) 0) (second_part bw b)) (Ok tt) ≡ wrong_common bw 2 b
     two true e = rw e (held_common bw 2 b e)
     two false e = rw e (sym (absent_pass bw 2 b e))

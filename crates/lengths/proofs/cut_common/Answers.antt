@@ -3,7 +3,8 @@ use Prim.Native.Nat.{ℕ}
 use mathlib.Core.Path.{sym, ◌∙◌, ap}
 use mathlib.Core.Bool.{true, false}
 use Rattle.answer.specs.Answer.{no}
-use Rattle.answer.specs.declared.Outcome.TheVariants.{Refuse}
+use Rattle.answer.specs.declared.Refusal.TheVariants.{CommonFieldCut}
+use Rattle.std.specs.Prelude.{Err}
 use Rattle.faults.proofs.Passing.{cut_common_tested}
 use Rattle.lengths.proofs.cut_common.Goals as goal
 
@@ -12,5 +13,5 @@ returns-then-not-is_short_common c = sym (cut_common_tested c.args.bw c.args.cha
     (sym c.is_short_common.ensures ∙ c.if-not-is_short_common.true))
 
 pub returns : goal.returns
-returns c = ap (λ (p : ℕ). Refuse (no 3 c.args.channel p)) c.ran_out_at-place.ensures
+returns c = ap (λ (p : ℕ). Err (CommonFieldCut c.args.channel p)) c.ran_out_at-place.ensures
     ∙ sym (cut_common_tested c.args.bw c.args.channel c.args.s.now true (sym c.is_short_common.ensures ∙ c.if-not-is_short_common.false))

@@ -1,5 +1,5 @@
--- What the loops of `position::common_at` keep, and what falls.
-use Prim.Native.Nat.{◌+◌, ◌-◌, ◌*◌, ◌≤◌}
+-- What the loops of `position::common_at` keep.
+use Prim.Native.Nat.{◌+◌, ◌*◌, ◌≤◌}
 use mathlib.Core.Path.{◌≡◌}
 use lib.ListN.{replicate}
 use Rattle.answer.specs.Lists.{filled}
@@ -13,6 +13,3 @@ abbrev pub invariant-loop-k : goal.invariant-loop-k
 invariant-loop-k l = (l.k ≤ l.n) × (l.values ≡ filled (value_from l.fn.s l.fn.at l.fn.bw) l.k (replicate 8 0)) ×
     (l.count ≡ total (λ i. fields_of (value_from l.fn.s l.fn.at l.fn.bw i)) l.k) × (l.count ≤ 9 * l.k)
     × (l.next ≡ l.fn.at + reached l.fn.bw l.k)
-
-abbrev pub decreases-loop-k : goal.decreases-loop-k
-decreases-loop-k l = l.n - l.k

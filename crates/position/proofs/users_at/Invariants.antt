@@ -1,5 +1,5 @@
--- What the loops of `position::users_at` keep, and what falls.
-use Prim.Native.Nat.{◌-◌, ◌≤◌}
+-- What the loops of `position::users_at` keep.
+use Prim.Native.Nat.{◌≤◌}
 use mathlib.Core.Path.{◌≡◌}
 use lib.ListN.{replicate}
 use Rattle.answer.specs.Lists.{filled}
@@ -9,6 +9,3 @@ use Rattle.position.proofs.users_at.Given as goal
 
 abbrev pub invariant-loop-i : goal.invariant-loop-i
 invariant-loop-i l = (l.i ≤ l.fn.n) × (l.users ≡ filled (user_from l.fn.s l.fn.at) l.i (replicate 72 0)) × (l.next ≡ stands l.fn.at l.fn.n l.i)
-
-abbrev pub decreases-loop-i : goal.decreases-loop-i
-decreases-loop-i l = l.fn.n - l.i

@@ -1,5 +1,5 @@
--- What the loops of `stations::any_again` keep, and what falls.
-use Prim.Native.Nat.{◌-◌, ◌≤◌}
+-- What the loops of `stations::any_again` keep.
+use Prim.Native.Nat.{◌≤◌}
 use mathlib.Core.Path.{◌≡◌}
 use lib.ListN.{length}
 use Rattle.stations.specs.Engine.{station_in, any_repeated}
@@ -8,6 +8,3 @@ use Rattle.stations.proofs.any_again.Given as goal
 
 abbrev pub invariant-loop-j : goal.invariant-loop-j
 invariant-loop-j l = (l.j ≤ l.fn.t) × (length l.marks ≡ 32) × (l.again ≡ any_repeated (station_in l.fn.ids) l.j) × Marked (station_in l.fn.ids) l.marks l.j
-
-abbrev pub decreases-loop-j : goal.decreases-loop-j
-decreases-loop-j l = l.fn.t - l.j

@@ -1,11 +1,8 @@
--- What the loops of `stations::any_of_few` keep, and what falls.
-use Prim.Native.Nat.{◌-◌, ◌≤◌}
+-- What the loops of `stations::any_of_few` keep.
+use Prim.Native.Nat.{◌≤◌}
 use mathlib.Core.Path.{◌≡◌}
-use Rattle.stations.specs.Engine.{station_in, any_repeated}
+use Rattle.stations.specs.Engine.{station_from, any_repeated}
 use Rattle.stations.proofs.any_of_few.Given as goal
 
 abbrev pub invariant-loop-j : goal.invariant-loop-j
-invariant-loop-j l = (l.j ≤ l.fn.t) × (l.again ≡ any_repeated (station_in l.fn.fields) l.j)
-
-abbrev pub decreases-loop-j : goal.decreases-loop-j
-decreases-loop-j l = l.fn.t - l.j
+invariant-loop-j g l = (l.j ≤ l.fn.t) × (l.again ≡ any_repeated (station_from g.row.AT l.fn.numbers) l.j)

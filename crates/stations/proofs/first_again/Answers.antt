@@ -2,9 +2,9 @@
 use Rattle.stations.proofs.Gathered.{station_lt, marked_none, marked_more, seen}
 use Rattle.stations.specs.Engine.{station_in}
 use Rattle.stations.specs.Stations.{repeated, first_repeated}
-use Rattle.answer.proofs.Least.{least_start, least_step, least_stop, least_end}
+use Rattle.answer.proofs.Least.{least_start, least_step, least_stop}
 use lib.ListN.{length-set}
-use mathlib.Core.Path.{refl, sym, ◌∙◌}
+use mathlib.Core.Path.{◌≡◌, refl, sym, ◌∙◌}
 use borrow.Author.Rules.{rules}
 use native.Mathlib.Omega.{arith}
 use Rattle.stations.proofs.first_again.Goals as goal
@@ -40,4 +40,4 @@ loop-j-preserved c = let x = station_in c.args.ids.now c.loop-j.j in (
 
 pub returns : goal.returns
 unfolding first_repeated
-returns c = (omega arith, sym (least_end (repeated (station_in c.args.ids.now)) c.loop-j.j c.args.t (omega arith) c.loop-j.invariant.2))
+returns c = (omega arith, let e : c.loop-j.j ≡ c.args.t = omega arith in rw (← e) (sym c.loop-j.invariant.2))

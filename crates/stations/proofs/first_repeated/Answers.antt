@@ -6,7 +6,7 @@ use native.Mathlib.Omega.{arith}
 use lib.ListN.{replicate}
 use Rattle.stations.specs.Stations.{first_repeated}
 use Rattle.stations.specs.Engine.{station_in}
-use Rattle.stations.proofs.Gathered.{none_again, repeat_held}
+use Rattle.stations.proofs.Gathered.{none_again, from_first, repeat_held}
 use Rattle.stations.proofs.Kept.{repeat_none}
 use Rattle.stations.proofs.first_repeated.Goals as goal
 
@@ -14,7 +14,9 @@ pub returns-then-t-lt2 : goal.returns-then-t-lt2
 returns-then-t-lt2 c = (omega arith, sym (repeat_none (station_in c.args.fields.now) c.args.t (omega arith)))
 
 pub returns-then-not-any_of_few : goal.returns-then-not-any_of_few
-returns-then-not-any_of_few c = (omega arith, sym (none_again (station_in c.args.fields.now) c.args.t (sym c.any_of_few.ensures ∙ c.if-not-any_of_few.true)))
+returns-then-not-any_of_few c =
+    let e = sym (from_first c.args.fields.now c.args.t) ∙ sym c.any_of_few.ensures ∙ c.if-not-any_of_few.true in
+    (omega arith, sym (none_again (station_in c.args.fields.now) c.args.t e))
 
 pub returns-then-not-any_again : goal.returns-then-not-any_again
 returns-then-not-any_again c = (

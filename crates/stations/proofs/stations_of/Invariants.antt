@@ -1,5 +1,5 @@
--- What the loops of `stations::stations_of` keep, and what falls.
-use Prim.Native.Nat.{◌-◌, ◌≤◌}
+-- What the loops of `stations::stations_of` keep.
+use Prim.Native.Nat.{◌≤◌}
 use mathlib.Core.Path.{◌≡◌}
 use lib.ListN.{replicate}
 use Rattle.answer.specs.Lists.{filled}
@@ -8,6 +8,3 @@ use Rattle.stations.proofs.stations_of.Given as goal
 
 abbrev pub invariant-loop-j : goal.invariant-loop-j
 invariant-loop-j l = (l.j ≤ l.fn.t) × (l.ids ≡ filled (station_in l.fn.fields) l.j (replicate 144 0))
-
-abbrev pub decreases-loop-j : goal.decreases-loop-j
-decreases-loop-j l = l.fn.t - l.j

@@ -1,5 +1,5 @@
--- What the loops of `user_fields::take_pairs` keep, and what falls.
-use Prim.Native.Nat.{◌-◌, ◌*◌, ◌≤◌}
+-- What the loops of `user_fields::take_pairs` keep.
+use Prim.Native.Nat.{◌*◌, ◌≤◌}
 use mathlib.Core.Path.{◌≡◌}
 use lib.ListN.{length}
 use Rattle.answer.specs.Every.{every}
@@ -12,6 +12,3 @@ use Rattle.user_fields.proofs.take_pairs.Given as goal
 abbrev pub invariant-loop-b : goal.invariant-loop-b
 invariant-loop-b l = (l.b ≤ l.m) × (all_right l.q l.x 44 ≡ every (block_right l.fn.bw l.fn.s l.fn.n) l.b) ×
     (l.fields ≡ filled (user l.fn.bw l.fn.s) (2 * l.b) l.initial.fields) × (length l.fields ≡ length l.initial.fields)
-
-abbrev pub decreases-loop-b : goal.decreases-loop-b
-decreases-loop-b l = l.m - l.b

@@ -6,10 +6,10 @@ use mathlib.Core.List.{List}
 use Prim.Native.Nat.{ℕ, ◌+◌, ◌/◌}
 use native.Mathlib.Omega.{arith}
 use borrow.Author.Tests.{le-ltb}
-use Rattle.answer.specs.declared.Outcome.TheVariants.{Pass}
+use Rattle.std.specs.Prelude.{Ok}
 use Rattle.wrong_blocks.proofs.wrong_users.Goals as goal
 
-no_blocks : (bw c : ℕ) (s : List ℕ) → Pass ≡ wrong_users_of bw c s 0
+no_blocks : (bw c : ℕ) (s : List ℕ) → Ok tt ≡ wrong_users_of bw c s 0
 unfolding wrong_users_of blocks
 no_blocks bw c s = rw (le-ltb (first_wrong bw s 0) ((0 + 1) / 2) (omega arith))
 
