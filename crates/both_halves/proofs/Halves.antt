@@ -6,8 +6,9 @@ use native.Mathlib.Omega.{arith}
 use lib.ListN.{length, take}
 use Rattle.answer.proofs.Order.{pass_left}
 use Rattle.answer.specs.declared.Answer.{Answer}
-use Rattle.answer.specs.declared.Outcome.{Outcome}
-use Rattle.answer.specs.declared.Outcome.TheVariants.{Pass, Refuse}
+use Rattle.answer.specs.Answer.{Outcome}
+use Rattle.answer.specs.declared.Refusal.{Refusal}
+use Rattle.std.specs.Prelude.{Ok, Err}
 use Rattle.plan.specs.declared.Rest.{Rest}
 use Rattle.plan.specs.Engine.{kinds_of, with_kinds}
 use Rattle.channel.specs.Layout.{positions, row}
@@ -23,14 +24,14 @@ use Rattle.both_halves.specs.Engine.{with_outcome, accepted_plan, Given, Handed}
 
 module _ (bw : ℕ) (a b : List ℕ) (p : Planned) where
   -- refused by the first
-  pub stopped : (x : Answer) → p ≡ planned_of bw a b → p.outcome ≡ Refuse x → p ≡ accepted_plan bw a b
+  pub stopped : (x : Refusal) → p ≡ planned_of bw a b → p.outcome ≡ Err x → p ≡ accepted_plan bw a b
   unfolding accepted_plan
   stopped x e f =
       let g : p.outcome ≡ outcome11 bw a b = f ∙ sym (planned_refuse bw a b x (outcome_made e f)) in
       ap (with_outcome p.outcome) e ∙ ap (λ (o : Outcome). with_outcome o (planned_of bw a b)) g
 
   -- the second's outcome o, where the first passes
-  pub both : (o : Outcome) → p ≡ planned_of bw a b → p.outcome ≡ Pass → o ≡ outcome9to11 bw a b → with_outcome o p ≡ accepted_plan bw a b
+  pub both : (o : Outcome) → p ≡ planned_of bw a b → p.outcome ≡ Ok tt → o ≡ outcome9to11 bw a b → with_outcome o p ≡ accepted_plan bw a b
   unfolding accepted_plan
   both o e f h =
       let g : o ≡ outcome11 bw a b = h ∙ sym (planned_rest bw a b (outcome_made e f)) in
@@ -43,7 +44,7 @@ module _ (bw : ℕ) (a b : List ℕ) {p : Planned} (e : p ≡ accepted_plan bw a
   outcome f = sym (ap (λ (p : Planned). p.outcome) e) ∙ f
 
   -- of a frame that passes 1 to 11
-  module _ (f : p.outcome ≡ Pass) where
+  module _ (f : p.outcome ≡ Ok tt) where
     pub code : bw ≤ 4
     code = known_code bw a b (outcome f)
 
@@ -78,10 +79,10 @@ module _ (bw : ℕ) (a b : List ℕ) {x : Rest} {r k : List ℕ} (w : Plans bw a
   out : {o : Outcome} → x.outcome ≡ o → (planned_of bw a b).outcome ≡ o
   out f = planned_out bw a b ∙ unfold outcome1to8 in (sym w.answers ∙ f)
 
-  pub first_refuses : (y : Answer) → x.outcome ≡ Refuse y → outcome11 bw a b ≡ Refuse y
+  pub first_refuses : (y : Refusal) → x.outcome ≡ Err y → outcome11 bw a b ≡ Err y
   first_refuses y f = planned_refuse bw a b y (out f)
 
-  module _ (f : x.outcome ≡ Pass) where
+  module _ (f : x.outcome ≡ Ok tt) where
     lent : Made bw a b (with_plan r (with_kinds x k))
     unfolding with_plan with_kinds
     lent = planned_made bw a b _ (unfold with_plan with_kinds in lent_plan bw a b x r k w f) f

@@ -1,7 +1,7 @@
 -- Engine: what both halves of a reading hand on, and what the functions above are given of it. The contracts of the code cite it; nobody has to
 -- believe it: `proofs/Halves.antt`.
 use Rattle.std.specs.Prelude.{◌≡◌, List, ℕ, ◌≤◌}
-use Rattle.answer.specs.declared.Outcome.{Outcome}
+use Rattle.answer.specs.Answer.{Outcome}
 use Rattle.plan.specs.Engine.{kinds_of}
 use Rattle.channel.specs.Layout.{row, count}
 use Rattle.halves.specs.declared.Planned.{Planned}

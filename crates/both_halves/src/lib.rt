@@ -4,7 +4,6 @@
 ghost use Rattle.std.specs.Prelude.{◌≡◌};
 ghost use Rattle.both_halves.specs.Engine.{accepted_plan};
 
-use answer::Outcome;
 use halves::Planned;
 
 // 1 to 11, and the plan of a frame that passes 1 to 8: nothing of it is worked out again.
@@ -13,7 +12,7 @@ pub fn plan_accepted(bw: u32, a: &[u8], b: &[u8]) -> Planned
 {
     let plan = first_half::plan_frame(bw, a, b);
     let planned = plan.outcome;
-    if let Outcome::Refuse(_) = planned {
+    if let Err(_) = planned {
         return plan;
     }
     let m = plan.fields1;

@@ -1,3 +1,2 @@
-pub mod Cut
-pub mod Halves
+pub mod Fronts
 pub mod Agree

@@ -2,11 +2,10 @@
 use mathlib.Core.Path.{◌≡◌, refl, sym, ◌∙◌, ap, ap₂, subst}
 use mathlib.Core.List.{List}
 use Prim.Native.Nat.{ℕ, suc, ◌+◌, ◌-◌, ◌*◌, ◌/◌, ◌%◌, ◌^◌, ◌≤◌, ◌<◌}
-use native.Mathlib.Decide.{dec_lt, ℕ_discrete}
+use native.Mathlib.Decide.{dec_lt}
 use native.Mathlib.Nat.{mod-eq_of_lt, zero-mod, div-eq_of_lt, zero-div}
 use native.Mathlib.Omega.{arith}
-use lib.ListN.{get_or, set, length, length-set, get_or-eq_default}
-use lib.Seq.{get_or-set_same, get_or-set_other}
+use lib.ListN.{length}
 use lib.Pow as P
 use Rattle.bits.specs.Bits.{bit, field, put, Small}
 use Rattle.bits.proofs.Bytes.{same_bits}
@@ -218,33 +217,3 @@ joined_word i held x w l h k =
     let c : 2 ^ (w + i % 8) ≤ 2 ^ 61 = P.pow_mono {i = w + i % 8} {j = 61} (omega arith) in
     let d : 2 ^ (i % 8) ≤ 2 ^ 7 = P.pow_mono {i = i % 8} {j = 7} (omega arith) in
     (ap (λ (v : ℕ). held + v) a, omega arith)
-
--- bytes from k up to j cleared: none, one more, all
-pub record Clearing (d : List ℕ) (k j : ℕ) (e : List ℕ) : Type 0 where
-  pub same_size : length e ≡ length d
-  pub kept : (i : ℕ) → i < k → get_or e i 0 ≡ get_or d i 0
-  pub gone : (i : ℕ) → k ≤ i → i < j → get_or e i 0 ≡ 0
-
-pub clearing_none : (d : List ℕ) (k : ℕ) → Clearing d k k d
-clearing_none d k = record { same_size = refl; kept = λ i l. refl; gone = λ i l m. absurd (omega arith) }
-
-pub clearing_next : (d : List ℕ) (k j : ℕ) (e : List ℕ) → Clearing d k j e → k ≤ j → j < length d → Clearing d k (j + 1) (set e j 0)
-clearing_next d k j e p l m = record {
-  same_size = length-set e j 0 ∙ p.same_size;
-  kept = λ i n. get_or-set_other e j i 0 0 (λ z. omega arith) ∙ p.kept i n;
-  gone = λ i n o. go i n o (ℕ_discrete i j);
-}
-  where
-    here : (i : ℕ) → i ≡ j → get_or (set e j 0) i 0 ≡ 0
-    here i z = rw z (get_or-set_same e j 0 0 (omega (arith, p.same_size)))
-
-    go : (i : ℕ) → k ≤ i → i < j + 1 → Dec (i ≡ j) → get_or (set e j 0) i 0 ≡ 0
-    go i n o (yes z) = here i z
-    go i n o (no z) = get_or-set_other e j i 0 0 z ∙ p.gone i n (omega arith)
-
-pub clearing_all : (d : List ℕ) (k j : ℕ) (e : List ℕ) → Clearing d k j e → length d ≤ j → ClearedFrom d k e
-clearing_all d k j e p l = record { same_length = p.same_size; before = p.kept; past = λ i m. go i m (dec_lt i j) }
-  where
-    go : (i : ℕ) → k ≤ i → Dec (i < j) → get_or e i 0 ≡ 0
-    go i m (yes n) = p.gone i m n
-    go i m (no n) = get_or-eq_default e 0 (omega (arith, p.same_size))

@@ -17,10 +17,8 @@ fn gather(row: &[u16], p: usize, n: usize) -> u64
     ensures { (result < 2 ^ (9 * n)) × (result ≡ gathered (λ k. at row.now (2 * k + p)) n) }
 {
     let mut x: u64 = 0;
-    let mut k: usize = 0;
-    while k < n {
-        x += ((row[2 * k + p] % 512) as u64) << (9 * k);
-        k += 1;
+    for k in 0..n {
+        x += u64::from(row[2 * k + p] % 512) << (9 * k);
     }
     x
 }
@@ -30,7 +28,7 @@ fn first_of(v: u32, row: &[u16], c: usize, n: usize) -> u64
     requires { (1 ≤ c) × (c ≤ 2) × (n ≤ 2) × (2 * n + c ≤ length row.now + 2) }
     ensures { (result < 2 ^ (17 + 9 * n)) × (result ≡ v % 2 ^ 17 + gathered (λ k. at row.now (position_in c k)) n * 2 ^ 17) }
 {
-    (v % 131072) as u64 + (gather(row, c - 1, n) << 17)
+    u64::from(v % 131072) + (gather(row, c - 1, n) << 17)
 }
 
 // A block of n bits with its check; its tail is zero.
@@ -38,7 +36,7 @@ fn sealed(x: u64, n: usize) -> u64
     requires { (n ≤ 54) × (x < 2 ^ n) }
     ensures { (result < 2 ^ (n + 4)) × (result ≡ sealed_of x n) }
 {
-    x + ((register::check_of(255, x, n) as u64) << n)
+    x + (u64::from(register::check_of(255, x, n)) << n)
 }
 
 // The first part of channel c's common field, with its check and tail.
@@ -125,7 +123,7 @@ fn pair_of(fields: &[u32], b: usize) -> u64
     requires { (b ≤ 36) × (2 * b + 1 < length fields.now) × Narrow fields.now }
     ensures { (result < 2 ^ 44) × (result ≡ at fields.now (2 * b) + at fields.now (2 * b + 1) * 2 ^ 22) }
 {
-    fields[2 * b] as u64 + ((fields[2 * b + 1] as u64) << 22)
+    u64::from(fields[2 * b]) + (u64::from(fields[2 * b + 1]) << 22)
 }
 
 // The User blocks of two fields.
@@ -138,11 +136,9 @@ fn put_pairs(d: &mut [u8], bw: u32, ten: u64, fields: &[u32]) -> u64
 {
     let m = fields.len() / 2;
     let mut h = ten;
-    let mut b: usize = 0;
-    while b < m {
+    for b in 0..m {
         let x = sealed(pair_of(fields, b), 44);
         h = push_pair(d, channel::block_bit(bw, b), h, x);
-        b += 1;
     }
     h
 }
@@ -159,7 +155,7 @@ fn put_blocks(d: &mut [u8], bw: u32, ten: u64, fields: &[u32])
     if n % 2 == 0 {
         return;
     }
-    let x = sealed(fields[n - 1] as u64, 22);
+    let x = sealed(u64::from(fields[n - 1]), 22);
     push(d, channel::block_bit(bw, n / 2), h, x, 32);
 }
 
@@ -167,11 +163,7 @@ fn clear_from(d: &mut [u8], from: usize)
     requires { from ≤ length d.old }
     ensures { ClearedFrom d.old from d.new }
 {
-    let mut k = from;
-    while k < d.len() {
-        d[k] = 0;
-        k += 1;
-    }
+    d[from..].fill(0);
 }
 
 // A channel of these parts and User fields in exactly its bytes, with padding of zeros.

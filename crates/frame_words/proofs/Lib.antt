@@ -6,3 +6,4 @@ pub mod Agree
 pub mod Determine
 pub mod Counted
 pub mod Below
+pub mod Fronts

@@ -1,13 +1,8 @@
 -- Engine: what the words of a frame are made from beside its bytes, its row and the formats of its positions. The contracts of the code cite
 -- it; nobody has to believe it.
-use Rattle.std.specs.Prelude.{◌≡◌, List, [], ◌∷◌, cond, ℕ, ◌-◌, ◌/◌, ◌%◌, ◌^◌, ◌<◌, eqb, ltb, length, get_or}
+use Rattle.std.specs.Prelude.{◌≡◌, List, cond, ℕ, ◌-◌, ◌/◌, ◌%◌, ◌^◌, ◌<◌, eqb, ltb, length, get_or}
 use Rattle.channel.specs.Layout.{subfields_in, value}
-use Rattle.words.specs.Words.{triple_word}
 use Rattle.frame_words.specs.Words.{position_in, shared_at, user_word_at}
-
--- data[2] to data[6], of a row of n positions
-abbrev pub triples : (ℕ → ℕ) → ℕ → List ℕ
-triples r n = triple_word r n 1 ∷ triple_word r n 4 ∷ triple_word r n 7 ∷ triple_word r n 10 ∷ triple_word r n 13 ∷ []
 
 -- the row r has channel c's values, of bytes s, at the channel's positions
 pub record Holds (bw c : ℕ) (s r : List ℕ) : Type 0 where

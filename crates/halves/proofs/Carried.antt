@@ -8,12 +8,13 @@ use native.Mathlib.Omega.{arith}
 use lib.ListN.{length, replicate}
 use Rattle.answer.proofs.Every.{every_at, all_every}
 use Rattle.answer.proofs.Order.{pass_left, pass_right, or_pass}
-use Rattle.answer.specs.declared.Outcome.TheVariants.{Pass}
+use Rattle.std.specs.Prelude.{Ok}
 use Rattle.resource.specs.Values.{carried}
 use Rattle.answer.specs.Lists.{at}
 use Rattle.answer.proofs.Lists.{get_d_filled}
 use Rattle.channel.specs.Layout.{positions, subfields_in, row_at, row, row_in16}
 use Rattle.channel.proofs.Laws.{place_1, place_2, positions_le, row_length, row_at_lem, row_even, row_odd, position_subfield}
+use Rattle.faults.specs.Checks.{not_carried}
 use Rattle.faults.proofs.Passing.{not_carried_pass, pass_not_carried}
 use Rattle.halves.specs.Table.{check6}
 use Rattle.halves.specs.Engine.{all_carried}
@@ -21,7 +22,7 @@ use Rattle.halves.proofs.Rows.{sixteen}
 
 module _ (bw : ℕ) (a b : List ℕ) (l : bw ≤ 4) where
   -- each channel's values are the row's
-  pub carried_passes : all_carried (row bw a b) ≡ true → check6 bw a b ≡ Pass
+  pub carried_passes : all_carried (row bw a b) ≡ true → check6 bw a b ≡ Ok tt
   unfolding all_carried check6
   carried_passes e =
       let h : (p : ℕ) → p < positions bw → carried (at (row bw a b) p) ≡ true =
@@ -31,7 +32,7 @@ module _ (bw : ℕ) (a b : List ℕ) (l : bw ≤ 4) where
       (pass_not_carried bw 2 b (λ k m. ap carried (sym (row_odd bw a b k (place_2 bw k l m))) ∙ h (2 * k + 1) (place_2 bw k l m)))
 
   -- what stands past the row does not matter
-  pub sixteen_passes : all_carried (row_in16 bw a b) ≡ true → check6 bw a b ≡ Pass
+  pub sixteen_passes : all_carried (row_in16 bw a b) ≡ true → check6 bw a b ≡ Ok tt
   unfolding all_carried
   sixteen_passes e =
       carried_passes
@@ -44,15 +45,15 @@ module _ (bw : ℕ) (a b : List ℕ) (l : bw ≤ 4) where
       ∙ every_at (λ p. carried (at (row_in16 bw a b) p)) (length (row_in16 bw a b)) e p (omega (arith, positions_le bw l, sixteen bw a b l))))
 
   -- and the row's values are the channels'
-  pub passes_carried : check6 bw a b ≡ Pass → all_carried (row bw a b) ≡ true
+  pub passes_carried : check6 bw a b ≡ Ok tt → all_carried (row bw a b) ≡ true
   unfolding all_carried check6
   passes_carried e = all_every (λ p. carried (at (row bw a b) p)) (length (row bw a b)) (λ p m. at_position p (omega (arith, row_length bw a b)))
     where
       even : (k : ℕ) → k < subfields_in bw 1 → carried (at (row bw a b) (2 * k)) ≡ true
-      even k m = ap carried (row_even bw a b k (place_1 bw k l m)) ∙ not_carried_pass bw 1 a (pass_left _ _ e) k m
+      even k m = ap carried (row_even bw a b k (place_1 bw k l m)) ∙ not_carried_pass bw 1 a (pass_left (not_carried bw 1 a) (not_carried bw 2 b) e) k m
 
       odd : (k : ℕ) → k < subfields_in bw 2 → carried (at (row bw a b) (2 * k + 1)) ≡ true
-      odd k m = ap carried (row_odd bw a b k (place_2 bw k l m)) ∙ not_carried_pass bw 2 b (pass_right _ _ e) k m
+      odd k m = ap carried (row_odd bw a b k (place_2 bw k l m)) ∙ not_carried_pass bw 2 b (pass_right (not_carried bw 1 a) (not_carried bw 2 b) e) k m
 
       at_position : (p : ℕ) → p < positions bw → carried (at (row bw a b) p) ≡ true
       at_position p m = go (ℕ_discrete (p % 2) 0) (position_subfield bw p l m)

@@ -8,7 +8,10 @@ use Rattle.answer.specs.Answer.{no}
 use Rattle.answer.proofs.Numbers.{Only, only_if, only_or, Gives, more}
 use Rattle.answer.proofs.Order.{refuse_if_lem}
 use Rattle.answer.specs.declared.Answer.{Answer}
-use Rattle.answer.specs.declared.Outcome.{Outcome}
+use Rattle.answer.specs.Answer.{Outcome}
+use Rattle.answer.specs.declared.Refusal.TheVariants.{UnknownBandwidth, NoPlan, OverEightFields, StationTwice}
+use Rattle.answer.specs.declared.Refusal.{Refusal}
+use Rattle.answer.specs.Answer.{answer_of}
 use Rattle.plan.specs.Answers.{segments}
 use Rattle.plan.specs.Worked.{is_held, at_most_eight, lowest_without, outcome7, outcome8}
 use Rattle.channel.specs.Layout.{row, count, user_at}
@@ -23,20 +26,20 @@ only_11 bw a b n m = record {
   number_is = λ x e.
       let j = first_repeated (station_of bw a b n) (n + m) in
       let r = refuse_if_lem (ltb j (n + m)) (station_place bw n j) x e in
-      sym (ap (λ (y : Answer). y.number) r.1) ∙ place_11 bw n j;
+      sym (ap (λ (y : Refusal). (answer_of y).number) r.1) ∙ place_11 bw n j;
 }
   where
-    place_11 : (bw n j : ℕ) → (station_place bw n j).number ≡ 11
+    place_11 : (bw n j : ℕ) → (answer_of (station_place bw n j)).number ≡ 11
     place_11 bw n j = go (ltb j n)
       where
-        go : (t : Bool) → (cond t (no 11 1 (user_at bw j)) (no 11 2 (user_at bw (j - n)))).number ≡ 11
+        go : (t : Bool) → (answer_of (cond t (StationTwice 1 (user_at bw j)) (StationTwice 2 (user_at bw (j - n))))).number ≡ 11
         go true = refl
         go false = refl
 
 module _ (bw : ℕ) (a b : List ℕ) where
   only_1 : Only 1 (check1 bw)
   unfolding check1
-  only_1 = only_if (ltb 4 bw) 1 0 0
+  only_1 = only_if (ltb 4 bw) UnknownBandwidth
 
   only_2 : Only 2 (check2 bw a b)
   unfolding check2
@@ -62,13 +65,13 @@ module _ (bw : ℕ) (a b : List ℕ) where
   unfolding check7 outcome7
   only_7 =
       let found = lowest_without (is_held (row bw a b)) (segments (row bw a b)) in
-      only_if (ltb found (segments (row bw a b))) 7 0 found
+      only_if (ltb found (segments (row bw a b))) (NoPlan found)
 
   only_8 : Only 8 (check8 bw a b)
   unfolding check8 outcome8
   only_8 =
       let found = lowest_without (at_most_eight (row bw a b)) (segments (row bw a b)) in
-      only_if (ltb found (segments (row bw a b))) 8 0 found
+      only_if (ltb found (segments (row bw a b))) (OverEightFields found)
 
   only_9 : Only 9 (check9 bw a b)
   unfolding check9

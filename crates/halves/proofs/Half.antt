@@ -7,11 +7,12 @@ use lib.ListN.{length}
 use Rattle.answer.specs.Answer.{◌or◌}
 use Rattle.answer.proofs.Order.{pass_left, pass_right, or_refuse, or_next}
 use Rattle.answer.specs.declared.Answer.{Answer}
-use Rattle.answer.specs.declared.Outcome.{Outcome}
-use Rattle.answer.specs.declared.Outcome.TheVariants.{Pass, Refuse}
+use Rattle.answer.specs.Answer.{Outcome}
+use Rattle.std.specs.Prelude.{Ok, Err}
 use Rattle.plan.specs.declared.Plan.{Plan}
 use Rattle.plan.specs.declared.Rest.{Rest}
 use Rattle.answer.specs.Lists.{at}
+use Rattle.answer.specs.declared.Refusal.{Refusal}
 use Rattle.kinds.specs.Fields as F
 use Rattle.plan.specs.Engine.{only_plan, plan_outcome, kinds_of, passed_plan, plan_of, with_kinds}
 use Rattle.kinds.specs.Fields.{fields_to}
@@ -26,8 +27,8 @@ use Rattle.halves.proofs.Counts.{count_1, count_2}
 
 -- of a frame that the first half passes
 pub record Made (bw : ℕ) (a b : List ℕ) (p : Planned) : Type 0 where
-  pub common : outcome6 bw a b ≡ Pass
-  pub laid : plan_outcome (row bw a b) ≡ Pass
+  pub common : outcome6 bw a b ≡ Ok tt
+  pub laid : plan_outcome (row bw a b) ≡ Ok tt
   pub the_row : p.row ≡ row_in16 bw a b
   pub the_kinds : p.kinds ≡ kinds_of (row bw a b)
   pub count1 : p.fields1 ≡ count bw 1 a
@@ -42,11 +43,11 @@ outcome_made e f = sym (ap (λ (p : Planned). p.outcome) e) ∙ f
 
 module _ (bw : ℕ) (a b : List ℕ) where
   -- the two ways through it: refused, planned
-  pub stopped : (o : Outcome) (x : Answer) → o ≡ outcome1to8 bw a b → o ≡ Refuse x → no_plan o ≡ planned_of bw a b
+  pub stopped : (o : Outcome) (x : Refusal) → o ≡ outcome1to8 bw a b → o ≡ Err x → no_plan o ≡ planned_of bw a b
   unfolding planned_of
   stopped o x e f = rw (sym e ∙ f, f)
 
-  pub planned : (r : List ℕ) (p : Plan) → outcome1to8 bw a b ≡ Pass → r ≡ row_in16 bw a b → p ≡ plan_of (row bw a b) → with_plan r p ≡ planned_of bw a b
+  pub planned : (r : List ℕ) (p : Plan) → outcome1to8 bw a b ≡ Ok tt → r ≡ row_in16 bw a b → p ≡ plan_of (row bw a b) → with_plan r p ≡ planned_of bw a b
   unfolding planned_of
   planned r p e er ep = rw (e, er, ep)
 
@@ -56,10 +57,10 @@ module _ (bw : ℕ) (a b : List ℕ) where
   planned_out = go (outcome6 bw a b or plan_outcome (row bw a b)) refl
     where
       go : (o : Outcome) → outcome6 bw a b or plan_outcome (row bw a b) ≡ o → (planned_at o (row_in16 bw a b) (plan_of (row bw a b))).outcome ≡ o
-      go Pass e = plan_outcome_lem (row bw a b) ∙ pass_right (outcome6 bw a b) _ e
-      go (Refuse x) e = refl
+      go (Ok u) e = plan_outcome_lem (row bw a b) ∙ pass_right (outcome6 bw a b) _ e
+      go (Err x) e = refl
 
-  made : outcome6 bw a b ≡ Pass → plan_outcome (row bw a b) ≡ Pass → Made bw a b (with_plan (row_in16 bw a b) (passed_plan (row bw a b)))
+  made : outcome6 bw a b ≡ Ok tt → plan_outcome (row bw a b) ≡ Ok tt → Made bw a b (with_plan (row_in16 bw a b) (passed_plan (row bw a b)))
   unfolding with_plan passed_plan
   made c d =
       let l : bw ≤ 4 = (common_pass bw a b c).known in
@@ -78,31 +79,31 @@ module _ (bw : ℕ) (a b : List ℕ) where
         formats = λ q k. shared_bit (row bw a b) q (rw m k);
       }
 
-  pub planned_pass : (planned_of bw a b).outcome ≡ Pass → Made bw a b (planned_of bw a b)
+  pub planned_pass : (planned_of bw a b).outcome ≡ Ok tt → Made bw a b (planned_of bw a b)
   unfolding planned_of outcome1to8
   planned_pass e =
       let f = sym planned_out ∙ e in
-      let c : outcome6 bw a b ≡ Pass = pass_left _ (plan_outcome (row bw a b)) f in
-      let d : plan_outcome (row bw a b) ≡ Pass = pass_right (outcome6 bw a b) _ f in
+      let c : outcome6 bw a b ≡ Ok tt = pass_left _ (plan_outcome (row bw a b)) f in
+      let d : plan_outcome (row bw a b) ≡ Ok tt = pass_right (outcome6 bw a b) _ f in
       rw (f, plan_passed (row bw a b) d) (made c d)
 
   -- the first half's refusals are the whole's ..
-  pub planned_refuse : (x : Answer) → (planned_of bw a b).outcome ≡ Refuse x → outcome11 bw a b ≡ Refuse x
+  pub planned_refuse : (x : Refusal) → (planned_of bw a b).outcome ≡ Err x → outcome11 bw a b ≡ Err x
   planned_refuse x e = outcome11_stages bw a b ∙ or_refuse _ (outcome9to11 bw a b) x (sym planned_out ∙ e)
 
   -- .. and where it passes, the second half's
-  pub planned_rest : (planned_of bw a b).outcome ≡ Pass → outcome11 bw a b ≡ outcome9to11 bw a b
+  pub planned_rest : (planned_of bw a b).outcome ≡ Ok tt → outcome11 bw a b ≡ outcome9to11 bw a b
   planned_rest e = outcome11_stages bw a b ∙ or_next _ (outcome9to11 bw a b) (sym planned_out ∙ e)
 
   -- what a result of the first half that passes is
-  pub planned_made : (p : Planned) → p ≡ planned_of bw a b → p.outcome ≡ Pass → Made bw a b p
+  pub planned_made : (p : Planned) → p ≡ planned_of bw a b → p.outcome ≡ Ok tt → Made bw a b p
   planned_made p e f = rw e (planned_pass (outcome_made e f))
 
 -- ---- in room that is lent
 module _ (bw : ℕ) (a b : List ℕ) (x : Rest) (r k : List ℕ) (w : Plans bw a b x r k) where
   -- it is the first half's result as a value
-  pub lent_plan : x.outcome ≡ Pass → with_plan r (with_kinds x k) ≡ planned_of bw a b
+  pub lent_plan : x.outcome ≡ Ok tt → with_plan r (with_kinds x k) ≡ planned_of bw a b
   lent_plan e = planned bw a b r (with_kinds x k) (sym w.answers ∙ e) (w.the_row e) (w.the_plan e)
 
-  pub lent_stops : (y : Answer) → x.outcome ≡ Refuse y → no_plan x.outcome ≡ planned_of bw a b
+  pub lent_stops : (y : Refusal) → x.outcome ≡ Err y → no_plan x.outcome ≡ planned_of bw a b
   lent_stops y e = stopped bw a b x.outcome y w.answers e

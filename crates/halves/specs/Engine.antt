@@ -3,8 +3,8 @@
 use Rattle.std.specs.Prelude.{◌≡◌, Bool, true, List, ℕ, ◌*◌, ◌≤◌, length, replicate}
 use Rattle.answer.specs.Answer.{◌or◌}
 use Rattle.answer.specs.Every.{every}
-use Rattle.answer.specs.declared.Outcome.{Outcome}
-use Rattle.answer.specs.declared.Outcome.TheVariants.{Pass, Refuse}
+use Rattle.answer.specs.Answer.{Outcome}
+use Rattle.std.specs.Prelude.{Ok, Err}
 use Rattle.resource.specs.Values.{carried}
 use Rattle.plan.specs.declared.Plan.{Plan}
 use Rattle.plan.specs.declared.Rest.{Rest}
@@ -42,8 +42,8 @@ pub record Whole (bw : ℕ) (a b : List ℕ) : Type 0 where
 
 -- channels whose every check and tail is right: all that 4 and 10 ask
 pub record Sealed (bw : ℕ) (a b : List ℕ) : Type 0 where
-  pub common_sealed : check4 bw a b ≡ Pass
-  pub users_sealed : check10 bw a b ≡ Pass
+  pub common_sealed : check4 bw a b ≡ Ok tt
+  pub users_sealed : check10 bw a b ≡ Ok tt
 
 -- every value of the row is one that 01 lists
 unfoldable pub all_carried : List ℕ → Bool
@@ -60,8 +60,8 @@ with_plan row p =
 
 -- a refusal has no plan
 abbrev pub planned_at : Outcome → List ℕ → Plan → Planned
-planned_at Pass row p = with_plan row p
-planned_at (Refuse x) row p = no_plan (Refuse x)
+planned_at (Ok u) row p = with_plan row p
+planned_at (Err x) row p = no_plan (Err x)
 
 -- 1 to 8
 unfoldable pub outcome1to8 : ℕ → List ℕ → List ℕ → Outcome
@@ -73,5 +73,5 @@ planned_of bw a b = planned_at (outcome1to8 bw a b) (row_in16 bw a b) (plan_of (
 -- the rest of it, and what lies in the room that is lent: 1 to 8, and of a frame that passes them its row and the row's plan
 pub record Plans (bw : ℕ) (a b : List ℕ) (x : Rest) (r kinds : List ℕ) : Type 0 where
   pub answers : x.outcome ≡ outcome1to8 bw a b
-  pub the_row : x.outcome ≡ Pass → r ≡ row_in16 bw a b
-  pub the_plan : x.outcome ≡ Pass → with_kinds x kinds ≡ plan_of (row bw a b)
+  pub the_row : x.outcome ≡ Ok tt → r ≡ row_in16 bw a b
+  pub the_plan : x.outcome ≡ Ok tt → with_kinds x kinds ≡ plan_of (row bw a b)

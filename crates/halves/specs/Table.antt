@@ -6,7 +6,8 @@
 use Rattle.std.specs.Prelude.{List, [], ◌∷◌, ℕ, ltb}
 use Rattle.answer.specs.Answer.{no, refuse_if, ◌or◌}
 use Rattle.answer.specs.Order.{first_of}
-use Rattle.answer.specs.declared.Outcome.{Outcome}
+use Rattle.answer.specs.Answer.{Outcome}
+use Rattle.answer.specs.declared.Refusal.TheVariants.{UnknownBandwidth}
 use Rattle.plan.specs.Worked.{outcome7, outcome8}
 use Rattle.channel.specs.Layout.{row, count}
 use Rattle.faults.specs.Checks.{too_long, cut_common, wrong_common, overflow_differs, not_carried, cut_users, wrong_users}
@@ -14,7 +15,7 @@ use Rattle.stations.specs.Stations.{station_twice}
 
 -- "1 | bandwidth code above 4 | 0, 0"
 unfoldable pub check1 : ℕ → Outcome
-check1 bw = refuse_if (ltb 4 bw) (no 1 0 0)
+check1 bw = refuse_if (ltb 4 bw) UnknownBandwidth
 
 -- "2 | a channel over 512 bytes, or channel 2 not empty at 20 MHz | that channel, 0"
 unfoldable pub check2 : ℕ → List ℕ → List ℕ → Outcome

@@ -2,12 +2,12 @@
 // (proofs/).
 #![tactic(auto)]
 
-use answer::Outcome;
+use answer::Refusal;
 
 // What the first half tells of a frame: the outcome of 1 to 8 and, where it passes, its row, 0 past it, and the row's plan.
 #[derive(Clone, Copy)]
 pub struct Planned {
-    pub outcome: Outcome,
+    pub outcome: Result<(), Refusal>,
     pub row: [u16; 16],
     pub kinds: [u16; 16],
     pub shared: u32,

@@ -4,6 +4,7 @@
 ghost use Rattle.std.specs.Prelude.{◌≡◌, ◌<◌};
 ghost use Rattle.header_values.specs.Header.{known, ltf_size_of, gi_of};
 
+#[tactic(auto, unfolding(crate::specs::Header::known))]
 pub fn known_word(bw: u32) -> u32
     ensures { result ≡ known bw }
 {

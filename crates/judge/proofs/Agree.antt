@@ -1,6 +1,7 @@
 -- Any two verdicts that the contracts of the public functions allow for one input agree.
 use mathlib.Core.Path.{◌≡◌, refl, sym, ◌∙◌}
 use mathlib.Core.Bool.{Bool, true, false}
+use Rattle.std.specs.Prelude.{is_some}
 use Rattle.answer.specs.Decides.{Decides}
 use Rattle.judge.proofs.take_row.Reads as take_row
 use Rattle.judge.proofs.judge.Reads as judge
@@ -15,5 +16,5 @@ same_test false false p q = refl
 pub take_row_agrees : (κs : _) (a : _) (r r' : _) (s s' : _) → take_row.Post κs a r s → take_row.Post κs a r' s' → r ≡ r'
 take_row_agrees κs a r r' s s' p q = same_test r r' p.0 q.0
 
-pub judge_agrees : (κs : _) (a : _) (r r' : _) (s s' : _) → judge.Post κs a r s → judge.Post κs a r' s' → r.told ≡ r'.told
+pub judge_agrees : (κs : _) (a : _) (r r' : _) (s s' : _) → judge.Post κs a r s → judge.Post κs a r' s' → is_some r ≡ is_some r'
 judge_agrees κs a r r' s s' p q = p.0 ∙ sym q.0

@@ -11,7 +11,7 @@ use lib.ListN.{length}
 use Rattle.answer.specs.Decides.{Decides}
 use Rattle.answer.specs.Every.{every}
 use Rattle.answer.specs.Lists.{at}
-use Rattle.answer.specs.declared.Outcome.TheVariants.{Pass}
+use Rattle.std.specs.Prelude.{Ok}
 use Rattle.answer.proofs.Every.{every_at, all_every, every_cong}
 use Rattle.kinds.specs.Fields.{fields_to}
 use Rattle.plan.specs.declared.Plan.{Plan}
@@ -160,7 +160,7 @@ module _ (bw : ℕ) (w : List ℕ) (l : bw ≤ 4) where
     pub most_2 : p.fields2 ≤ 72
     pub says_formats : Formats r p.shared
 
-  pub plan_says : (r : List ℕ) (p : Plan) → r ≡ row_in bw w → p ≡ plan_of r → p.outcome ≡ Pass → PlanSays r p
+  pub plan_says : (r : List ℕ) (p : Plan) → r ≡ row_in bw w → p ≡ plan_of r → p.outcome ≡ Ok tt → PlanSays r p
   unfolding passed_plan
   plan_says r p e f o =
       let a = candidate bw w 1 in

@@ -4,5 +4,5 @@ pub mod Words
 pub mod Sealed
 pub mod Steps
 pub mod Formats
-pub mod Told
+pub mod Decided
 pub mod Marks

@@ -1,15 +1,20 @@
 -- The repeat check by a mark for each STA-ID that may not stand again.
-use Prim.Native.Nat.{ℕ, zero, suc, ◌+◌, ◌<◌}
+use Prim.Native.Nat.{ℕ, zero, suc, ◌+◌, ◌-◌, ◌/◌, ◌%◌, ◌<◌}
 use mathlib.Core.Path.{◌≡◌, refl, sym, ◌∙◌, ap}
 use mathlib.Core.Bool.{Bool, true, false, cond, ◌&&◌}
 use mathlib.Core.List.{List}
 use native.Mathlib.Decide.{ℕ_discrete}
 use lib.Dec.{eqb, ltb, leb}
-use lib.ListN.{length, get_or, set, replicate}
-use lib.Seq.{get_or-set_same, get_or-set_other}
+use lib.ListN.{length, get_or, take, drop, set, replicate}
+use Rattle.std.proofs.lemmas.List.{get_or-drop, length-drop}
+use lib.Seq.{take-length, get_or-set_same, get_or-set_other}
 use borrow.Author.Tests.{eq-eqb, ne_eqb}
 use Rattle.answer.specs.Least.{least}
+use Rattle.answer.specs.Lists.{at}
 use Rattle.stations.specs.Stations.{repeated}
+use Rattle.stations.specs.Engine.{any_repeated, station_from}
+use Rattle.stations.proofs.Gathered.{any_cong}
+use Rattle.judge.specs.Engine.{station_on}
 use Rattle.stations.proofs.Kept.{among, among_next}
 
 -- a mark where a STA-ID may not stand again and is one of the first j
@@ -60,3 +65,11 @@ noted_more id marks j y e b f = record { noted = λ x l. go x l (ℕ_discrete x 
 -- a marked one was seen before
 pub noted_seen : (id : ℕ → ℕ) (marks : List Bool) (j x : ℕ) → x ≡ id j → x < 2048 → Noted id marks j → get_or marks x false ≡ repeated id j
 noted_seen id marks j x e l f = f.noted x l ∙ ap (λ (z : ℕ). (ltb 0 z && leb z 2006) && among id j z) e
+
+-- a STA-ID stands from bit 8 of its word on
+pub from_word : (w : List ℕ) (t : ℕ) → any_repeated (station_from 8 (take (length w - 10) (drop 10 w))) t ≡ any_repeated (station_on w) t
+unfolding station_from station_on
+from_word w t =
+    any_cong _ _ t
+    (λ k l. ap (λ (x : ℕ). x / 256 % 2048)
+    (ap (λ (n : ℕ). at (take n (drop 10 w)) k) (sym (length-drop 10 w)) ∙ ap (λ (v : List ℕ). at v k) (take-length (drop 10 w)) ∙ get_or-drop 10 w k 0))

@@ -5,7 +5,7 @@ use mathlib.Core.List.{List}
 use Prim.Native.Nat.{ℕ, ◌<◌}
 use native.Mathlib.Nat.{mod-eq_of_lt}
 use native.Mathlib.Omega.{arith}
-use Rattle.answer.specs.declared.Outcome.TheVariants.{Pass}
+use Rattle.std.specs.Prelude.{Ok}
 use Rattle.answer.proofs.Order.{or_pass}
 use Rattle.block.specs.Check.{Right}
 use Rattle.resource.specs.Values.{fields_of}
@@ -35,7 +35,7 @@ module _ (bw : ℕ) (w : List ℕ) (c : ℕ) (h : present bw c ≡ true → Hold
       ((candidate_carries bw w c (h p)).the_value k (rw (all_subfields bw w c (h p)) at l)
       ∙ mod-eq_of_lt (value_of_lt w (position_in c k))))
 
-  pass_4 : wrong_common bw c s ≡ Pass
+  pass_4 : wrong_common bw c s ≡ Ok tt
   pass_4 = pass_wrong_common bw c s (λ p. (candidate_carries bw w c (h p)).common_right)
 
   -- a block is of a channel that is there
@@ -44,7 +44,7 @@ module _ (bw : ℕ) (w : List ℕ) (c : ℕ) (h : present bw c ≡ true → Hold
       let p = present_count bw c s (unfold blocks in omega arith) in
       subst (λ (n : ℕ). b < blocks n → Right s (block_at bw b) (covered n b)) (sym (the_count p)) ((candidate_carries bw w c (h p)).block_right b) l
 
-  pass_10 : wrong_users bw c s ≡ Pass
+  pass_10 : wrong_users bw c s ≡ Ok tt
   pass_10 = pass_wrong_users bw c s block_right
 
 pub candidate_sealed : (bw : ℕ) (w : List ℕ) → Sealed bw (candidate bw w 1) (candidate bw w 2)

@@ -1,9 +1,9 @@
 -- Engine: the test of 13, of the candidate's channels and as the code makes it, of the words as they stand. The contracts of the code cite it;
 -- nobody has to believe it: `writer/proofs/Candidate.antt` (`reads_to_says`, `says_reads_to`), `writer/proofs/Worked.antt`, and for the words
--- `proofs/Told.antt` (`told-reads`, `reads_told`).
+-- `proofs/Decided.antt` (`told-reads`, `reads_told`).
 use Rattle.std.specs.Prelude.{◌≡◌, Bool, true, false, cond, not, ◌&&◌, List, ℕ, ◌+◌, ◌*◌, ◌/◌, ◌%◌, ◌^◌, ◌≤◌, ◌<◌, eqb, ltb, length}
 use Rattle.answer.specs.Answer.{passes}
-use Rattle.answer.specs.declared.Outcome.TheVariants.{Pass}
+use Rattle.std.specs.Prelude.{Ok}
 use Rattle.answer.specs.Least.{least}
 use Rattle.answer.specs.Lists.{build, at}
 use Rattle.register.specs.Engine.{check_from}
@@ -99,6 +99,6 @@ pub record Told (bw : ℕ) (w : List ℕ) : Type 0 where
   pub counted : length w ≡ 10 + (count_in bw w 1 + count_in bw w 2)
   pub the_header : Header bw (positions bw) w
   pub checked : Checked bw w
-  pub laid : plan_outcome (row_in bw w) ≡ Pass
+  pub laid : plan_outcome (row_in bw w) ≡ Ok tt
   pub users : Formatted bw w
   pub once : any_repeated (station_on w) (count_in bw w 1 + count_in bw w 2) ≡ false

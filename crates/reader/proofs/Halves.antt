@@ -1,13 +1,14 @@
 -- The reading from its two halves.
 use mathlib.Core.Path.{◌≡◌, sym, ◌∙◌, ap}
-use mathlib.Core.List.{List, ◌++◌}
+use mathlib.Core.List.{List}
 use Prim.Native.Nat.{ℕ, ◌≤◌}
-use lib.ListN.{length, drop}
+use lib.ListN.{length}
 use Rattle.answer.specs.Answer.{answer_at, after}
 use Rattle.answer.proofs.Order.{pass_left, pass_right}
 use Rattle.answer.specs.declared.Answer.{Answer}
-use Rattle.answer.specs.declared.Outcome.{Outcome}
-use Rattle.answer.specs.declared.Outcome.TheVariants.{Pass, Refuse}
+use Rattle.answer.specs.Answer.{Outcome}
+use Rattle.answer.specs.declared.Refusal.{Refusal}
+use Rattle.std.specs.Prelude.{Ok, Err}
 use Rattle.channel.specs.Layout.{row}
 use Rattle.channel.proofs.Laws.{row_length}
 use Rattle.plan.specs.declared.Rest.{Rest}
@@ -18,7 +19,8 @@ use Rattle.halves.proofs.Half.{Made, planned_out, planned_made, planned_refuse, 
 use Rattle.halves.proofs.Rows.{sixteen}
 use Rattle.frame_words.specs.Words.{word_count, words_of}
 use Rattle.reader.specs.Table.{check12, read_outcome}
-use Rattle.reader.specs.Result.{read_answer, words_after}
+use Rattle.word_bytes.specs.Lent.{puts}
+use Rattle.reader.specs.Result.{read_answer, put_after}
 use Rattle.reader.specs.Engine.{Planned8, users_outcome, users_answer, users_after}
 use Rattle.reader.proofs.Stages.{reading_stopped, reading_rest, room_pass}
 
@@ -28,10 +30,10 @@ module _ (bw : ℕ) (a b : List ℕ) {x : Rest} {r k : List ℕ} (w : Plans bw a
   out f = planned_out bw a b ∙ unfold outcome1to8 in (sym w.answers ∙ f)
 
   -- refused by the first
-  pub first_refuses : (room : ℕ) (y : Answer) → x.outcome ≡ Refuse y → read_outcome bw a b room ≡ Refuse y
+  pub first_refuses : (room : ℕ) (y : Refusal) → x.outcome ≡ Err y → read_outcome bw a b room ≡ Err y
   first_refuses room y f = reading_stopped bw a b room y (planned_refuse bw a b y (out f))
 
-  module _ (f : x.outcome ≡ Pass) where
+  module _ (f : x.outcome ≡ Ok tt) where
     -- the second's, where the first passes
     pub second_says : (room : ℕ) → read_outcome bw a b room ≡ users_outcome bw a b room
     second_says room = reading_rest bw a b room (planned_rest bw a b (out f))
@@ -40,9 +42,9 @@ module _ (bw : ℕ) (a b : List ℕ) {x : Rest} {r k : List ℕ} (w : Plans bw a
     unfolding users_answer read_answer
     second_answers room = ap (λ (o : Outcome). answer_at o (word_count bw a b)) (sym (second_says room))
 
-    pub second_writes : (d : List ℕ) → users_after bw a b d ≡ words_after bw a b d
-    unfolding users_after words_after
-    second_writes d = ap (λ (o : Outcome). after o (words_of bw a b ++ drop (word_count bw a b) d) d) (sym (second_says (length d)))
+    pub second_writes : (put : List ℕ → ℕ → ℕ → List ℕ) (room : ℕ) (w : List ℕ) → users_after put bw a b room w ≡ put_after put bw a b room w
+    unfolding users_after put_after
+    second_writes put room w = ap (λ (o : Outcome). after o (puts put w 0 (words_of bw a b)) w) (sym (second_says room))
 
     made : Made bw a b (with_plan r (with_kinds x k))
     unfolding with_plan with_kinds
@@ -72,8 +74,8 @@ module _ (bw : ℕ) (a b : List ℕ) {x : Rest} {r k : List ℕ} (w : Plans bw a
         }
 
 -- what passing 9 to 12 says: 9 to 11 pass, and there is room enough
-pub users_pass : (bw : ℕ) (a b : List ℕ) (room : ℕ) → users_outcome bw a b room ≡ Pass → outcome9to11 bw a b ≡ Pass
+pub users_pass : (bw : ℕ) (a b : List ℕ) (room : ℕ) → users_outcome bw a b room ≡ Ok tt → outcome9to11 bw a b ≡ Ok tt
 users_pass bw a b room e = pass_left (outcome9to11 bw a b) (check12 bw a b room) e
 
-pub room_enough : (bw : ℕ) (a b : List ℕ) (room : ℕ) → users_outcome bw a b room ≡ Pass → word_count bw a b ≤ room
+pub room_enough : (bw : ℕ) (a b : List ℕ) (room : ℕ) → users_outcome bw a b room ≡ Ok tt → word_count bw a b ≤ room
 room_enough bw a b room e = room_pass bw a b room (pass_right (outcome9to11 bw a b) (check12 bw a b room) e)

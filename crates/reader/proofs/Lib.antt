@@ -3,3 +3,5 @@ pub mod Agree
 pub mod Exactly
 pub mod Padding
 pub mod Stages
+pub mod Cut
+pub mod Fronts

@@ -12,7 +12,7 @@ use borrow.Author.Tests.{lt-ltb, le-ltb, ltb-false}
 use Rattle.answer.specs.Answer.{refuse_if}
 use Rattle.answer.specs.Least.{least}
 use Rattle.answer.specs.Lists.{build}
-use Rattle.answer.specs.declared.Outcome.TheVariants.{Pass}
+use Rattle.std.specs.Prelude.{Ok}
 use Rattle.answer.proofs.First.{first_pass}
 use Rattle.answer.proofs.Order.{pass_if, or_pass}
 use Rattle.answer.proofs.Least.{least_cong}
@@ -43,13 +43,13 @@ alike {bw} {c} {s} {t} o = alike_of bw c s t (to_end o)
 
 -- ---- a channel by itself
 
-pass_2 : {bw c : ℕ} {s t : List ℕ} → Other bw c s t → too_long bw c t ≡ Pass
+pass_2 : {bw c : ℕ} {s t : List ℕ} → Other bw c s t → too_long bw c t ≡ Ok tt
 pass_2 {bw} {c} {s} {t} o = pass_too_long bw c t o.short o.empty
 
-pass_3 : {bw c : ℕ} {s t : List ℕ} → Other bw c s t → cut_common bw c t ≡ Pass
+pass_3 : {bw c : ℕ} {s t : List ℕ} → Other bw c s t → cut_common bw c t ≡ Ok tt
 pass_3 {bw} {c} {s} {t} o = pass_cut_common bw c t (λ p. omega (arith, o.reach p, end_after bw (count bw c s)))
 
-pass_9 : {bw c : ℕ} {s t : List ℕ} → Other bw c s t → cut_users bw c t ≡ Pass
+pass_9 : {bw c : ℕ} {s t : List ℕ} → Other bw c s t → cut_users bw c t ≡ Ok tt
 pass_9 {bw} {c} {s} {t} o =
     let e = count_same bw c s t (alike o) in
     pass_cut_users bw c t (λ l. rw (← e) (o.reach (present_count bw c s (omega arith))))
@@ -141,7 +141,7 @@ join e f g = cc
 -- ---- the theorem
 
 module _ {bw : ℕ} {a b a' b' : List ℕ} (n : Nine bw a b) (h : Agree bw a b a' b') where
-  pass_of : (k : ℕ) → get_or (take 9 (checks11 bw a b)) k Pass ≡ Pass
+  pass_of : (k : ℕ) → get_or (take 9 (checks11 bw a b)) k (Ok tt) ≡ Ok tt
   pass_of = first_pass (take 9 (checks11 bw a b)) n.passed
 
   pub known_bandwidth : bw ≤ 4

@@ -1,13 +1,14 @@
 -- Engine: what the first half of a reading hands to the second, and what this answers and leaves in the lent words. The contracts of the code
 -- cite it; nobody has to believe it: `proofs/Halves.antt`.
-use Rattle.std.specs.Prelude.{◌≡◌, List, ◌++◌, ℕ, ◌≤◌, length, drop}
+use Rattle.std.specs.Prelude.{◌≡◌, List, ℕ, ◌≤◌, length}
 use Rattle.answer.specs.Answer.{◌or◌, answer_at, after}
 use Rattle.answer.specs.declared.Answer.{Answer}
-use Rattle.answer.specs.declared.Outcome.{Outcome}
+use Rattle.answer.specs.Answer.{Outcome}
 use Rattle.channel.specs.Layout.{row, count}
 use Rattle.halves.specs.Engine.{AtMost512, outcome9to11}
 use Rattle.frame_words.specs.Words.{word_count, words_of}
 use Rattle.frame_words.specs.Engine.{Formats}
+use Rattle.word_bytes.specs.Lent.{puts}
 use Rattle.reader.specs.Table.{check12}
 
 -- of a frame that passes 1 to 8: its row, the formats of its positions and its numbers of fields
@@ -28,5 +29,5 @@ users_outcome bw a b room = outcome9to11 bw a b or check12 bw a b room
 unfoldable pub users_answer : ℕ → List ℕ → List ℕ → ℕ → Answer
 users_answer bw a b room = answer_at (users_outcome bw a b room) (word_count bw a b)
 
-unfoldable pub users_after : ℕ → List ℕ → List ℕ → List ℕ → List ℕ
-users_after bw a b w = after (users_outcome bw a b (length w)) (words_of bw a b ++ drop (word_count bw a b) w) w
+unfoldable pub users_after : (List ℕ → ℕ → ℕ → List ℕ) → ℕ → List ℕ → List ℕ → ℕ → List ℕ → List ℕ
+users_after put bw a b room w = after (users_outcome bw a b room) (puts put w 0 (words_of bw a b)) w

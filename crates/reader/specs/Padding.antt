@@ -2,7 +2,7 @@
 -- below them get the same answer and the same words.
 use Rattle.std.specs.Prelude.{◌≡◌, true, false, List, ℕ, ◌*◌, ◌≤◌, length, take}
 use Rattle.answer.specs.Order.{first_of}
-use Rattle.answer.specs.declared.Outcome.TheVariants.{Pass}
+use Rattle.std.specs.Prelude.{Ok}
 use Rattle.bits.specs.Bits.{Same}
 use Rattle.channel.specs.Layout.{present, count, end_of}
 use Rattle.halves.specs.Table.{checks11}
@@ -21,4 +21,4 @@ pub record Agree (bw : ℕ) (a b a' b' : List ℕ) : Type 0 where
 
 -- a, b get none of 1 to 9
 pub record Nine (bw : ℕ) (a b : List ℕ) : Type 0 where
-  pub passed : first_of (take 9 (checks11 bw a b)) ≡ Pass
+  pub passed : first_of (take 9 (checks11 bw a b)) ≡ Ok tt

@@ -2,13 +2,14 @@
 use Rattle.std.specs.Prelude.{List, [], ◌∷◌, ◌++◌, ℕ, ltb}
 use Rattle.answer.specs.Answer.{no, refuse_if}
 use Rattle.answer.specs.Order.{first_of}
-use Rattle.answer.specs.declared.Outcome.{Outcome}
+use Rattle.answer.specs.Answer.{Outcome}
+use Rattle.answer.specs.declared.Refusal.TheVariants.{TooFewWords}
 use Rattle.halves.specs.Table.{checks11}
 use Rattle.frame_words.specs.Words.{word_count}
 
 -- "12 | fewer words lent than 10 plus fields | 0, words needed"
 unfoldable pub no_room : ℕ → ℕ → Outcome
-no_room need room = refuse_if (ltb room need) (no 12 0 need)
+no_room need room = refuse_if (ltb room need) (TooFewWords need)
 
 unfoldable pub check12 : ℕ → List ℕ → List ℕ → ℕ → Outcome
 check12 bw a b room = no_room (word_count bw a b) room

@@ -9,10 +9,11 @@ use lib.ListN.{length, take, drop}
 use borrow.Author.Tests.{ltb-true, ltb-false, le-ltb, lt-leb, not-false}
 use Rattle.answer.specs.Answer.{no, refuse_if, ◌or◌, answer_at}
 use Rattle.answer.specs.declared.Answer.{Answer}
-use Rattle.answer.specs.declared.Outcome.TheVariants.{Pass}
+use Rattle.std.specs.Prelude.{Ok}
 use Rattle.answer.specs.Lists.{at}
 use Rattle.answer.proofs.Lists.{build_is, take_filled, drop_filled}
 use Rattle.answer.proofs.Order.{pass_if, if_pass, or_pass}
+use Rattle.answer.specs.declared.Refusal.TheVariants.{NoSuchStreams, BufferTooShort}
 use Rattle.stream_rows.specs.Rows.{Listed, row_in, Counted, Configures}
 use Rattle.stream_rows.specs.Worked.{the_rows, is_listed}
 use Rattle.stream_rows.specs.Result.{not2to8, no_row, no_row_room, row_outcome, row_answer, row_after, not_row, number_of, number_answer}
@@ -26,13 +27,13 @@ from_2_to_8 : (users : ℕ) → 2 ≤ users → users ≤ 8 → not2to8 users �
 from_2_to_8 users l m = rw (le-ltb users 2 l, le-ltb 8 users m)
 
 -- ---- a number
-pub row_outcome_lem : (users number n : ℕ) → RowPassed users number n → row_outcome users number n ≡ Pass
+pub row_outcome_lem : (users number n : ℕ) → RowPassed users number n → row_outcome users number n ≡ Ok tt
 unfolding row_outcome no_row no_row_room
 row_outcome_lem users number n p =
     or_pass _ _
-    (if_pass (not2to8 users || leb (length (the_rows users)) number) (no 21 0 0)
+    (if_pass (not2to8 users || leb (length (the_rows users)) number) NoSuchStreams
     (rw (from_2_to_8 users p.from_2 p.to_8) (lt-leb (length (the_rows users)) number p.numbered)))
-    (if_pass (ltb n users) (no 23 0 users) (le-ltb n users p.room))
+    (if_pass (ltb n users) (BufferTooShort users) (le-ltb n users p.room))
 
 -- accepted exactly where the users are 2 to 8, the number is that of a row and there is room
 pub row_accepted : (users number n : ℕ) → (row_answer users number n).number ≡ 0 → RowPassed users number n
@@ -64,10 +65,10 @@ pub record NumberPassed (row : List ℕ) : Type 0 where
   pub to_8 : length row ≤ 8
   pub listed : Listed (length row) row
 
-number_pass : (row : List ℕ) → not_row row ≡ Pass → NumberPassed row
+number_pass : (row : List ℕ) → not_row row ≡ Ok tt → NumberPassed row
 unfolding not_row
 number_pass row e =
-    let t = pass_if (not2to8 (length row) || not (is_listed row)) (no 21 0 0) e in
+    let t = pass_if (not2to8 (length row) || not (is_listed row)) NoSuchStreams e in
     let u = up_to_8 (length row) (neither_left _ (not (is_listed row)) t) in
     record {
       from_2 = u.0;
@@ -75,10 +76,10 @@ number_pass row e =
       listed = (is_listed_lem row).yes (not-false (is_listed row) (neither_right (not2to8 (length row)) _ t));
     }
 
-pass_number : (row : List ℕ) → NumberPassed row → not_row row ≡ Pass
+pass_number : (row : List ℕ) → NumberPassed row → not_row row ≡ Ok tt
 unfolding not_row
 pass_number row p =
-    if_pass (not2to8 (length row) || not (is_listed row)) (no 21 0 0)
+    if_pass (not2to8 (length row) || not (is_listed row)) NoSuchStreams
     (rw (from_2_to_8 (length row) p.from_2 p.to_8, yes_true (is_listed row) (λ e. (is_listed_lem row).no e p.listed)))
   where
     yes_true : (t : Bool) → (t ≡ false → ⊥) → t ≡ true
@@ -116,7 +117,7 @@ number_configured row z =
 -- 21, of users from 2 to 8: "a number past the last row"
 pub row_21 : (users number n : ℕ) (rows : List (List ℕ)) → (row_answer users number n).number ≡ 21 → 2 ≤ users → users ≤ 8 → Counted users rows
     → length rows ≤ number
-unfolding row_answer row_outcome no_row no_row_room ◌or◌
+unfolding row_answer row_outcome no_row no_row_room
 row_21 users number n rows z l m c = go (ltb number (length rows)) (ltb n users) refl refl
   where
     go : (b t : Bool) → ltb number (length rows) ≡ b → ltb n users ≡ t → length rows ≤ number
@@ -124,11 +125,11 @@ row_21 users number n rows z l m c = go (ltb number (length rows)) (ltb n users)
     go true t h e =
         let s : rows ≡ the_rows users = only_one c (counted users) in
         let k : number < length (the_rows users) = rw s at (ltb-true number (length rows) h) in
-        let f : (row_answer users number n).number ≡ (answer_at (refuse_if t (no 23 0 users)) users).number =
+        let f : (row_answer users number n).number ≡ (answer_at (refuse_if t (BufferTooShort users)) users).number =
         rw (from_2_to_8 users l m, lt-leb (length (the_rows users)) number k, e) in
         absurd (other t (sym f ∙ z))
       where
-        other : (t : Bool) → (answer_at (refuse_if t (no 23 0 users)) users).number ≡ 21 → ⊥
+        other : (t : Bool) → (answer_at (refuse_if t (BufferTooShort users)) users).number ≡ 21 → ⊥
         other true e = omega arith
         other false e = omega arith
 

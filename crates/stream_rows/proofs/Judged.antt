@@ -8,13 +8,14 @@ use lib.Dec.{ltb, leb}
 use lib.ListN.{length}
 use borrow.Author.Tests.{ltb-false, leb-false}
 use Rattle.answer.specs.declared.Answer.{Answer}
-use Rattle.answer.specs.declared.Outcome.TheVariants.{Pass}
+use Rattle.std.specs.Prelude.{Ok}
 use Rattle.answer.specs.Answer.{no}
 use Rattle.answer.specs.Lists.{at, filled}
 use Rattle.answer.specs.Order.{first_of, Judged}
 use Rattle.answer.proofs.First.{first_chain}
 use Rattle.answer.proofs.Numbers.{only_if, Gives, distinct, absent, judged, none, more}
 use Rattle.answer.proofs.Order.{after_answered, pass_if, pass_left, pass_right}
+use Rattle.answer.specs.declared.Refusal.TheVariants.{NoSuchStreams, BufferTooShort}
 use Rattle.stream_rows.specs.Rows.{row_in}
 use Rattle.stream_rows.specs.Worked.{the_rows, is_listed}
 use Rattle.stream_rows.specs.Result.{not2to8, no_row, no_row_room, row_outcome, row_numbers, row_checks, row_answer, row_after}
@@ -40,16 +41,16 @@ pub record RowPassed (users number n : ℕ) : Type 0 where
   pub numbered : number < length (the_rows users)
   pub room : users ≤ n
 
-pub row_passed : (users number n : ℕ) → row_outcome users number n ≡ Pass → RowPassed users number n
+pub row_passed : (users number n : ℕ) → row_outcome users number n ≡ Ok tt → RowPassed users number n
 unfolding row_outcome no_row no_row_room
 row_passed users number n e =
-    let t = pass_if (not2to8 users || leb (length (the_rows users)) number) (no 21 0 0) (pass_left _ (no_row_room users n) e) in
+    let t = pass_if (not2to8 users || leb (length (the_rows users)) number) NoSuchStreams (pass_left _ (no_row_room users n) e) in
     let u = up_to_8 users (neither_left _ (leb (length (the_rows users)) number) t) in
     record {
       from_2 = u.0;
       to_8 = u.1;
       numbered = leb-false (length (the_rows users)) number (neither_right (not2to8 users) _ t);
-      room = ltb-false n users (pass_if (ltb n users) (no 23 0 users) (pass_right (no_row users number) _ e));
+      room = ltb-false n users (pass_if (ltb n users) (BufferTooShort users) (pass_right (no_row users number) _ e));
     }
 
 -- ---- the rows of refusals
@@ -60,7 +61,7 @@ row_distinct = refl
 row_gives : (users number n : ℕ) → Gives row_numbers (row_checks users number n)
 unfolding no_row no_row_room
 row_gives users number n =
-    more (only_if (not2to8 users || leb (length (the_rows users)) number) 21 0 0) (more (only_if (ltb n users) 23 0 users) none)
+    more (only_if (not2to8 users || leb (length (the_rows users)) number) NoSuchStreams) (more (only_if (ltb n users) (BufferTooShort users)) none)
 
 row_first : (users number n : ℕ) → first_of (row_checks users number n) ≡ row_outcome users number n
 unfolding row_outcome
@@ -82,7 +83,7 @@ number_distinct = refl
 
 number_gives : (row : List ℕ) → Gives number_numbers (number_checks row)
 unfolding not_row
-number_gives row = more (only_if (not2to8 (length row) || not (is_listed row)) 21 0 0) none
+number_gives row = more (only_if (not2to8 (length row) || not (is_listed row)) NoSuchStreams) none
 
 pub number_judged : (row : List ℕ) → Judged number_numbers (number_checks row) (number_of row) (number_answer row)
 unfolding number_answer

@@ -6,10 +6,11 @@
 use Rattle.std.specs.Prelude.{Bool, not, ◌&&◌, ◌||◌, List, [], ◌∷◌, ℕ, ltb, leb, eqb, length}
 use Rattle.answer.specs.Answer.{no, refuse_if, ◌or◌, answer_at, after}
 use Rattle.answer.specs.declared.Answer.{Answer}
-use Rattle.answer.specs.declared.Outcome.{Outcome}
+use Rattle.answer.specs.Answer.{Outcome}
 use Rattle.answer.specs.Every.{every}
 use Rattle.answer.specs.Least.{least}
 use Rattle.answer.specs.Lists.{at, filled}
+use Rattle.answer.specs.declared.Refusal.TheVariants.{NoSuchStreams, BufferTooShort}
 use Rattle.stream_rows.specs.Rows.{row_in}
 use Rattle.stream_rows.specs.Worked.{the_rows, is_listed}
 
@@ -20,11 +21,11 @@ not2to8 users = ltb users 2 || ltb 8 users
 -- ---- a number, into a row of n bytes
 -- 21: "users not 2 to 8, a number past the last row"
 unfoldable pub no_row : ℕ → ℕ → Outcome
-no_row users number = refuse_if (not2to8 users || leb (length (the_rows users)) number) (no 21 0 0)
+no_row users number = refuse_if (not2to8 users || leb (length (the_rows users)) number) NoSuchStreams
 
 -- 23
 unfoldable pub no_row_room : ℕ → ℕ → Outcome
-no_row_room users n = refuse_if (ltb n users) (no 23 0 users)
+no_row_room users n = refuse_if (ltb n users) (BufferTooShort users)
 
 unfoldable pub row_outcome : ℕ → ℕ → ℕ → Outcome
 row_outcome users number n = no_row users number or no_row_room users n
@@ -45,7 +46,7 @@ row_after users number w = after (row_outcome users number (length w)) (filled (
 -- ---- a row, to its number
 -- 21: "users not 2 to 8, .. or a row not listed"
 unfoldable pub not_row : List ℕ → Outcome
-not_row row = refuse_if (not2to8 (length row) || not (is_listed row)) (no 21 0 0)
+not_row row = refuse_if (not2to8 (length row) || not (is_listed row)) NoSuchStreams
 
 abbrev pub number_numbers : List ℕ
 number_numbers = 21 ∷ []

@@ -4,14 +4,14 @@
 // least 3.
 #![tactic(auto)]
 
-ghost use Rattle.std.specs.Prelude.{◌≡◌, true, ◌||◌, ◌+◌, ◌*◌, ◌≤◌, ◌<◌, min, leb, length};
+ghost use Rattle.std.specs.Prelude.{◌≡◌, true, ◌||◌, ◌+◌, ◌*◌, ◌≤◌, ◌<◌, min, leb, length, is_some, IfSome};
 ghost use Rattle.answer.specs.Lists.{at, filled};
 ghost use Rattle.stream_rows.specs.Rows.{row_in};
 ghost use Rattle.stream_rows.specs.Engine.{entry_of, with_two, before_two, before_three, Numbered};
 ghost use Rattle.stream_rows.specs.Worked.{the_rows, is_listed};
 ghost use Rattle.stream_rows.specs.Result.{not2to8, row_outcome, row_answer, row_after, number_of, number_answer};
 
-use answer::{Answer, Outcome};
+use answer::{Answer, Refusal};
 
 // How many entries of a row are at least 2, 3 and 4.
 #[derive(Clone, Copy)]
@@ -68,6 +68,7 @@ fn decode_rest(users: usize, a: usize, number: usize) -> Shape
     let mut left = number;
     let mut b = 0;
     let mut n = 1;
+    // a while: what is left tells how far it goes, and the least that stays is the answer too
     while n <= left {
         left -= n;
         b += 1;
@@ -86,10 +87,11 @@ fn decode(users: usize, number: usize) -> Shape
     requires { (users ≤ 8) × (number < length (the_rows users)) }
     ensures { Numbered users number result.two result.three result.four }
 {
-    let past = (10 <= number) as usize;
+    let past = usize::from(10 <= number);
     let mut left = number - 10 * past;
     let mut a = 3 * past;
     let mut n = rows_with(users, a);
+    // a while, as above
     while n <= left {
         left -= n;
         a += 1;
@@ -101,7 +103,7 @@ fn decode(users: usize, number: usize) -> Shape
 fn entry(shape: Shape, place: usize) -> u8
     ensures { (result ≡ entry_of shape.two shape.three shape.four place) × (result ≤ 4) }
 {
-    1 + (place < shape.two) as u8 + (place < shape.three) as u8 + (place < shape.four) as u8
+    1 + u8::from(place < shape.two) + u8::from(place < shape.three) + u8::from(place < shape.four)
 }
 
 // The streams of the user at a place, from 0, of the row with a number.
@@ -123,13 +125,12 @@ fn is_past(users: u32, number: u32) -> bool
 }
 
 // All refusals of a number, in their order, for a row of room bytes.
-fn judge_row(users: u32, number: u32, room: usize) -> Outcome
+fn judge_row(users: u32, number: u32, room: usize) -> Result<(), Refusal>
     ensures { result ≡ row_outcome users number room }
 {
-    answer::or_else(
-        answer::refuse_if(is_past(users, number), 21, 0, 0),
-        answer::refuse_if(room < users as usize, 23, 0, users as usize),
-    )
+    answer::refuse_if(is_past(users, number), Refusal::NoSuchStreams)?;
+    let needed = users as usize;
+    answer::refuse_if(room < needed, Refusal::BufferTooShort { needed })
 }
 
 // The first entries of the row with these many of at least 2, 3 and 4.
@@ -137,10 +138,8 @@ fn fill_row(row: &mut [u8], users: usize, shape: Shape)
     requires { users ≤ length row.old }
     ensures { row.new ≡ filled (entry_of shape.two shape.three shape.four) users row.old }
 {
-    let mut i = 0;
-    while i < users {
+    for i in 0..users {
         row[i] = entry(shape, i);
-        i += 1;
     }
 }
 
@@ -150,56 +149,39 @@ pub fn put_row(users: u32, number: u32, row: &mut [u8]) -> Answer
     ensures row_after { row.new ≡ row_after users number row.old }
 {
     let judged = judge_row(users, number, row.len());
-    if let Outcome::Refuse(refused) = judged {
-        return refused;
+    if let Err(refused) = judged {
+        return refused.into();
     }
     let shape = decode(users as usize, number as usize);
     fill_row(row, users as usize, shape);
-    Answer {
-        number: 0,
-        channel: 0,
-        place: users as usize,
-    }
+    Answer::accepted(users as usize)
 }
 
 // ---- from a row to its number
 
-// Whether a row is listed, and how many of its entries are at least 2, 3 and 4.
-#[derive(Drop)]
-struct Counts {
-    listed: bool,
-    shape: Shape,
-}
-
-fn count_row(row: &[u8]) -> Counts
+// How many entries of a row are at least 2, 3 and 4, where it is listed.
+fn count_row(row: &[u8]) -> Option<Shape>
     requires { length row.now ≤ 8 }
-    ensures listed_value { result.listed ≡ is_listed row.now }
-    ensures numbered { result.listed ≡ true
-        → Numbered (length row.now) (number_of row.now) result.shape.two result.shape.three result.shape.four }
+    ensures listed { is_some result ≡ is_listed row.now }
+    ensures numbered { IfSome result (λ shape. Numbered (length row.now) (number_of row.now) shape.two shape.three shape.four) }
 {
     let mut fit = true;
     let mut last = 4;
     let mut two = 0;
     let mut three = 0;
     let mut four = 0;
-    let mut i = 0;
-    while i < row.len() {
-        let x = row[i];
+    for &x in row {
         fit = fit & ((1 <= x) & (x <= last));
-        two += (2 <= x) as usize;
-        three += (3 <= x) as usize;
-        four += (4 <= x) as usize;
+        two += usize::from(2 <= x);
+        three += usize::from(3 <= x);
+        four += usize::from(4 <= x);
         last = x;
-        i += 1;
     }
-    let shape = Shape {
-        two: two,
-        three: three,
-        four: four,
-    };
-    Counts {
-        listed: fit & (i + two + three + four <= 16),
-        shape: shape,
+    let listed = fit & (row.len() + two + three + four <= 16);
+    if listed {
+        Some(Shape { two, three, four })
+    } else {
+        None
     }
 }
 
@@ -209,10 +191,8 @@ fn before_two(users: usize, a: usize) -> usize
     ensures { (result ≡ before_two users a) × (result ≤ 100 * a) }
 {
     let mut n = 0;
-    let mut i = 0;
-    while i < a {
+    for i in 0..a {
         n += rows_with(users, i);
-        i += 1;
     }
     n
 }
@@ -223,10 +203,8 @@ fn before_three(users: usize, a: usize, b: usize) -> usize
     ensures { (result ≡ before_three users a b) × (result ≤ 17 * b) }
 {
     let mut n = 0;
-    let mut i = 0;
-    while i < b {
+    for i in 0..b {
         n += least_of(i + 1, 17 - (users + a + i));
-        i += 1;
     }
     n
 }
@@ -245,24 +223,10 @@ pub fn number_of(row: &[u8]) -> Answer
 {
     let n = row.len();
     if (n < 2) | (8 < n) {
-        return Answer {
-            number: 21,
-            channel: 0,
-            place: 0,
-        };
+        return Refusal::NoSuchStreams.into();
     }
-    let counts = count_row(row);
-    if !counts.listed {
-        return Answer {
-            number: 21,
-            channel: 0,
-            place: 0,
-        };
-    }
-    let shape = counts.shape;
-    Answer {
-        number: 0,
-        channel: 0,
-        place: number_with(n, shape),
+    match count_row(row) {
+        None => Refusal::NoSuchStreams.into(),
+        Some(shape) => Answer::accepted(number_with(n, shape)),
     }
 }

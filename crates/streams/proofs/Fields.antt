@@ -9,9 +9,12 @@ use lib.ListN.{length}
 use Rattle.answer.specs.Answer.{no, refuse_if, ◌or◌}
 use Rattle.answer.specs.Lists.{at, filled}
 use Rattle.answer.specs.declared.Answer.{Answer}
-use Rattle.answer.specs.declared.Outcome.{Outcome}
-use Rattle.answer.specs.declared.Outcome.TheVariants.{Pass, Refuse}
+use Rattle.answer.specs.Answer.{Outcome}
+use Rattle.std.specs.Prelude.{Ok, Err}
 use Rattle.answer.proofs.Order.{pass_if, pass_left, pass_right}
+use Rattle.answer.specs.declared.Refusal.TheVariants.{NoSuchStreams, BufferTooShort}
+use Rattle.answer.specs.declared.Refusal.{Refusal}
+use Rattle.answer.specs.Answer.{answer_of}
 use Rattle.stream_rows.specs.Worked.{the_rows}
 use Rattle.words.specs.Words.{user_word}
 use Rattle.words.proofs.Laws.{shared_parts, alone_parts}
@@ -60,24 +63,25 @@ word_streams_lem users t f = go (leb 2 users) refl
     go false e = rw (word_station_lem false f, lt-ltb users 2 (leb-false 2 users e), word_nss_lem f)
 
 -- ---- 21 and 23
-pub judged : (codes words : List ℕ) (room : ℕ) (t : Bool) (o₁ o₂ o : Outcome) → t ≡ all_named codes words → o₁ ≡ refuse_if (not t) (no 21 0 0)
-    → o₂ ≡ refuse_if (ltb room (length words)) (no 23 0 (length words)) → o ≡ (o₁ or o₂) → o ≡ outcome_in codes words room
+pub judged : (codes words : List ℕ) (room : ℕ) (t : Bool) (o₁ o₂ o : Outcome) → t ≡ all_named codes words → o₁ ≡ refuse_if (not t) NoSuchStreams
+    → o₂ ≡ refuse_if (ltb room (length words)) (BufferTooShort (length words)) → o ≡ (o₁ or o₂) → o ≡ outcome_in codes words room
 unfolding outcome_in
 judged codes words room t o₁ o₂ o e f g h = h ∙ rw (f, g, e)
 
 module _ (codes words d : List ℕ) where
-  pub refused_fields : (x : Answer) → outcome_in codes words (length d) ≡ Refuse x → (x ≡ answer_in codes words (length d)) × (d ≡ after_in codes words d)
+  pub refused_fields : (x : Refusal) → outcome_in codes words (length d) ≡ Err x
+      → (answer_of x ≡ answer_in codes words (length d)) × (d ≡ after_in codes words d)
   unfolding answer_in after_in
   refused_fields x e = (rw e, rw e)
 
-  module _ (e : outcome_in codes words (length d) ≡ Pass) where
+  module _ (e : outcome_in codes words (length d) ≡ Ok tt) where
     pub passed_named : all_named codes words ≡ true
     unfolding outcome_in
     passed_named = not-false _ (pass_if _ _ (pass_left _ _ e))
 
     pub passed_room : length words ≤ length d
     unfolding outcome_in
-    passed_room = ltb-false _ _ (pass_if _ _ (pass_right (refuse_if (not (all_named codes words)) (no 21 0 0)) _ e))
+    passed_room = ltb-false _ _ (pass_if _ _ (pass_right (refuse_if (not (all_named codes words)) NoSuchStreams) _ e))
 
     pub passed_fields : (v : List ℕ) → v ≡ filled (streams_in codes words) (length words) d
         → (no 0 0 (length words) ≡ answer_in codes words (length d)) × (v ≡ after_in codes words d)

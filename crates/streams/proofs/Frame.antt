@@ -13,12 +13,14 @@ use Rattle.answer.specs.Answer.{◌or◌, answer_at}
 use Rattle.answer.specs.Lists.{at}
 use Rattle.answer.specs.Order.{first_of}
 use Rattle.answer.specs.declared.Answer.{Answer}
-use Rattle.answer.specs.declared.Outcome.{Outcome}
-use Rattle.answer.specs.declared.Outcome.TheVariants.{Pass, Refuse}
+use Rattle.answer.specs.Answer.{Outcome}
+use Rattle.std.specs.Prelude.{Ok, Err}
 use Rattle.answer.proofs.Every.{every_cong}
 use Rattle.answer.proofs.First.{first_append}
 use Rattle.answer.proofs.Lists.{build_cong, get_d_filled, filled_cong}
 use Rattle.answer.proofs.Order.{or_end, or_next, or_refuse, pass_left, pass_right, pass_or_refuse, if_pass}
+use Rattle.answer.specs.declared.Refusal.{Refusal}
+use Rattle.answer.specs.Answer.{answer_of}
 use Rattle.resource.proofs.Test.{below_or}
 use Rattle.plan.specs.Answers.{SomePlanOfEight}
 use Rattle.plan.specs.Engine.{plan_outcome}
@@ -51,7 +53,7 @@ use Rattle.streams.proofs.Fields.{word_none_lem, word_streams_lem}
 use Rattle.streams.specs.Engine.{Coded, named_in, streams_in, all_named, outcome_in, answer_in, after_in, codes_of, row_of, Worded, words_answer, words_streams}
 use Rattle.streams.specs.Result.{fields, field_at, streams_at, named_at, no_row_named, no_streams_room, streams_outcome, streams_answer, streams_after}
 
-module _ (bw : ℕ) (a b : List ℕ) (e : outcome11 bw a b ≡ Pass) where
+module _ (bw : ℕ) (a b : List ℕ) (e : outcome11 bw a b ≡ Ok tt) where
   abbrev r : List ℕ
   r = row bw a b
 
@@ -174,14 +176,14 @@ module _ (bw : ℕ) (a b : List ℕ) (e : outcome11 bw a b ≡ Pass) where
       rw (row_back, outcome_in_lem (length d), users_length, filled_cong (streams_in codes users) (streams_at bw a b) (fields bw a b) d streams_in_lem)
 
 -- ---- a frame that the reader refuses
-module _ (bw : ℕ) (a b : List ℕ) (x : Answer) (e : outcome11 bw a b ≡ Refuse x) where
-  stopped : (room : ℕ) → streams_outcome bw a b room ≡ Refuse x
+module _ (bw : ℕ) (a b : List ℕ) (x : Refusal) (e : outcome11 bw a b ≡ Err x) where
+  stopped : (room : ℕ) → streams_outcome bw a b room ≡ Err x
   unfolding streams_outcome outcome11
   stopped room =
       first_append (checks11 bw a b) (no_row_named bw a b ∷ no_streams_room bw a b room ∷ [])
       ∙ or_refuse (first_of (checks11 bw a b)) _ x e
 
-  pub refused_answer : (room : ℕ) → streams_answer bw a b room ≡ x
+  pub refused_answer : (room : ℕ) → streams_answer bw a b room ≡ answer_of x
   unfolding streams_answer
   refused_answer room = rw (stopped room)
 
@@ -212,7 +214,7 @@ module _ {bw : ℕ} {a b given now : List ℕ} {x : Answer} (h : HasRead bw a b 
   pub stays : (x.number ≡ 0 → ⊥) → (d : List ℕ) → (x ≡ streams_answer bw a b (length d)) × (d ≡ streams_after bw a b d)
   stays n d = go (pass_or_refuse (outcome11 bw a b))
     where
-      go : (outcome11 bw a b ≡ Pass) ⊎ ((y : Answer) × (outcome11 bw a b ≡ Refuse y))
+      go : (outcome11 bw a b ≡ Ok tt) ⊎ ((y : Refusal) × (outcome11 bw a b ≡ Err y))
           → (x ≡ streams_answer bw a b (length d)) × (d ≡ streams_after bw a b d)
       go (inl p) = absurd (n (ap (λ (y : Answer). y.number) (answered ∙ ap (λ (o : Outcome). answer_at o (word_count bw a b)) p)))
       go (inr (y, q)) = (
@@ -222,7 +224,7 @@ module _ {bw : ℕ} {a b given now : List ℕ} {x : Answer} (h : HasRead bw a b 
 
   -- accepted: the words that were lent begin with the frame's
   module _ (z : x.number ≡ 0) where
-    pub passes : outcome11 bw a b ≡ Pass
+    pub passes : outcome11 bw a b ≡ Ok tt
     passes =
         let e = accepted_exactly bw a b (length given) (ap (λ (y : Answer). y.number) (sym h.answers) ∙ z) in
         sym (read_outcome_lem bw a b 154 (omega arith)) ∙ rw h.room at e

@@ -9,15 +9,16 @@ use borrow.Author.Tests.{not-true, not-false}
 use lib.ListN.{length, get_or-append}
 use Rattle.answer.specs.Answer.{no, ◌or◌, answer_at}
 use Rattle.answer.specs.Every.{every}
-use Rattle.answer.specs.declared.Outcome.{Outcome}
+use Rattle.answer.specs.Answer.{Outcome}
 use Rattle.answer.proofs.Every.{every_at}
 use Rattle.answer.specs.Lists.{filled}
 use Rattle.answer.specs.Order.{first_of, Judged}
 use Rattle.answer.specs.declared.Answer.{Answer}
-use Rattle.answer.specs.declared.Outcome.TheVariants.{Pass}
+use Rattle.std.specs.Prelude.{Ok}
 use Rattle.answer.proofs.Numbers.{only_if, Gives, none, more, distinct, absent, zero_pass, number_applies, judged}
 use Rattle.answer.proofs.First.{first_append, pass_first}
 use Rattle.answer.proofs.Order.{after_answered, pass_if, pass_left, pass_right, or_next, refuse_if_lem}
+use Rattle.answer.specs.declared.Refusal.TheVariants.{NoSuchStreams, BufferTooShort}
 use Rattle.halves.specs.Table.{checks11, outcome11}
 use Rattle.halves.proofs.Exactly.{checks11_then}
 use Rattle.streams.specs.Result.{fields, streams_at, named_at, no_row_named, no_streams_room, streams_checks, streams_numbers, streams_outcome, streams_answer}
@@ -29,7 +30,8 @@ module _ (bw : ℕ) (a b : List ℕ) where
   unfolding no_row_named no_streams_room
   rows_give room =
       checks11_then bw a b
-      (more (only_if (not (every (named_at bw a b) (fields bw a b))) 21 0 0) (more (only_if (ltb room (fields bw a b)) 23 0 (fields bw a b)) none))
+      (more (only_if (not (every (named_at bw a b) (fields bw a b))) NoSuchStreams) (more (only_if (ltb room (fields bw a b)) (BufferTooShort
+      (fields bw a b))) none))
 
   numbers_distinct : distinct (0 ∷ streams_numbers) ≡ true
   unfolding distinct absent
@@ -40,12 +42,12 @@ module _ (bw : ℕ) (a b : List ℕ) where
   streams_judged room = judged (rows_give room) numbers_distinct (fields bw a b)
 
   -- number 0 is given only where every row passes
-  pub accepted_exactly : (room : ℕ) → (streams_answer bw a b room).number ≡ 0 → streams_outcome bw a b room ≡ Pass
+  pub accepted_exactly : (room : ℕ) → (streams_answer bw a b room).number ≡ 0 → streams_outcome bw a b room ≡ Ok tt
   unfolding streams_answer streams_outcome
   accepted_exactly room = zero_pass (rows_give room) numbers_distinct (fields bw a b)
 
   -- what passing says: so does the reading, and every field is named
-  pub passed : (room : ℕ) → streams_outcome bw a b room ≡ Pass → (outcome11 bw a b ≡ Pass) × (every (named_at bw a b) (fields bw a b) ≡ true)
+  pub passed : (room : ℕ) → streams_outcome bw a b room ≡ Ok tt → (outcome11 bw a b ≡ Ok tt) × (every (named_at bw a b) (fields bw a b) ≡ true)
   unfolding streams_outcome outcome11 no_row_named first_of
   passed room e =
       let f = sym (first_append (checks11 bw a b) (no_row_named bw a b ∷ no_streams_room bw a b room ∷ [])) ∙ e in (
@@ -55,18 +57,18 @@ module _ (bw : ℕ) (a b : List ℕ) where
 
   -- and what 21 says: the reading passes, and not every field is named
   pub refused_21 : (room : ℕ) → (streams_answer bw a b room).number ≡ 21
-      → (outcome11 bw a b ≡ Pass) × (every (named_at bw a b) (fields bw a b) ≡ false)
+      → (outcome11 bw a b ≡ Ok tt) × (every (named_at bw a b) (fields bw a b) ≡ false)
   unfolding streams_answer streams_outcome outcome11 no_row_named
   refused_21 room e =
       let w = number_applies (rows_give room) numbers_distinct (fields bw a b) 11 (omega arith) e in
       let rest = no_row_named bw a b ∷ no_streams_room bw a b room ∷ [] in (
-        pass_first (checks11 bw a b) (λ k l. sym (get_or-append (checks11 bw a b) rest Pass k l) ∙ w.nothing_earlier k l),
-        not-true _ (refuse_if_lem _ _ _ w.refuses).0,
+        pass_first (checks11 bw a b) (λ k l. sym (get_or-append (checks11 bw a b) rest (Ok tt) k l) ∙ w.applies.nothing_earlier k l),
+        not-true _ (refuse_if_lem _ _ _ w.applies.refuses).0,
       )
 
   -- it is given where the reading passes and some field is not named
-  pub given_21 : (room : ℕ) → outcome11 bw a b ≡ Pass → (x : ℕ) → x < fields bw a b → named_at bw a b x ≡ false → streams_answer bw a b room ≡ no 21 0 0
-  unfolding streams_answer streams_outcome outcome11 no_row_named first_of ◌or◌
+  pub given_21 : (room : ℕ) → outcome11 bw a b ≡ Ok tt → (x : ℕ) → x < fields bw a b → named_at bw a b x ≡ false → streams_answer bw a b room ≡ no 21 0 0
+  unfolding streams_answer streams_outcome outcome11 no_row_named first_of
   given_21 room e x l f =
       let g = first_append (checks11 bw a b) (no_row_named bw a b ∷ no_streams_room bw a b room ∷ []) in
       let n : every (named_at bw a b) (fields bw a b) ≡ false = fails (every (named_at bw a b) (fields bw a b)) refl in

@@ -5,7 +5,8 @@ use Rattle.answer.specs.Answer.{no, refuse_if, ◌or◌, answer_at, after}
 use Rattle.answer.specs.Every.{every}
 use Rattle.answer.specs.Lists.{at, build, filled}
 use Rattle.answer.specs.declared.Answer.{Answer}
-use Rattle.answer.specs.declared.Outcome.{Outcome}
+use Rattle.answer.specs.Answer.{Outcome}
+use Rattle.answer.specs.declared.Refusal.TheVariants.{NoSuchStreams, BufferTooShort}
 use Rattle.kinds.specs.Signals.{Signals}
 use Rattle.plan.specs.Engine.{only_plan}
 use Rattle.turns.specs.Turns.{fields_in}
@@ -49,7 +50,7 @@ all_named codes words = every (named_in codes words) (length words)
 
 -- 21 and 23, with room for so many bytes
 unfoldable pub outcome_in : List ℕ → List ℕ → ℕ → Outcome
-outcome_in codes words room = refuse_if (not (all_named codes words)) (no 21 0 0) or refuse_if (ltb room (length words)) (no 23 0 (length words))
+outcome_in codes words room = refuse_if (not (all_named codes words)) NoSuchStreams or refuse_if (ltb room (length words)) (BufferTooShort (length words))
 
 unfoldable pub answer_in : List ℕ → List ℕ → ℕ → Answer
 answer_in codes words room = answer_at (outcome_in codes words room) (length words)

@@ -7,7 +7,8 @@ use Rattle.answer.specs.Every.{every}
 use Rattle.answer.specs.Lists.{filled}
 use Rattle.answer.specs.Order.{first_of}
 use Rattle.answer.specs.declared.Answer.{Answer}
-use Rattle.answer.specs.declared.Outcome.{Outcome}
+use Rattle.answer.specs.Answer.{Outcome}
+use Rattle.answer.specs.declared.Refusal.TheVariants.{NoSuchStreams, BufferTooShort}
 use Rattle.channel.specs.Layout.{row, count, user_of}
 use Rattle.halves.specs.Table.{checks11}
 use Rattle.turns.specs.Turns.{users_of, turn_of}
@@ -33,11 +34,11 @@ named_at bw a b x = not (names_none (users_of (row bw a b) x) (field_at bw a b x
 
 -- "Refusals: 21, .. a number past the last row": some field's
 unfoldable pub no_row_named : ℕ → List ℕ → List ℕ → Outcome
-no_row_named bw a b = refuse_if (not (every (named_at bw a b) (fields bw a b))) (no 21 0 0)
+no_row_named bw a b = refuse_if (not (every (named_at bw a b) (fields bw a b))) NoSuchStreams
 
 -- T-02: "A buffer too short for a result of this or a later request gets 23 too, last, with the bytes or records needed as place"
 unfoldable pub no_streams_room : ℕ → List ℕ → List ℕ → ℕ → Outcome
-no_streams_room bw a b room = refuse_if (ltb room (fields bw a b)) (no 23 0 (fields bw a b))
+no_streams_room bw a b room = refuse_if (ltb room (fields bw a b)) (BufferTooShort (fields bw a b))
 
 abbrev pub streams_checks : ℕ → List ℕ → List ℕ → ℕ → List Outcome
 streams_checks bw a b room = checks11 bw a b ++ (no_row_named bw a b ∷ no_streams_room bw a b room ∷ [])

@@ -11,7 +11,7 @@ ghost use Rattle.streams.specs.Engine.{Coded, word_nss, word_none, word_streams,
 ghost use Rattle.streams.specs.Engine.{Worded, words_answer, words_streams};
 ghost use Rattle.streams.specs.Result.{streams_answer, streams_after};
 
-use answer::{Answer, Outcome};
+use answer::{Answer, Refusal};
 
 // ---- of the frame's row: which of its resource's fields each is, and of how many
 
@@ -21,10 +21,8 @@ fn row_in(words: &[u32], n: usize) -> [u16; 16]
     ensures { result ≡ filled (value_of words.now) n (replicate 16 0) }
 {
     let mut row = [0u16; 16];
-    let mut p: usize = 0;
-    while p < n {
+    for p in 0..n {
         row[p] = words::value_of(words, p) as u16;
-        p += 1;
     }
     row
 }
@@ -46,7 +44,7 @@ fn names_none(code: u16, w: u32) -> bool
     requires { code / 256 ≤ 8 }
     ensures { result ≡ word_none (code / 256) w }
 {
-    let users = (code / 256) as usize;
+    let users = usize::from(code / 256);
     let number = (w / 256 / 2048 / 2 / 16 % 64) as usize;
     (w / 256 % 2048 != 2046) & ((2 <= users) & (stream_rows::rows_of(users) <= number))
 }
@@ -70,9 +68,9 @@ fn field_streams(code: u16, w: u32) -> u8
         return alone_streams(w);
     }
     stream_rows::entry_at(
-        (code / 256) as usize,
+        usize::from(code / 256),
         (w / 256 / 2048 / 2 / 16 % 64) as usize,
-        (code % 256) as usize,
+        usize::from(code % 256),
     )
 }
 
@@ -82,12 +80,9 @@ fn all_named(codes: &[u16; 144], words: &[u32]) -> bool
     requires { (length words.now ≤ 144) × Coded (length words.now) codes.now }
     ensures { result ≡ all_named codes.now words.now }
 {
-    let n = words.len();
     let mut all = true;
-    let mut x: usize = 0;
-    while x < n {
+    for x in 0..words.len() {
         all = all & !names_none(codes[x], words[x]);
-        x += 1;
     }
     all
 }
@@ -97,11 +92,8 @@ fn put_streams(out: &mut [u8], codes: &[u16; 144], words: &[u32])
     requires out_room { length words.now ≤ length out.old }
     ensures { out.new ≡ filled (streams_in codes.now words.now) (length words.now) out.old }
 {
-    let n = words.len();
-    let mut x: usize = 0;
-    while x < n {
+    for x in 0..words.len() {
         out[x] = field_streams(codes[x], words[x]);
-        x += 1;
     }
 }
 
@@ -113,18 +105,14 @@ fn answer_fields(out: &mut [u8], codes: &[u16; 144], words: &[u32]) -> Answer
 {
     let n = words.len();
     let judged = answer::or_else(
-        answer::refuse_if(!all_named(codes, words), 21, 0, 0),
-        answer::refuse_if(out.len() < n, 23, 0, n),
+        answer::refuse_if(!all_named(codes, words), Refusal::NoSuchStreams),
+        answer::refuse_if(out.len() < n, Refusal::BufferTooShort { needed: n }),
     );
-    if let Outcome::Refuse(refused) = judged {
-        return refused;
+    if let Err(refused) = judged {
+        return refused.into();
     }
     put_streams(out, codes, words);
-    Answer {
-        number: 0,
-        channel: 0,
-        place: n,
-    }
+    Answer::accepted(n)
 }
 
 // The same of the words of a frame.

@@ -10,9 +10,7 @@ pub fn turn_run(fields: &mut [u32], m: usize, shared: bool)
     requires { m ≤ length fields.old }
     ensures { fields.new ≡ filled (run_word fields.old shared) m fields.old }
 {
-    let mut i = 0;
-    while i < m {
+    for i in 0..m {
         fields[i] = words::user_word(shared, fields[i]);
-        i += 1;
     }
 }

@@ -5,10 +5,14 @@ ghost use Rattle.std.specs.Prelude.{◌≡◌, true, false, ◌++◌, ◌+◌, �
 ghost use Rattle.answer.specs.Lists.{at};
 ghost use Rattle.words.specs.Words.{overflow_word, value_slot, first_word, triple_word, second_word, header, user_word};
 ghost use Rattle.words.specs.Engine.{gi_ltf, overflow_of, value_of, field_in, user_field};
+ghost use Rattle.word_bytes.specs.Lent.{puts};
+
+use word_bytes::{LentWords, Numbers};
 
 // ---- from the parts of a frame to words
 
 // data[0], of the 17 bits of overflow and the ten of check and tail.
+#[tactic(auto, unfolding(crate::specs::Words::overflow_word))]
 pub fn overflow_word(v: u32, t: u32) -> u32
     requires { t < 1024 }
     ensures { result ≡ overflow_word v t }
@@ -25,17 +29,19 @@ pub fn overflow_word(v: u32, t: u32) -> u32
 }
 
 // An RU Allocation and its known bit.
+#[tactic(auto, unfolding(crate::specs::Words::value_slot))]
 fn slot_of(row: &[u16], p: usize) -> u32
     ensures { (result < 1024) × (result ≡ value_slot (at row.now) (length row.now) p) }
 {
     if p < row.len() {
-        row[p] as u32 % 512 + 512
+        u32::from(row[p]) % 512 + 512
     } else {
         0
     }
 }
 
 // data[1].
+#[tactic(auto, unfolding(crate::specs::Words::first_word))]
 pub fn first_word(row: &[u16]) -> u32
     ensures { result ≡ first_word (at row.now) (length row.now) }
 {
@@ -43,6 +49,7 @@ pub fn first_word(row: &[u16]) -> u32
 }
 
 // Of data[2] to data[6] the one that begins with position p.
+#[tactic(auto, unfolding(crate::specs::Words::triple_word, crate::specs::Words::value_slot))]
 pub fn triple_word(row: &[u16], p: usize) -> u32
     requires { p < 16 }
     ensures { result ≡ triple_word (at row.now) (length row.now) p }
@@ -55,30 +62,43 @@ pub fn triple_word(row: &[u16], p: usize) -> u32
 }
 
 // data[7].
+#[tactic(auto, unfolding(crate::specs::Words::second_word))]
 fn second_word(bw: u32, t: u32) -> u32
     ensures { result ≡ second_word bw t }
 {
     if bw < 3 { 0 } else { t }
 }
 
-// Known and data[0] to data[8] at the front of the lent words.
+// Known and data[0] to data[8].
+pub fn put_header_to<W: LentWords>(out: &mut W, bw: u32, v: u32, t: u32, t2: u32, row: &[u16])
+    requires { (10 ≤ W.room (W.buffer out.old)) × (t < 1024) }
+    ensures written { W.buffer out.new ≡ puts W.put (W.buffer out.old) 0 (header bw v t t2 (at row.now) (length row.now)) }
+    ensures same_room { W.room (W.buffer out.new) ≡ W.room (W.buffer out.old) }
+    ensures same_loan { W.loan out.new ≡ W.loan out.old }
+{
+    out.put(0, header_values::known_word(bw));
+    out.put(1, overflow_word(v, t));
+    out.put(2, first_word(row));
+    out.put(3, triple_word(row, 1));
+    out.put(4, triple_word(row, 4));
+    out.put(5, triple_word(row, 7));
+    out.put(6, triple_word(row, 10));
+    out.put(7, triple_word(row, 13));
+    out.put(8, second_word(bw, t2));
+    out.put(9, 0);
+}
+
+// The same at the front of the lent words.
+#[tactic(auto, using(crate::proofs::Fronts::words_front))]
 pub fn put_header(words: &mut [u32], bw: u32, v: u32, t: u32, t2: u32, row: &[u16])
     requires { (10 ≤ length words.old) × (t < 1024) }
     ensures { words.new ≡ header bw v t t2 (at row.now) (length row.now) ++ drop 10 words.old }
 {
-    words[0] = header_values::known_word(bw);
-    words[1] = overflow_word(v, t);
-    words[2] = first_word(row);
-    words[3] = triple_word(row, 1);
-    words[4] = triple_word(row, 4);
-    words[5] = triple_word(row, 7);
-    words[6] = triple_word(row, 10);
-    words[7] = triple_word(row, 13);
-    words[8] = second_word(bw, t2);
-    words[9] = 0;
+    put_header_to(&mut Numbers { words }, bw, v, t, t2, row)
 }
 
 // The word of a User field that is alone on its resource.
+#[tactic(auto, unfolding(crate::specs::Words::user_word))]
 fn alone_word(f: u32) -> u32
     ensures { result ≡ user_word false f }
 {
@@ -92,6 +112,7 @@ fn alone_word(f: u32) -> u32
 }
 
 // The word of a User field on a shared resource.
+#[tactic(auto, unfolding(crate::specs::Words::user_word))]
 fn shared_word(f: u32) -> u32
     ensures { result ≡ user_word true f }
 {
@@ -126,6 +147,7 @@ fn gi_ltf(gi: u32, size: u32) -> u32
 }
 
 // The overflow of data[0].
+#[tactic(auto, unfolding(crate::specs::Engine::overflow_of))]
 pub fn overflow_of(w: u32) -> u32
     ensures { result ≡ overflow_of w }
 {
@@ -149,6 +171,7 @@ fn word_at(words: &[u32], i: usize) -> u32
 }
 
 // The RU Allocation value of a position.
+#[tactic(auto, unfolding(crate::specs::Engine::value_of))]
 pub fn value_of(words: &[u32], p: usize) -> u32
     ensures { result ≡ value_of words.now p }
 {
@@ -184,6 +207,7 @@ fn alone_field(w: u32) -> u32
 }
 
 // The User field of a User word.
+#[tactic(auto, unfolding(crate::specs::Engine::user_field))]
 pub fn user_field(w: u32) -> u32
     ensures { result ≡ user_field w }
 {

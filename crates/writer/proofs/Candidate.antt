@@ -10,7 +10,7 @@ use lib.ListN.{length, get_or, take}
 use lib.Seq.{get_or-take}
 use borrow.Author.Tests.{ltb-false}
 use Rattle.answer.specs.Answer.{passes}
-use Rattle.answer.specs.declared.Outcome.TheVariants.{Pass}
+use Rattle.std.specs.Prelude.{Ok}
 use Rattle.answer.proofs.First.{first_pass, pass_first}
 use Rattle.answer.proofs.Every.{both_left, both_right}
 use Rattle.answer.proofs.Order.{pass_left, pass_right, pass_if, passes_true}
@@ -35,7 +35,7 @@ use Rattle.candidate.proofs.Contents.{determined}
 use Rattle.candidate.proofs.Held.{needed_1, needed_2, needed_le, present_length, absent_length, Holds, ContentsSaid}
 use Rattle.candidate.proofs.Held.{all_subfields, candidate_carries, candidate_zero, holds_1, holds_2}
 use Rattle.judge.specs.Engine.{same_words}
-use Rattle.judge.proofs.Told.{same_words_says, says_same_words}
+use Rattle.judge.proofs.Decided.{same_words_says, says_same_words}
 use Rattle.judge.specs.Engine.{reads_to}
 use Rattle.writer.specs.Worked.{ReadsTo}
 
@@ -71,8 +71,8 @@ module _ (bw : ℕ) (w : List ℕ) (c : ℕ) (s : List ℕ) (h : Holds bw w c) (
 
 -- ---- accepted channels
 
-module _ (bw : ℕ) (a b : List ℕ) (e : outcome11 bw a b ≡ Pass) where
-  each : (k : ℕ) → get_or (checks11 bw a b) k Pass ≡ Pass
+module _ (bw : ℕ) (a b : List ℕ) (e : outcome11 bw a b ≡ Ok tt) where
+  each : (k : ℕ) → get_or (checks11 bw a b) k (Ok tt) ≡ Ok tt
   unfolding outcome11
   each = first_pass (checks11 bw a b) e
 
@@ -81,7 +81,7 @@ module _ (bw : ℕ) (a b : List ℕ) (e : outcome11 bw a b ≡ Pass) where
   accepted_known = ltb-false 4 bw (pass_if _ _ (each 0))
 
   nine : Nine bw a b
-  nine = record { passed = pass_first (take 9 (checks11 bw a b)) (λ k l. get_or-take 9 (checks11 bw a b) k Pass l ∙ each k) }
+  nine = record { passed = pass_first (take 9 (checks11 bw a b)) (λ k l. get_or-take 9 (checks11 bw a b) k (Ok tt) l ∙ each k) }
 
   abbrev w : List ℕ
   w = words_of bw a b
@@ -184,7 +184,7 @@ module _ (bw : ℕ) (a b : List ℕ) (e : outcome11 bw a b ≡ Pass) where
       }
 
   -- so the candidate is accepted with the same words
-  pub candidate_accepted : outcome11 bw (candidate bw w 1) (candidate bw w 2) ≡ Pass
+  pub candidate_accepted : outcome11 bw (candidate bw w 1) (candidate bw w 2) ≡ Ok tt
   candidate_accepted = sym (outcome11_same nine candidate_agrees) ∙ e
 
   pub candidate_words : words_of bw (candidate bw w 1) (candidate bw w 2) ≡ w

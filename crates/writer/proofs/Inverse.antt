@@ -14,9 +14,10 @@ use Rattle.answer.specs.Answer as A
 use Rattle.answer.specs.Answer.{refuse_if, answer_at}
 use Rattle.answer.specs.Order.{Applies}
 use Rattle.answer.specs.declared.Answer.{Answer}
-use Rattle.answer.specs.declared.Outcome.{Outcome}
-use Rattle.answer.specs.declared.Outcome.TheVariants.{Pass, Refuse}
+use Rattle.answer.specs.Answer.{Outcome}
+use Rattle.std.specs.Prelude.{Ok, Err}
 use Rattle.answer.proofs.Order.{if_pass, pass_not_refuse}
+use Rattle.answer.specs.declared.Refusal.TheVariants.{NoFrameReads}
 use Rattle.bits.specs.Bits.{Small}
 use Rattle.channel.specs.Layout.{present, count}
 use Rattle.channel.proofs.Laws.{present_1}
@@ -92,7 +93,7 @@ read_after_write κs a r s κs' a' r' s' p q z eb e1 e2 l =
     let w₀ = a'.1.1.1.0.now in
     let c1 = candidate bw w 1 in
     let c2 = candidate bw w 2 in
-    let o : write_outcome bw w (length x) (length y) ≡ Pass =
+    let o : write_outcome bw w (length x) (length y) ≡ Ok tt =
     W.accepted_exactly bw w (length x) (length y) (ap (λ (t : Answer). t.number) (sym p.0) ∙ z) in
     let k : r.place ≡ needed bw w = ap (λ (t : Answer). t.place) (p.0 ∙ ap (λ (o : Outcome). answer_at o (needed bw w)) o) in
     let f1 : a'.1.0.now ≡ c1 =
@@ -123,25 +124,25 @@ thirteen_none κs a r s p z x y w₀ h =
     let m = length a.1.1.1.0.now in
     let d = W.refused_exactly bw w n m 1 (omega arith) (ap (λ (t : Answer). t.number) (sym p.0) ∙ z) in
     let t = says_reads_to bw (candidate bw w 1) (candidate bw w 2) w (candidate_reads bw x y w (accepts_reads bw x y w₀ w h)) in
-    pass_not_refuse (if_pass _ (A.no 13 0 0) (ap not t)) d.refuses
+    pass_not_refuse (if_pass _ NoFrameReads (ap not t)) d.applies.refuses
 
-first_passes : (bw : ℕ) → bw ≤ 4 → check1 bw ≡ Pass
+first_passes : (bw : ℕ) → bw ≤ 4 → check1 bw ≡ Ok tt
 unfolding check1
 first_passes bw l = if_pass _ _ (le-ltb 4 bw l)
 
-second_refuses : (bw : ℕ) (w : List ℕ) → (ReadsTo bw (candidate bw w 1) (candidate bw w 2) w → ⊥) → check13 bw w ≡ Refuse (A.no 13 0 0)
+second_refuses : (bw : ℕ) (w : List ℕ) → (ReadsTo bw (candidate bw w 1) (candidate bw w 2) w → ⊥) → check13 bw w ≡ Err NoFrameReads
 unfolding check13 some_read
 second_refuses bw w h = go (reads_to bw (candidate bw w 1) (candidate bw w 2) w) refl
   where
-    go : (t : Bool) → reads_to bw (candidate bw w 1) (candidate bw w 2) w ≡ t → refuse_if (not t) (A.no 13 0 0) ≡ Refuse (A.no 13 0 0)
+    go : (t : Bool) → reads_to bw (candidate bw w 1) (candidate bw w 2) w ≡ t → refuse_if (not t) NoFrameReads ≡ Err NoFrameReads
     go true e = absurd (h (reads_to_says bw (candidate bw w 1) (candidate bw w 2) w e))
     go false e = refl
 
 thirteen_applies : (bw : ℕ) (w : List ℕ) (n m : ℕ) → bw ≤ 4 → (ReadsTo bw (candidate bw w 1) (candidate bw w 2) w → ⊥)
-    → Applies (write_checks bw w n m) 1 (A.no 13 0 0)
+    → Applies (write_checks bw w n m) 1 NoFrameReads
 thirteen_applies bw w n m l h = record { refuses = second_refuses bw w h; nothing_earlier = λ j k. go j k }
   where
-    go : (j : ℕ) → j < 1 → get_or (write_checks bw w n m) j Pass ≡ Pass
+    go : (j : ℕ) → j < 1 → get_or (write_checks bw w n m) j (Ok tt) ≡ Ok tt
     go j k = let z : j ≡ 0 = omega arith in rw z (first_passes bw l)
 
 -- and it is given where there are none, for every bandwidth code up to 4
@@ -157,7 +158,7 @@ none_thirteen κs a r s p l h =
     (λ t.
     h (candidate bw w 1) (candidate bw w 2) w (candidate_small bw w 1) (candidate_small bw w 2)
     (reads_accepts bw (candidate bw w 1) (candidate bw w 2) w w t (omega arith))) in
-    ap (λ (t : Answer). t.number) (p.0 ∙ (W.applies_exactly bw w n m 1 (A.no 13 0 0) d).0)
+    ap (λ (t : Answer). t.number) (p.0 ∙ (W.applies_exactly bw w n m 1 NoFrameReads d).0)
 
 -- ---- (d) equal words
 

@@ -8,7 +8,7 @@ use lib.Seq.{take_at}
 use borrow.Author.Tests.{le-ltb}
 use Rattle.answer.specs.Answer as A
 use Rattle.answer.specs.declared.Answer.{Answer}
-use Rattle.answer.specs.declared.Outcome.TheVariants.{Pass}
+use Rattle.std.specs.Prelude.{Ok}
 use Rattle.answer.proofs.Order.{pass_left, or_pass, if_pass}
 use Rattle.halves.specs.Table.{outcome11}
 use Rattle.frame_words.specs.Words.{word_count, words_of}
@@ -20,18 +20,18 @@ use Rattle.reader.proofs.Exactly as E
 use Rattle.writer.specs.Worked.{ReadsTo}
 use Rattle.writer.specs.Inverse.{Accepts}
 
-pub read_place : (bw : ℕ) (a b : List ℕ) (room : ℕ) → read_outcome bw a b room ≡ Pass → R.read_answer bw a b room ≡ A.no 0 0 (word_count bw a b)
+pub read_place : (bw : ℕ) (a b : List ℕ) (room : ℕ) → read_outcome bw a b room ≡ Ok tt → R.read_answer bw a b room ≡ A.no 0 0 (word_count bw a b)
 unfolding R.read_answer
 read_place bw a b room e = rw e
 
-pub read_words : (bw : ℕ) (a b w₀ : List ℕ) → read_outcome bw a b (length w₀) ≡ Pass → take (word_count bw a b) (R.words_after bw a b w₀) ≡ words_of bw a b
+pub read_words : (bw : ℕ) (a b w₀ : List ℕ) → read_outcome bw a b (length w₀) ≡ Ok tt → take (word_count bw a b) (R.words_after bw a b w₀) ≡ words_of bw a b
 unfolding R.words_after
 read_words bw a b w₀ e = rw e (take_at (words_of bw a b) (drop (word_count bw a b) w₀) (word_count bw a b) (words_length bw a b))
 
 pub accepts_reads : (bw : ℕ) (a b w₀ w : List ℕ) → Accepts bw a b w₀ w → ReadsTo bw a b w
 accepts_reads bw a b w₀ w h =
     let e = E.accepted_exactly bw a b (length w₀) h.number_0 in
-    let f : read_outcome bw a b (length w₀) ≡ Pass = e in
+    let f : read_outcome bw a b (length w₀) ≡ Ok tt = e in
     record {
       accepted = pass_left (outcome11 bw a b) (check12 bw a b (length w₀)) (sym (read_outcome_stages bw a b (length w₀)) ∙ f);
       the_words =
@@ -40,7 +40,7 @@ accepts_reads bw a b w₀ w h =
           ∙ h.exactly;
     }
 
-pub reads_pass : (bw : ℕ) (a b w : List ℕ) (room : ℕ) → ReadsTo bw a b w → length w ≤ room → read_outcome bw a b room ≡ Pass
+pub reads_pass : (bw : ℕ) (a b w : List ℕ) (room : ℕ) → ReadsTo bw a b w → length w ≤ room → read_outcome bw a b room ≡ Ok tt
 unfolding check12 no_room
 reads_pass bw a b w room h l =
     read_outcome_stages bw a b room

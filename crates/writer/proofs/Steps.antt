@@ -9,12 +9,12 @@ use lib.Dec.{ltb}
 use lib.ListN.{length, drop, take, set, length-drop, get_or-eq_default}
 use lib.Seq.{get_or-set_same, get_or-set_other, get_or-take, get_or-drop, length-take-le}
 use borrow.Author.Tests.{lt-ltb, le-ltb, ltb-false}
-use Rattle.answer.specs.Answer as A
 use Rattle.answer.specs.Answer.{refuse_if, ◌or◌}
-use Rattle.answer.specs.declared.Outcome.{Outcome}
-use Rattle.answer.specs.declared.Outcome.TheVariants.{Pass, Refuse}
+use Rattle.answer.specs.Answer.{Outcome}
+use Rattle.std.specs.Prelude.{Ok, Err}
 use Rattle.answer.proofs.Order.{pass_left, pass_right, pass_if}
 use Rattle.answer.specs.Lists.{at}
+use Rattle.answer.specs.declared.Refusal.TheVariants.{UnknownBandwidth, NoFrameReads, TooFewBytes}
 use Rattle.channel.specs.Layout.{present, subfields, end_of}
 use Rattle.channel.proofs.Laws.{present_1}
 use Rattle.words.specs.Engine.{user_field}
@@ -27,7 +27,7 @@ use Rattle.candidate.proofs.Parts.{row_room}
 use Rattle.writer.specs.Worked.{some_read}
 use Rattle.judge.specs.Engine.{reads_to, row_in, Begun}
 use Rattle.judge.proofs.Steps.{lent}
-use Rattle.judge.proofs.Told.{not_told}
+use Rattle.judge.proofs.Decided.{not_told}
 use Rattle.writer.specs.Engine.{Turned, Given}
 use Rattle.writer.specs.Result.{check13, check14, write_outcome, front}
 use Rattle.writer.specs.Room.{no_channel_room}
@@ -44,31 +44,31 @@ unfolding needed
 needed_is bw w n m need en em e = e ∙ rw (en, em)
 
 -- an unknown bandwidth, words that are not told, and told ones, by the room alone
-pub one_outcome : (bw : ℕ) (w : List ℕ) (n m : ℕ) → 4 < bw → write_outcome bw w n m ≡ Refuse (A.no 1 0 0)
-unfolding write_outcome check1 ◌or◌
+pub one_outcome : (bw : ℕ) (w : List ℕ) (n m : ℕ) → 4 < bw → write_outcome bw w n m ≡ Err UnknownBandwidth
+unfolding write_outcome check1
 one_outcome bw w n m l = rw (lt-ltb 4 bw l) refl
 
 pub thirteen_outcome : (bw : ℕ) (w : List ℕ) (n m : ℕ) → bw ≤ 4 → reads_to bw (candidate bw w 1) (candidate bw w 2) w ≡ false
-    → write_outcome bw w n m ≡ Refuse (A.no 13 0 0)
-unfolding write_outcome check1 check13 some_read ◌or◌
+    → write_outcome bw w n m ≡ Err NoFrameReads
+unfolding write_outcome check1 check13 some_read
 thirteen_outcome bw w n m l e = rw (le-ltb 4 bw l, e) refl
 
 pub told_outcome : (bw : ℕ) (w : List ℕ) (n m need : ℕ) (o : Outcome) → bw ≤ 4 → reads_to bw (candidate bw w 1) (candidate bw w 2) w ≡ true
     → need ≡ needed bw w → o ≡ no_channel_room bw need n m → write_outcome bw w n m ≡ o
-unfolding write_outcome check1 check13 some_read check14 ◌or◌
+unfolding write_outcome check1 check13 some_read check14
 told_outcome bw w n m need o l e d f = rw (le-ltb 4 bw l, e) (sym (f ∙ rw d))
 
 pub record Room (bw : ℕ) (w : List ℕ) (n m : ℕ) : Type 0 where
   pub room_1 : length (candidate bw w 1) ≤ n
   pub room_2 : length (candidate bw w 2) ≤ m
 
-pub writing_room : (bw : ℕ) (w : List ℕ) (n m : ℕ) → write_outcome bw w n m ≡ Pass → Room bw w n m
+pub writing_room : (bw : ℕ) (w : List ℕ) (n m : ℕ) → write_outcome bw w n m ≡ Ok tt → Room bw w n m
 unfolding write_outcome check14 no_channel_room
 writing_room bw w n m e =
     let f = pass_right (check1 bw or check13 bw w) _ e in
     let l : needed bw w ≤ n =
-    ltb-false n (needed bw w) (pass_if _ _ (pass_left _ (refuse_if (present bw 2 && ltb m (needed bw w)) (A.no 14 2 (needed bw w))) f)) in
-    let g = pass_if _ _ (pass_right (refuse_if (ltb n (needed bw w)) (A.no 14 1 (needed bw w))) _ f) in
+    ltb-false n (needed bw w) (pass_if _ _ (pass_left _ (refuse_if (present bw 2 && ltb m (needed bw w)) (TooFewBytes 2 (needed bw w))) f)) in
+    let g = pass_if _ _ (pass_right (refuse_if (ltb n (needed bw w)) (TooFewBytes 1 (needed bw w))) _ f) in
     record {
       room_1 = rw (present_length bw w 1 (present_1 bw)) l;
       room_2 = second (present bw 2) refl g;

@@ -10,7 +10,7 @@ use lib.Seq.{drop_at}
 use borrow.Author.Tests.{le-ltb, not-false}
 use Rattle.answer.specs.Answer as A
 use Rattle.answer.specs.declared.Answer.{Answer}
-use Rattle.answer.specs.declared.Outcome.TheVariants.{Pass}
+use Rattle.std.specs.Prelude.{Ok}
 use Rattle.answer.proofs.Order.{pass_left, pass_right, or_pass, pass_if, if_pass}
 use Rattle.bits.specs.Bits.{bit, Same}
 use Rattle.channel.specs.Layout.{present, count, end_of}
@@ -30,7 +30,7 @@ use Rattle.writer.specs.Inverse.{Given, GivenBack}
 -- ---- writing, from its contract's equations
 
 write_outcome_pass : (bw : ℕ) (w : List ℕ) (n m : ℕ) → bw ≤ 4 → ReadsTo bw (candidate bw w 1) (candidate bw w 2) w
-    → needed bw w ≤ n → (present bw 2 ≡ true → needed bw w ≤ m) → write_outcome bw w n m ≡ Pass
+    → needed bw w ≤ n → (present bw 2 ≡ true → needed bw w ≤ m) → write_outcome bw w n m ≡ Ok tt
 unfolding write_outcome check1 check13 some_read check14 no_channel_room
 write_outcome_pass bw w n m l h p q =
     or_pass _ _
@@ -45,13 +45,13 @@ write_outcome_pass bw w n m l h p q =
     go true e = le-ltb m (needed bw w) (q e)
     go false e = refl
 
-pub pass_reads : (bw : ℕ) (w : List ℕ) (n m : ℕ) → write_outcome bw w n m ≡ Pass → ReadsTo bw (candidate bw w 1) (candidate bw w 2) w
+pub pass_reads : (bw : ℕ) (w : List ℕ) (n m : ℕ) → write_outcome bw w n m ≡ Ok tt → ReadsTo bw (candidate bw w 1) (candidate bw w 2) w
 unfolding write_outcome check13 some_read
 pass_reads bw w n m e =
     let f = pass_right (check1 bw) _ (pass_left _ (check14 bw w n m) e) in
     reads_to_says bw (candidate bw w 1) (candidate bw w 2) w (not-false _ (pass_if _ _ f))
 
-pub written : (bw : ℕ) (w : List ℕ) (n m c : ℕ) (d : List ℕ) → write_outcome bw w n m ≡ Pass
+pub written : (bw : ℕ) (w : List ℕ) (n m c : ℕ) (d : List ℕ) → write_outcome bw w n m ≡ Ok tt
     → channel_after bw w n m c d ≡ candidate bw w c ++ drop (length (candidate bw w c)) d
 unfolding channel_after front
 written bw w n m c d e = rw e
@@ -88,7 +88,7 @@ module _ (bw : ℕ) (w : List ℕ) where
       go true e = present_length bw w 2 e ∙ sym k
       go false e = absent_length bw w 2 e
 
-module _ (bw : ℕ) (a b : List ℕ) (e : outcome11 bw a b ≡ Pass) where
+module _ (bw : ℕ) (a b : List ℕ) (e : outcome11 bw a b ≡ Ok tt) where
   abbrev bytes : ℕ
   bytes = bytes_for bw (count bw 1 a) (count bw 2 b)
 
@@ -102,7 +102,7 @@ module _ (bw : ℕ) (a b : List ℕ) (e : outcome11 bw a b ≡ Pass) where
   given_back x y x' y' r l m er ex ey =
       let w = words_of bw a b in
       let n : needed bw w ≡ bytes = needed_of bw a b e in
-      let o : write_outcome bw w (length x) (length y) ≡ Pass =
+      let o : write_outcome bw w (length x) (length y) ≡ Ok tt =
       write_outcome_pass bw w (length x) (length y) (accepted_known bw a b e)
       (candidate_reads bw a b w (record { accepted = e; the_words = refl }))
       (rw n l) (λ p. rw n (m p)) in

@@ -1,15 +1,16 @@
 -- What a call of the writer gives: its answer, and both lent channels afterwards.
 use Rattle.std.specs.Prelude.{not, List, ◌++◌, [], ◌∷◌, ℕ, length, drop}
-use Rattle.answer.specs.Answer.{no, refuse_if, ◌or◌, answer_at, after}
+use Rattle.answer.specs.Answer.{refuse_if, ◌or◌, answer_at, after}
 use Rattle.answer.specs.declared.Answer.{Answer}
-use Rattle.answer.specs.declared.Outcome.{Outcome}
+use Rattle.answer.specs.Answer.{Outcome}
+use Rattle.answer.specs.declared.Refusal.TheVariants.{NoFrameReads}
 use Rattle.halves.specs.Table.{check1}
 use Rattle.writer.specs.Room.{no_channel_room}
 use Rattle.writer.specs.Worked.{the_channel, the_bytes, some_read}
 
 -- 13: "no accepted channels read to exactly these words | 0, 0"
 unfoldable pub check13 : ℕ → List ℕ → Outcome
-check13 bw w = refuse_if (not (some_read bw w)) (no 13 0 0)
+check13 bw w = refuse_if (not (some_read bw w)) NoFrameReads
 
 -- 14, where the bytes of the words are needed
 unfoldable pub check14 : ℕ → List ℕ → ℕ → ℕ → Outcome

@@ -1,7 +1,7 @@
 -- The channels that words are written as, and whether there are any, as functions. An engine works them out, and nobody has to believe it: beside
 -- them stands that they are any channels that read to the words (`Worked`), and `proofs/Worked.antt` shows it of all words (`worked`).
 use Rattle.std.specs.Prelude.{◌≡◌, Bool, true, cond, List, ℕ, ◌≤◌, length}
-use Rattle.answer.specs.declared.Outcome.TheVariants.{Pass}
+use Rattle.std.specs.Prelude.{Ok}
 use Rattle.bits.specs.Bits.{bit, Small, Same}
 use Rattle.answer.specs.Decides.{Decides}
 use Rattle.channel.specs.Layout.{present, count, end_of}
@@ -13,7 +13,7 @@ use Rattle.judge.specs.Engine.{reads_to}
 
 -- channels, of bytes a and b, that are accepted and read to exactly the words w
 pub record ReadsTo (bw : ℕ) (a b w : List ℕ) : Type 0 where
-  pub accepted : outcome11 bw a b ≡ Pass
+  pub accepted : outcome11 bw a b ≡ Ok tt
   pub the_words : words_of bw a b ≡ w
 
 -- there are such

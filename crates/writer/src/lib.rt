@@ -13,7 +13,8 @@ ghost use Rattle.writer.specs.Engine.{Turned, Given};
 ghost use Rattle.writer.specs.Room.{no_channel_room};
 ghost use Rattle.writer.specs.Result.{front, write_answer, channel_after};
 
-use answer::{Answer, Outcome};
+use answer::{Answer, Refusal};
+use judge::Told;
 
 // ---- the channels
 
@@ -21,11 +22,8 @@ use answer::{Answer, Outcome};
 fn turn_users(words: &mut [u32])
     ensures { Turned words.old words.new }
 {
-    let n = words.len();
-    let mut i: usize = 10;
-    while i < n {
+    for i in 10..words.len() {
         words[i] = words::user_field(words[i]);
-        i += 1;
     }
 }
 
@@ -52,95 +50,75 @@ fn put_other(d: &mut [u8], need: usize, bw: u32, overflow: u32, row: &[u16], fie
     }
 }
 
-// Both channels, of the User fields of both and how many channel 1 has.
+// Both channels, of the User fields of both and what was told of them.
 fn put_both(
     bw: u32,
     fields: &[u32],
     row: &[u16],
-    n: usize,
+    told: Told,
     need: usize,
-    overflow: u32,
-    first: u64,
-    second: u64,
     cc1: &mut [u8],
     cc2: &mut [u8],
 )
-    requires { ((w : List ℕ) × Given bw w row.now fields.now n need overflow first second) × (need ≤ length cc1.old)
+    requires { ((w : List ℕ) × Given bw w row.now fields.now told.fields1 need told.overflow told.first told.second) × (need ≤ length cc1.old)
         × (present bw 2 ≡ true → need ≤ length cc2.old) }
-    ensures cc1_after { (w : List ℕ) → Given bw w row.now fields.now n need overflow first second
+    ensures cc1_after { (w : List ℕ) → Given bw w row.now fields.now told.fields1 need told.overflow told.first told.second
         → cc1.new ≡ front (candidate bw w 1) cc1.old }
-    ensures cc2_after { (w : List ℕ) → Given bw w row.now fields.now n need overflow first second
+    ensures cc2_after { (w : List ℕ) → Given bw w row.now fields.now told.fields1 need told.overflow told.first told.second
         → cc2.new ≡ front (candidate bw w 2) cc2.old }
 {
-    put_channel(cc1, need, bw, first, second, &fields[..n]);
-    put_other(cc2, need, bw, overflow, row, &fields[n..]);
+    let n = told.fields1;
+    put_channel(cc1, need, bw, told.first, told.second, &fields[..n]);
+    put_other(cc2, need, bw, told.overflow, row, &fields[n..]);
 }
 
 // ---- what is refused
 
 // 14, where so many bytes are needed and n and m lent.
-fn no_channel_room(bw: u32, need: usize, n: usize, m: usize) -> Outcome
+fn no_channel_room(bw: u32, need: usize, n: usize, m: usize) -> Result<(), Refusal>
     ensures { result ≡ no_channel_room bw need n m }
 {
     let there = channel::is_present(bw, 2);
-    answer::or_else(
-        answer::refuse_if(n < need, 14, 1, need),
-        answer::refuse_if(there & (m < need), 14, 2, need),
+    answer::refuse_if(
+        n < need,
+        Refusal::TooFewBytes {
+            channel: 1,
+            needed: need,
+        },
+    )?;
+    answer::refuse_if(
+        there & (m < need),
+        Refusal::TooFewBytes {
+            channel: 2,
+            needed: need,
+        },
     )
 }
 
-fn refused(number: u32) -> Answer
-    ensures { result ≡ no number 0 0 }
-{
-    Answer {
-        number,
-        channel: 0,
-        place: 0,
-    }
-}
-
-// Words that are told, of n and m User fields: 14, or both channels.
+// Words that are told: 14, or both channels.
 fn write_told(
     bw: u32,
     words: &mut [u32],
     row: &[u16],
-    n: usize,
-    m: usize,
-    overflow: u32,
-    first: u64,
-    second: u64,
+    told: Told,
     cc1: &mut [u8],
     cc2: &mut [u8],
 ) -> Answer
     requires { (bw ≤ 4) × (row.now ≡ row_in bw words.old) × (reads_to bw (candidate bw words.old 1) (candidate bw words.old 2) words.old ≡ true)
-        × (n ≡ count_in bw words.old 1) × (m ≡ count_in bw words.old 2) × Begun bw words.old overflow first second }
+        × (told.fields1 ≡ count_in bw words.old 1) × (told.fields2 ≡ count_in bw words.old 2)
+        × Begun bw words.old told.overflow told.first told.second }
     ensures value { result ≡ write_answer bw words.old (length cc1.old) (length cc2.old) }
     ensures cc1_after { cc1.new ≡ channel_after bw words.old (length cc1.old) (length cc2.old) 1 cc1.old }
     ensures cc2_after { cc2.new ≡ channel_after bw words.old (length cc1.old) (length cc2.old) 2 cc2.old }
 {
-    let need = candidate::bytes_for(bw, n, m);
+    let need = candidate::bytes_for(bw, told.fields1, told.fields2);
     let outcome = no_channel_room(bw, need, cc1.len(), cc2.len());
-    if let Outcome::Refuse(x) = outcome {
-        return x;
+    if let Err(x) = outcome {
+        return x.into();
     }
     turn_users(words);
-    put_both(
-        bw,
-        &words[10..],
-        row,
-        n,
-        need,
-        overflow,
-        first,
-        second,
-        cc1,
-        cc2,
-    );
-    Answer {
-        number: 0,
-        channel: 0,
-        place: need,
-    }
+    put_both(bw, &words[10..], row, told, need, cc1, cc2);
+    Answer::accepted(need)
 }
 
 // As `write`, from words that need not be kept: their User words are made fields where they stand.
@@ -152,29 +130,17 @@ fn write_own(bandwidth: u32, words: &mut [u32], cc1: &mut [u8], cc2: &mut [u8]) 
         ≡ channel_after bandwidth words.old (length cc1.old) (length cc2.old) 2 cc2.old }
 {
     if 4 < bandwidth {
-        return refused(1);
+        return Refusal::UnknownBandwidth.into();
     }
     let mut row = [0u16; 16];
     if !judge::take_row(&mut row, bandwidth, words) {
-        return refused(13);
+        return Refusal::NoFrameReads.into();
     }
     let p = channel::positions_of(bandwidth);
-    let verdict = judge::judge(bandwidth, words, &row[..p]);
-    if !verdict.told {
-        return refused(13);
-    }
-    write_told(
-        bandwidth,
-        words,
-        &row[..p],
-        verdict.fields1,
-        verdict.fields2,
-        verdict.overflow,
-        verdict.first,
-        verdict.second,
-        cc1,
-        cc2,
-    )
+    let Some(told) = judge::judge(bandwidth, words, &row[..p]) else {
+        return Refusal::NoFrameReads.into();
+    };
+    write_told(bandwidth, words, &row[..p], told, cc1, cc2)
 }
 
 // The words, in a copy of one's own.
@@ -182,12 +148,7 @@ fn copy_words(own: &mut [u32], words: &[u32])
     requires { length words.now ≤ length own.old }
     ensures { own.new ≡ filled (at words.now) (length words.now) own.old }
 {
-    let n = words.len();
-    let mut i: usize = 0;
-    while i < n {
-        own[i] = words[i];
-        i += 1;
-    }
+    own[..words.len()].copy_from_slice(words);
 }
 
 // Writes both channels from the words: the answer, and on acceptance the bytes at the front of the lent buffers. A
@@ -200,11 +161,11 @@ pub fn write(bandwidth: u32, words: &[u32], cc1: &mut [u8], cc2: &mut [u8]) -> A
         ≡ channel_after bandwidth words.now (length cc1.old) (length cc2.old) 2 cc2.old }
 {
     if 4 < bandwidth {
-        return refused(1);
+        return Refusal::UnknownBandwidth.into();
     }
     let n = words.len();
     if 154 < n {
-        return refused(13);
+        return Refusal::NoFrameReads.into();
     }
     let mut own = [0u32; 154];
     copy_words(&mut own, words);

@@ -5,8 +5,8 @@ use Rattle.halves.proofs.Half.{planned_made}
 use Rattle.both_halves.proofs.Halves.{stopped, both}
 use Rattle.both_halves.proofs.plan_accepted.Goals as goal
 
-pub returns-in-Refuse : goal.returns-in-Refuse
-returns-in-Refuse c = stopped c.args.bw c.args.a.now c.args.b.now _ _ c.plan_frame-plan.ensures c.in-Refuse.is
+pub returns-in-Err : goal.returns-in-Err
+returns-in-Err c = stopped c.args.bw c.args.a.now c.args.b.now _ _ c.plan_frame-plan.ensures c.in-Err.is
 
 pub check_users-outcome-requires : goal.check_users-outcome-requires
 check_users-outcome-requires c =

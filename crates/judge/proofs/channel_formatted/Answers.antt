@@ -8,7 +8,7 @@ use Rattle.judge.proofs.Formats.{row_holds, counts_are, turn_formats}
 use Rattle.judge.proofs.channel_formatted.Goals as goal
 
 pub loop-k-init : goal.loop-k-init
-loop-k-init c = (omega arith, before_none _ _, refl)
+loop-k-init c = (before_none _ _, refl)
 
 pub bounds-row-p : goal.bounds-row-p
 bounds-row-p c =
@@ -20,7 +20,7 @@ overflow_add-first c =
     let in_turn : Turn c.args.bw c.args.c (candidate c.args.bw c.args.words.now c.args.c) c.args.row.now c.loop-k.j c.loop-k.k c.fields_of-m.result =
     turn c.args.bw c.args.c _ c.args.row.now c.loop-k.j c.loop-k.k c.fields_of-m.result
     (row_holds c.args.bw c.args.words.now c.requires.0 c.args.c c.requires.1 c.requires.2 c.args.row.now c.requires.3)
-    (omega (arith, c.subfields_of-n.ensures.value)) c.loop-k.invariant.1 c.fields_of-m.ensures in
+    (omega (arith, c.subfields_of-n.ensures.value)) c.loop-k.invariant.0 c.fields_of-m.ensures in
     omega (arith, in_turn.few)
 
 pub run_formatted-all-requires : goal.run_formatted-all-requires
@@ -28,7 +28,7 @@ run_formatted-all-requires c =
     let in_turn : Turn c.args.bw c.args.c (candidate c.args.bw c.args.words.now c.args.c) c.args.row.now c.loop-k.j c.loop-k.k c.fields_of-m.result =
     turn c.args.bw c.args.c _ c.args.row.now c.loop-k.j c.loop-k.k c.fields_of-m.result
     (row_holds c.args.bw c.args.words.now c.requires.0 c.args.c c.requires.1 c.requires.2 c.args.row.now c.requires.3)
-    (omega (arith, c.subfields_of-n.ensures.value)) c.loop-k.invariant.1 c.fields_of-m.ensures in
+    (omega (arith, c.subfields_of-n.ensures.value)) c.loop-k.invariant.0 c.fields_of-m.ensures in
     let counted : c.loop-k.j + c.fields_of-m.result ≤ count_in c.args.bw c.args.words.now c.args.c =
     omega (arith, in_turn.fits, counts_are c.args.bw c.args.words.now c.requires.0 c.args.c c.requires.1 c.requires.2) in
     omega (arith, counted)
@@ -38,7 +38,7 @@ overflow_add-j c =
     let in_turn : Turn c.args.bw c.args.c (candidate c.args.bw c.args.words.now c.args.c) c.args.row.now c.loop-k.j c.loop-k.k c.fields_of-m.result =
     turn c.args.bw c.args.c _ c.args.row.now c.loop-k.j c.loop-k.k c.fields_of-m.result
     (row_holds c.args.bw c.args.words.now c.requires.0 c.args.c c.requires.1 c.requires.2 c.args.row.now c.requires.3)
-    (omega (arith, c.subfields_of-n.ensures.value)) c.loop-k.invariant.1 c.fields_of-m.ensures in
+    (omega (arith, c.subfields_of-n.ensures.value)) c.loop-k.invariant.0 c.fields_of-m.ensures in
     omega (arith, in_turn.few)
 
 pub loop-k-preserved : goal.loop-k-preserved
@@ -46,13 +46,12 @@ loop-k-preserved c =
     let in_turn : Turn c.args.bw c.args.c (candidate c.args.bw c.args.words.now c.args.c) c.args.row.now c.loop-k.j c.loop-k.k c.fields_of-m.result =
     turn c.args.bw c.args.c _ c.args.row.now c.loop-k.j c.loop-k.k c.fields_of-m.result
     (row_holds c.args.bw c.args.words.now c.requires.0 c.args.c c.requires.1 c.requires.2 c.args.row.now c.requires.3)
-    (omega (arith, c.subfields_of-n.ensures.value)) c.loop-k.invariant.1 c.fields_of-m.ensures in
+    (omega (arith, c.subfields_of-n.ensures.value)) c.loop-k.invariant.0 c.fields_of-m.ensures in
     let t = in_turn in (
-      omega arith,
       t.next,
       turn_formats c.args.bw c.args.words.now c.requires.0 c.args.c c.args.first c.args.row.now c.args.shared c.loop-k.j c.loop-k.k c.fields_of-m.result
           c.loop-k.all _
-          c.requires.3 c.requires.4 t c.loop-k.invariant.1 c.loop-k.invariant.2 c.run_formatted-all.ensures,
+          c.requires.3 c.requires.4 t c.loop-k.invariant.0 c.loop-k.invariant.1 c.run_formatted-all.ensures,
     )
 
 pub returns : goal.returns
@@ -60,6 +59,6 @@ returns c =
     let z = candidate c.args.bw c.args.words.now c.args.c in
     let e : c.loop-k.k ≡ subfields_in c.args.bw c.args.c = omega (arith, c.subfields_of-n.ensures.value) in
     let n : c.loop-k.j ≡ count_in c.args.bw c.args.words.now c.args.c =
-    c.loop-k.invariant.1 ∙ ap (before c.args.bw z) e ∙ count_before c.args.bw c.args.c z
+    c.loop-k.invariant.0 ∙ ap (before c.args.bw z) e ∙ count_before c.args.bw c.args.c z
     ∙ counts_are c.args.bw c.args.words.now c.requires.0 c.args.c c.requires.1 c.requires.2 in
-    rw (← n) c.loop-k.invariant.2
+    rw (← n) c.loop-k.invariant.1

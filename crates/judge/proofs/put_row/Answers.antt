@@ -6,12 +6,11 @@ use Rattle.judge.proofs.put_row.Goals as goal
 pub loop-k-init : goal.loop-k-init
 loop-k-init c =
     let a =
-    c.args in (omega arith, simp length-set c.requires.0, front_first a.words.now a.row.now _ (omega (arith, c.requires.0)) refl)
+    c.args in (simp length-set c.requires.0, front_first a.words.now a.row.now _ (omega (arith, c.requires.0)) refl)
 
 pub loop-k-preserved : goal.loop-k-preserved
 loop-k-preserved c = (
-  omega arith,
-  simp length-set c.loop-k.invariant.1,
-  front_three c.args.words.now c.loop-k.k _ c.loop-k.row c.loop-k.invariant.2
-      c.loop-k.invariant.1 (omega arith) refl,
+  simp length-set c.loop-k.invariant.0,
+  front_three c.args.words.now c.loop-k.k _ c.loop-k.row c.loop-k.invariant.1
+      c.loop-k.invariant.0 (omega arith) refl,
 )

@@ -1,12 +1,9 @@
--- What the loops of `judge::run_formatted` keep, and what falls.
-use Rattle.std.proofs.Common.{◌+◌, ◌-◌, ◌≤◌, ◌≡◌, cond}
+-- What the loops of `judge::run_formatted` keep.
+use Rattle.std.proofs.Common.{◌+◌, ◌≡◌, cond}
 use Rattle.answer.specs.Every.{every}
 use Rattle.answer.specs.Lists.{at}
 use Rattle.judge.specs.Engine.{formatted}
 use Rattle.judge.proofs.run_formatted.Given as goal
 
 abbrev pub invariant-loop-i : goal.invariant-loop-i
-invariant-loop-i l = (l.i ≤ l.fn.m) × (l.known ≡ cond l.fn.shared 0x47 0x3F) × (l.all ≡ every (λ q. formatted l.fn.shared (at l.fn.words (l.fn.j + q))) l.i)
-
-abbrev pub decreases-loop-i : goal.decreases-loop-i
-decreases-loop-i l = l.fn.m - l.i
+invariant-loop-i l = (l.known ≡ cond l.fn.shared 0x47 0x3F) × (l.all ≡ every (λ q. formatted l.fn.shared (at l.fn.words (l.fn.j + q))) l.i)

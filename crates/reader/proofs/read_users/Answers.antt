@@ -1,7 +1,7 @@
 -- `reader::read_users` meets its contract.
-use Rattle.std.proofs.Common.{ℕ, List, ◌+◌, ◌≡◌, sym, ◌∙◌, ap₂, arith, length}
-use Rattle.answer.specs.Answer.{◌or◌}
-use Rattle.answer.specs.declared.Outcome.{Outcome}
+use Rattle.std.proofs.Common.{ℕ, List, ◌+◌, ◌≡◌, sym, ◌∙◌, ap, ap₂, arith}
+use Rattle.answer.specs.Answer.{no, ◌or◌}
+use Rattle.answer.specs.Answer.{Outcome}
 use Rattle.answer.proofs.Lists.{front_filled}
 use Rattle.frame_words.specs.Words.{words_of}
 use Rattle.frame_words.proofs.Counted.{counted}
@@ -18,42 +18,44 @@ says : (bw : ℕ) (a b : List ℕ) (n m room : ℕ) (r o : Outcome) → n ≡ co
 unfolding check12
 says bw a b n m room r o e f g h = h ∙ ap₂ (λ (o : Outcome) (need : ℕ). o or no_room need room) g (counted bw a b n m e f)
 
-pub returns-in-Refuse-clause-value : goal.returns-in-Refuse-clause-value
+pub returns-in-Err-clause-value : goal.returns-in-Err-clause-value
 unfolding users_answer users_after
-returns-in-Refuse-clause-value c =
-    let e = sym (says _ _ _ _ _ _ _ _ c.requires.0.count1 c.requires.0.count2 c.check_users-seen.ensures.value c.then_room-outcome.ensures) ∙ c.in-Refuse.is in
+returns-in-Err-clause-value g c =
+    let e = sym (says _ _ _ _ _ _ _ _ c.requires.0.count1 c.requires.0.count2 c.take_checked-seen.ensures.value c.then_room-outcome.ensures) ∙ c.in-Err.is in
+    rw e c.into.ensures
+
+pub returns-in-Err-clause-words_after : goal.returns-in-Err-clause-words_after
+unfolding users_answer users_after
+returns-in-Err-clause-words_after g c =
+    let e = sym (says _ _ _ _ _ _ _ _ c.requires.0.count1 c.requires.0.count2 c.take_checked-seen.ensures.value c.then_room-outcome.ensures) ∙ c.in-Err.is in
     rw e
 
-pub returns-in-Refuse-clause-words_after : goal.returns-in-Refuse-clause-words_after
-unfolding users_answer users_after
-returns-in-Refuse-clause-words_after c =
-    let e = sym (says _ _ _ _ _ _ _ _ c.requires.0.count1 c.requires.0.count2 c.check_users-seen.ensures.value c.then_room-outcome.ensures) ∙ c.in-Refuse.is in
-    rw e
-
-pub put_frame-requires : goal.put_frame-requires
-put_frame-requires c =
-    let e = sym (says _ _ _ _ _ _ _ _ c.requires.0.count1 c.requires.0.count2 c.check_users-seen.ensures.value c.then_room-outcome.ensures) ∙ c.in_default.is
+pub put_frame_to-requires : goal.put_frame_to-requires
+put_frame_to-requires g c =
+    let e = sym (says _ _ _ _ _ _ _ _ c.requires.0.count1 c.requires.0.count2 c.take_checked-seen.ensures.value c.then_room-outcome.ensures) ∙ c.in_default.is
     in (
-      room_enough c.args.bw c.args.a.now c.args.b.now (length c.args.words.now) e,
-      omega (arith, c.check_users-seen.auto.fields),
+      omega (arith, room_enough c.args.bw c.args.a.now c.args.b.now c.args.room e, c.requires.2),
+      omega (arith, c.take_checked-seen.auto.fields),
       c.requires.0.known,
       c.requires.0.the_row,
       c.requires.0.formats,
       c.requires.0.count1,
       c.requires.0.count2,
-      front_filled _ (c.args.n + c.args.m) c.args.fields.now c.check_users-seen.new.fields
-          (c.check_users-seen.ensures.fields_after (c.check_users-seen.ensures.value ∙ users_pass c.args.bw c.args.a.now c.args.b.now (length c.args.words.now)
+      front_filled _ (c.args.n + c.args.m) c.args.fields.now c.take_checked-seen.new.fields
+          (c.take_checked-seen.ensures.fields_after (c.take_checked-seen.ensures.value ∙ users_pass c.args.bw c.args.a.now c.args.b.now c.args.room
           e)),
     )
 
 pub returns-clause-value : goal.returns-clause-value
 unfolding users_answer users_after words_of
-returns-clause-value c =
-    let e = sym (says _ _ _ _ _ _ _ _ c.requires.0.count1 c.requires.0.count2 c.check_users-seen.ensures.value c.then_room-outcome.ensures) ∙ c.in_default.is in
-    rw (e, counted c.args.bw c.args.a.now c.args.b.now c.args.n c.args.m c.requires.0.count1 c.requires.0.count2)
+returns-clause-value g c =
+    let e = sym (says _ _ _ _ _ _ _ _ c.requires.0.count1 c.requires.0.count2 c.take_checked-seen.ensures.value c.then_room-outcome.ensures)
+    ∙ c.in_default.is in
+    rw e (c.accepted.ensures ∙ ap (no 0 0) (counted c.args.bw c.args.a.now c.args.b.now c.args.n c.args.m c.requires.0.count1 c.requires.0.count2))
 
 pub returns-clause-words_after : goal.returns-clause-words_after
 unfolding users_answer users_after words_of
-returns-clause-words_after c =
-    let e = sym (says _ _ _ _ _ _ _ _ c.requires.0.count1 c.requires.0.count2 c.check_users-seen.ensures.value c.then_room-outcome.ensures) ∙ c.in_default.is in
-    rw (e, ← c.requires.0.the_row) c.put_frame.ensures
+returns-clause-words_after g c =
+    let e = sym (says _ _ _ _ _ _ _ _ c.requires.0.count1 c.requires.0.count2 c.take_checked-seen.ensures.value c.then_room-outcome.ensures) ∙
+    c.in_default.is in
+    rw (e, ← c.requires.0.the_row) c.put_frame_to.ensures.written

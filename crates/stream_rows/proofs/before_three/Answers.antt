@@ -7,7 +7,7 @@ use Rattle.stream_rows.proofs.before_three.Goals as goal
 
 pub loop-i-init : goal.loop-i-init
 unfolding gather before_three
-loop-i-init c = (omega arith, refl, omega arith)
+loop-i-init c = (refl, omega arith)
 
 pub loop-i-preserved : goal.loop-i-preserved
-loop-i-preserved c = (omega arith, omega (arith, three_next c.args.users c.args.a c.loop-i.i), omega arith)
+loop-i-preserved c = (omega (arith, three_next c.args.users c.args.a c.loop-i.i), omega arith)

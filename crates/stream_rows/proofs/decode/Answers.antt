@@ -3,7 +3,6 @@ use mathlib.Core.Path.{◌≡◌, refl}
 use Prim.Native.Nat.{◌+◌, ◌-◌, ◌≤◌}
 use native.Mathlib.Omega.{arith}
 use lib.Dec.{leb}
-use mir.Val.{bool_byte}
 use Rattle.stream_rows.specs.Engine.{before_two}
 use Rattle.stream_rows.proofs.Totals.{Starts, starts}
 use Rattle.stream_rows.proofs.Worked.{two_over}
@@ -18,8 +17,8 @@ on c =
     c.requires.1 (omega arith)
 
 pub loop-n-init : goal.loop-n-init
-loop-n-init c = let h : Starts c.args.users c.args.number (bool_byte (leb 10 c.args.number)) = starts c.args.users c.args.number (leb 10 c.args.number) refl
-    c.requires.0 c.requires.1 in (h.two_most, c.rows_with-n.ensures.0, h.stepped)
+loop-n-init c = let h : Starts c.args.users c.args.number c.from-past.result = rw c.from-past.ensures
+    (starts c.args.users c.args.number (leb 10 c.args.number) refl c.requires.0 c.requires.1) in (h.two_most, c.rows_with-n.ensures.0, h.stepped)
 
 pub rows_with-n-requires-in-loop-n : goal.rows_with-n-requires-in-loop-n
 rows_with-n-requires-in-loop-n c = let r = on c in (c.requires.0, omega arith)

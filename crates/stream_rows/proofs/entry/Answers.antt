@@ -9,5 +9,7 @@ pub returns : goal.returns
 unfolding over entry_of
 returns c = let two = ltb c.args.place c.args.shape.two in
     let three = ltb c.args.place c.args.shape.three in
-    let four = ltb c.args.place c.args.shape.four in
-    (rw (byte_cond two, byte_cond three, byte_cond four), omega (arith, byte_le two, byte_le three, byte_le four))
+    let four = ltb c.args.place c.args.shape.four in (
+      rw (c.from.ensures, c.from-2.ensures, c.from-3.ensures, byte_cond two, byte_cond three, byte_cond four),
+      omega (arith, byte_le two, byte_le three, byte_le four),
+    )

@@ -1,14 +1,10 @@
--- What the loops of `stream_rows::fill_row` keep, and what falls.
+-- What the loops of `stream_rows::fill_row` keep.
 use mathlib.Core.Path.{◌≡◌}
-use Prim.Native.Nat.{◌-◌, ◌≤◌}
 use lib.ListN.{length}
 use Rattle.answer.specs.Lists.{filled}
 use Rattle.stream_rows.specs.Engine.{entry_of}
 use Rattle.stream_rows.proofs.fill_row.Given as goal
 
 abbrev pub invariant-loop-i : goal.invariant-loop-i
-invariant-loop-i l = (l.i ≤ l.fn.users) × (l.row ≡ filled (entry_of l.fn.shape.two l.fn.shape.three l.fn.shape.four) l.i l.initial.row) ×
+invariant-loop-i l = (l.row ≡ filled (entry_of l.fn.shape.two l.fn.shape.three l.fn.shape.four) l.i l.initial.row) ×
     (length l.row ≡ length l.initial.row)
-
-abbrev pub decreases-loop-i : goal.decreases-loop-i
-decreases-loop-i l = l.fn.users - l.i

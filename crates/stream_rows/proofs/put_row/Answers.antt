@@ -15,14 +15,14 @@ pub fill_row-requires : goal.fill_row-requires
 fill_row-requires c = let f = sym c.judge_row-judged.ensures ∙ c.in_default.is in
     (row_passed c.args.users c.args.number (length c.args.row.now) f).room
 
-pub returns-in-Refuse-clause-value : goal.returns-in-Refuse-clause-value
+pub returns-in-Err-clause-value : goal.returns-in-Err-clause-value
 unfolding row_answer row_after
-returns-in-Refuse-clause-value c = let f = sym c.judge_row-judged.ensures ∙ c.in-Refuse.is in
-    rw f
+returns-in-Err-clause-value c = let f = sym c.judge_row-judged.ensures ∙ c.in-Err.is in
+    rw f c.into.ensures
 
-pub returns-in-Refuse-clause-row_after : goal.returns-in-Refuse-clause-row_after
+pub returns-in-Err-clause-row_after : goal.returns-in-Err-clause-row_after
 unfolding row_answer row_after
-returns-in-Refuse-clause-row_after c = let f = sym c.judge_row-judged.ensures ∙ c.in-Refuse.is in
+returns-in-Err-clause-row_after c = let f = sym c.judge_row-judged.ensures ∙ c.in-Err.is in
     rw f
 
 pub returns-clause-value : goal.returns-clause-value
@@ -30,7 +30,7 @@ unfolding row_answer row_after
 returns-clause-value c = let f =
     sym c.judge_row-judged.ensures
     ∙ c.in_default.is in
-    rw f
+    rw f c.accepted.ensures
 
 pub returns-clause-row_after : goal.returns-clause-row_after
 unfolding row_answer row_after

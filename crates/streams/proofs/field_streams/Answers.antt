@@ -14,8 +14,10 @@ unfolding word_streams streams_by shared_streams
 returns-then-code-lt2 c = rw (ne_eqb _ 2046 c.if-w-eq2046.false, lt-ltb _ 2 c.if-code-lt2.true) c.alone_streams.ensures
 
 pub entry_at-requires : goal.entry_at-requires
-entry_at-requires c = (c.requires.1, word_row _ _ c.requires.2 c.if-w-eq2046.false c.if-code-lt2.false, c.requires.0)
+entry_at-requires c =
+    rw (c.from.ensures, c.from-2.ensures) (c.requires.1, word_row _ _ c.requires.2 c.if-w-eq2046.false c.if-code-lt2.false, c.requires.0)
 
 pub returns : goal.returns
 unfolding word_streams streams_by shared_streams
-returns c = rw (ne_eqb _ 2046 c.if-w-eq2046.false, le-ltb _ 2 c.if-code-lt2.false) c.entry_at.ensures.0
+returns c = rw (ne_eqb _ 2046 c.if-w-eq2046.false, le-ltb _ 2 c.if-code-lt2.false)
+    (rw (c.from.ensures, c.from-2.ensures) at c.entry_at.ensures.0)

@@ -5,4 +5,4 @@ use Rattle.streams.proofs.names_none.Goals as goal
 
 pub returns : goal.returns
 unfolding word_none none_by
-returns c = rw c.rows_of.ensures
+returns c = rw (c.rows_of.ensures, c.from-users.ensures)

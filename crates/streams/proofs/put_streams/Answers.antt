@@ -13,13 +13,13 @@ unfolding all_named named_in
 is_named codes words x e h = not-true _ (every_at (named_in codes words) (length words) e x h)
 
 pub loop-x-init : goal.loop-x-init
-loop-x-init c = (omega arith, filled_start _ _, refl)
+loop-x-init c = (filled_start _ _, refl)
 
 pub field_streams-requires : goal.field_streams-requires
 field_streams-requires c = (
-  c.requires.words_coded.1.turn _ c.loop-x-test.true,
-  c.requires.words_coded.1.few _ c.loop-x-test.true,
-  is_named c.args.codes.now c.args.words.now _ c.requires.words_coded.2 c.loop-x-test.true,
+  c.requires.words_coded.1.turn _ (omega arith),
+  c.requires.words_coded.1.few _ (omega arith),
+  is_named c.args.codes.now c.args.words.now _ c.requires.words_coded.2 (omega arith),
 )
 
 pub loop-x-preserved : goal.loop-x-preserved
@@ -27,5 +27,5 @@ unfolding streams_in
 loop-x-preserved c =
     let f = streams_in c.args.codes.now c.args.words.now in
     let e : set c.loop-x.out c.loop-x.x c.field_streams.result ≡ filled f (c.loop-x.x + 1) c.args.out.now =
-    rw c.loop-x.invariant.1 (filled_step f c.loop-x.x c.field_streams.result c.args.out.now (omega arith) c.field_streams.ensures) in
-    (omega arith, e, simp length-set c.loop-x.invariant.2)
+    rw c.loop-x.invariant.0 (filled_step f c.loop-x.x c.field_streams.result c.args.out.now (omega arith) c.field_streams.ensures) in
+    (e, simp length-set c.loop-x.invariant.1)

@@ -1,15 +1,11 @@
 -- `writer::copy_words` meets its contract.
-use Rattle.std.proofs.Common.{refl, arith, length-set}
+use Rattle.std.proofs.Common.{refl, ap, ◌++◌, List, ℕ, length, drop}
 use Rattle.answer.specs.Lists.{at}
-use Rattle.answer.proofs.Lists.{filled_start, filled_step}
+use Rattle.answer.proofs.Lists.{build_is}
 use Rattle.writer.proofs.copy_words.Goals as goal
 
-pub loop-i-init : goal.loop-i-init
-loop-i-init c = (omega arith, filled_start _ _, refl)
-
-pub loop-i-preserved : goal.loop-i-preserved
-loop-i-preserved c = (
-  omega arith,
-  rw c.loop-i.invariant.1 (filled_step (at c.args.words.now) c.loop-i.i (at c.args.words.now c.loop-i.i) c.args.own.now (omega arith) refl),
-  simp length-set c.loop-i.invariant.2,
-)
+pub returns : goal.returns
+unfolding Rattle.answer.specs.Lists.filled
+returns c =
+    let w = c.args.words.now in
+    rw c.copy_from_slice.ensures.after (ap (λ (l : List ℕ). l ++ drop (length w) c.args.own.now) (build_is (at w) 0 w (length w) refl (λ i l. refl)))

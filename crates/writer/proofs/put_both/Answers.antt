@@ -10,9 +10,11 @@ use Rattle.writer.proofs.put_both.Goals as goal
 
 pub put_channel-requires : goal.put_channel-requires
 put_channel-requires c =
-    let u = first_fields c.args.bw c.requires.0.0 c.args.row.now c.args.fields.now c.args.n c.args.need c.args.overflow c.args.first c.args.second
+    let u = first_fields c.args.bw c.requires.0.0 c.args.row.now c.args.fields.now c.args.told.fields1 c.args.need
+    c.args.told.overflow c.args.told.first c.args.told.second
     c.requires.0.1 in (
-      first_reach c.args.bw c.requires.0.0 c.args.row.now c.args.fields.now c.args.n c.args.need c.args.overflow c.args.first c.args.second c.requires.0.1,
+      first_reach c.args.bw c.requires.0.0 c.args.row.now c.args.fields.now c.args.told.fields1 c.args.need
+          c.args.told.overflow c.args.told.first c.args.told.second c.requires.0.1,
       omega (arith, c.requires.0.1.enough, needed_le c.args.bw c.requires.0.0),
       c.requires.1,
       c.requires.0.1.begun.the_first.0,
@@ -23,16 +25,19 @@ put_channel-requires c =
 
 pub put_other-requires : goal.put_other-requires
 put_other-requires c =
-    let u = other_fields c.args.bw c.requires.0.0 c.args.row.now c.args.fields.now c.args.n c.args.need c.args.overflow c.args.first c.args.second
+    let u = other_fields c.args.bw c.requires.0.0 c.args.row.now c.args.fields.now c.args.told.fields1 c.args.need
+    c.args.told.overflow c.args.told.first c.args.told.second
     c.requires.0.1 in (
       c.requires.0.1.known,
-      other_reach c.args.bw c.requires.0.0 c.args.row.now c.args.fields.now c.args.n c.args.need c.args.overflow c.args.first c.args.second c.requires.0.1,
+      other_reach c.args.bw c.requires.0.0 c.args.row.now c.args.fields.now c.args.told.fields1 c.args.need
+          c.args.told.overflow c.args.told.first c.args.told.second c.requires.0.1,
       omega (arith, c.requires.0.1.enough, needed_le c.args.bw c.requires.0.0),
       omega (arith, u.counted, count_in_le c.args.bw c.requires.0.0 2),
       narrow_in c.args.bw c.requires.0.0 2 _ u,
       λ h. (
         c.requires.2 h,
-        row_reach c.args.bw c.requires.0.0 c.args.row.now c.args.fields.now c.args.n c.args.need c.args.overflow c.args.first c.args.second
+        row_reach c.args.bw c.requires.0.0 c.args.row.now c.args.fields.now c.args.told.fields1 c.args.need
+            c.args.told.overflow c.args.told.first c.args.told.second
             c.requires.0.1 h,
       ),
     )
@@ -41,10 +46,12 @@ pub returns : goal.returns
 returns c = record {
   cc1_after = λ w g.
       c.put_channel.ensures (candidate c.args.bw w 1) (present_length c.args.bw w 1 (present_1 c.args.bw) ∙ sym g.enough)
-      (candidate_made c.args.bw w c.args.row.now 1 (lent_1 c.args.bw w c.args.row.now g.known g.the_row) (take c.args.n c.args.fields.now)
-      (first_fields c.args.bw w c.args.row.now c.args.fields.now c.args.n c.args.need c.args.overflow c.args.first c.args.second g) _ _
+      (candidate_made c.args.bw w c.args.row.now 1 (lent_1 c.args.bw w c.args.row.now g.known g.the_row) (take c.args.told.fields1 c.args.fields.now)
+      (first_fields c.args.bw w c.args.row.now c.args.fields.now c.args.told.fields1 c.args.need
+      c.args.told.overflow c.args.told.first c.args.told.second g) _ _
       g.begun.the_first.1 g.begun.the_second.1);
   cc2_after = λ w g.
       c.put_other.ensures w g.the_row g.begun.the_overflow
-      (other_fields c.args.bw w c.args.row.now c.args.fields.now c.args.n c.args.need c.args.overflow c.args.first c.args.second g) g.enough;
+      (other_fields c.args.bw w c.args.row.now c.args.fields.now c.args.told.fields1 c.args.need
+      c.args.told.overflow c.args.told.first c.args.told.second g) g.enough;
 }

@@ -1,10 +1,7 @@
--- What the loops of `writer::turn_users` keep, and what falls.
-use Rattle.std.proofs.Common.{◌-◌, ◌≤◌, ◌≡◌, length}
+-- What the loops of `writer::turn_users` keep.
+use Rattle.std.proofs.Common.{◌≡◌, length}
 use Rattle.writer.proofs.Steps.{Turning}
 use Rattle.writer.proofs.turn_users.Given as goal
 
 abbrev pub invariant-loop-i : goal.invariant-loop-i
-invariant-loop-i l = (10 ≤ l.i) × (length l.words ≡ length l.initial.words) × Turning l.initial.words l.i l.words
-
-abbrev pub decreases-loop-i : goal.decreases-loop-i
-decreases-loop-i l = l.n - l.i
+invariant-loop-i l = (length l.words ≡ length l.initial.words) × Turning l.initial.words l.i l.words

@@ -10,7 +10,7 @@ pub returns-then-bandwidth-gt4 : goal.returns-then-bandwidth-gt4
 unfolding write_answer channel_after
 returns-then-bandwidth-gt4 c =
     let e = one_outcome c.args.bandwidth c.args.words.now (length c.args.cc1.now) (length c.args.cc2.now) (omega arith) in record {
-      value = c.refused.ensures ∙ rw e;
+      value = c.into.ensures ∙ rw e;
       cc1_after = rw e;
       cc2_after = rw e;
     }
@@ -22,7 +22,7 @@ returns-then-n-gt154 c =
     let e =
     thirteen_outcome c.args.bandwidth c.args.words.now (length c.args.cc1.now) (length c.args.cc2.now) l
     (not_so_many c.args.bandwidth c.args.words.now l c.if-n-gt154.true) in record {
-      value = c.refused-then-n-gt154.ensures ∙ rw e;
+      value = c.into-then-n-gt154.ensures ∙ rw e;
       cc1_after = rw e;
       cc2_after = rw e;
     }

@@ -1,8 +1,0 @@
--- `words::alone_word` meets its contract.
-use native.Mathlib.Nat.{add-zero}
-use Rattle.words.specs.Words.{user_word}
-use Rattle.words.proofs.alone_word.Goals as goal
-
-pub returns : goal.returns
-unfolding user_word
-returns c = rw add-zero
