@@ -10,19 +10,17 @@ use borrow.Author.Tests.{le-ltb, ltb-true, ltb-false}
 use lib.Dec.{ltb}
 use lib.ListN.{length, drop, get_or}
 use lib.Seq.{get_or-drop}
+use Rattle.std.specs.Prelude.{Ok, Err}
 use Rattle.answer.proofs.Lists.{build_cong}
-use Rattle.input.specs.declared.Parsed.{Parsed}
-use Rattle.input.specs.declared.Parsed.TheVariants.{Wrong, Lines}
 use Rattle.input.specs.Form.{Bytes, text_of, IsWrongLine}
-use Rattle.input.specs.Engine.{pick, first_three, past_three, three_lines, pair_of, byte_of, bytes_at, second_at}
+use Rattle.input.specs.Engine.{Parsed, pick, first_three, past_three, three_lines, pair_of, byte_of, bytes_at, second_at}
 use Rattle.input.proofs.Front.{Front, front_is, front_read}
 use Rattle.input.proofs.Wrong.{front_wrong, wrong_line}
 use Rattle.input.proofs.Exact.{Reads, lines_read, text_read}
 use Rattle.captures.specs.declared.Capture.{Capture}
-use Rattle.captures.specs.declared.Captures.{Captures}
-use Rattle.captures.specs.declared.Captures.TheVariants.{WrongLine, Both}
 use Rattle.captures.specs.Form.{WrongAfter, WrongOfSix}
-use Rattle.captures.specs.Engine.{capture_at, past_of, then_second, from_first, six_lines, two_parsed, first_bytes, second_bytes}
+use Rattle.captures.specs.Engine.{Captures, wrong_of_six, both, capture_at, past_of, then_second, from_first, six_lines}
+use Rattle.captures.specs.Engine.{two_parsed, first_bytes, second_bytes}
 use Rattle.captures.specs.Worked.{TextOfTwo}
 
 -- the pairs of a part of the text, by their places in the whole
@@ -44,8 +42,8 @@ pub record Found (s : List ℕ) (c c' : Capture) : Type 0 where
 
 -- what the reading comes to, whichever it is
 abbrev pub Verdict : List ℕ → Captures → Type 0
-Verdict s (WrongLine k) = ((16384 < length s) × (k ≡ 0)) ⊎ ((length s ≤ 16384) × WrongOfSix k s)
-Verdict s (Both c c') = Found s c c'
+Verdict s (Err w) = ((16384 < length s) × (w.line ≡ 0)) ⊎ ((length s ≤ 16384) × WrongOfSix w.line s)
+Verdict s (Ok (c, c')) = Found s c c'
 
 of_first : (k : ℕ) (s : List ℕ) → k ≤ 3 → IsWrongLine k s → WrongOfSix k s
 of_first zero s l w = w
@@ -107,14 +105,16 @@ verdict s = go (ltb 16384 (length s)) refl
   where
     second : length s ≤ 16384 → (d n m : ℕ) → Front s d n m → (r : Parsed) → three_lines (drop (past_three n m) s) ≡ r
         → Verdict s (then_second (capture_at 0 d n m) r)
-    second l d n m f (Wrong k) e = inr (l, of_second s d n m f k (wrong_line (drop (past_three n m) s) k e))
-    second l d n m f (Lines d' n' m') e = both_found s d n m f d' n' m' l (lines_read (drop (past_three n m) s) d' n' m' e)
+    second l d n m f (Err w) e = inr (l, of_second s d n m f w.line (wrong_line (drop (past_three n m) s) w.line e))
+    second l d n m f (Ok t) e =
+        both_found s d n m f t.bw t.first t.second l (lines_read (drop (past_three n m) s) t.bw t.first t.second e)
 
     first : length s ≤ 16384 → (r : Parsed) → first_three s ≡ r → Verdict s (from_first s r)
-    first l (Wrong k) e = let w = front_wrong s k e in inr (l, of_first k s w.0 w.1)
-    first l (Lines d n m) e = second l d n m (front_is s d n m e) (three_lines (drop (past_three n m) s)) refl
+    first l (Err w) e = let h = front_wrong s w.line e in inr (l, of_first w.line s h.0 h.1)
+    first l (Ok t) e =
+        second l t.bw t.first t.second (front_is s t.bw t.first t.second e) (three_lines (drop (past_three t.first t.second) s)) refl
 
-    go : (b : Bool) → ltb 16384 (length s) ≡ b → Verdict s (pick b (WrongLine 0) (from_first s (first_three s)))
+    go : (b : Bool) → ltb 16384 (length s) ≡ b → Verdict s (pick b (wrong_of_six 0) (from_first s (first_three s)))
     go true f = inl (ltb-true 16384 (length s) f, refl)
     go false f = first (ltb-false 16384 (length s) f) (first_three s) refl
 
@@ -122,7 +122,7 @@ verdict s = go (ltb 16384 (length s)) refl
 pub record FoundIn (s : List ℕ) (d : ℕ) (a b : List ℕ) (d' : ℕ) (a' b' : List ℕ) : Type 0 where
   pub one : Capture
   pub other : Capture
-  pub parsed : two_parsed s ≡ Both one other
+  pub parsed : two_parsed s ≡ both one other
   pub digits : (one.bw ≡ d) × (other.bw ≡ d')
   pub first_bytes_fact : (first_bytes s one ≡ a) × (second_bytes s one ≡ b)
   pub second_bytes_fact : (first_bytes s other ≡ a') × (second_bytes s other ≡ b')

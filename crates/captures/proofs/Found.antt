@@ -8,10 +8,9 @@ use Rattle.answer.specs.Lists.{filled}
 use Rattle.answer.proofs.Lists.{take_filled, length_build}
 use Rattle.input.specs.Form.{text_of}
 use Rattle.input.specs.Engine.{byte_of, second_at}
-use Rattle.input.proofs.Lines.{length_text}
+use Rattle.input.proofs.Keyed.{length_text}
 use Rattle.captures.specs.declared.Capture.{Capture}
-use Rattle.captures.specs.declared.Captures.TheVariants.{Both}
-use Rattle.captures.specs.Engine.{past_of, two_parsed, first_bytes, second_bytes}
+use Rattle.captures.specs.Engine.{both, past_of, two_parsed, first_bytes, second_bytes}
 use Rattle.captures.specs.Worked.{frames, said_two}
 use Rattle.captures.proofs.Exact.{Verdict, verdict, Found}
 
@@ -39,7 +38,7 @@ module _ (s : List ℕ) (c c' : Capture) where
       let j' = length_build (byte_of s (c'.at + second_at c'.first)) c'.second in
       omega arith
 
-  module _ {r : _} (e : r ≡ two_parsed s) (h : r ≡ Both c c') where
+  module _ {r : _} (e : r ≡ two_parsed s) (h : r ≡ both c c') where
     pub found : Found s c c'
     found = subst (Verdict s) (sym e ∙ h) (verdict s)
 

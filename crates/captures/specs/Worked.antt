@@ -1,11 +1,9 @@
 -- What a text of two captures says, as a function. An engine works it out, and nobody has to believe it: beside it stands that it is what
 -- `Form.antt` says of the text (`Worked`), and `proofs/Worked.antt` shows it of every text (`worked`).
-use Rattle.std.specs.Prelude.{◌≡◌, ◌⊎◌, List, ℕ, ◌≤◌, ◌<◌, length}
+use Rattle.std.specs.Prelude.{◌≡◌, ◌⊎◌, Ok, Err, List, ℕ, ◌≤◌, ◌<◌, length}
 use Rattle.input.specs.Form.{Bytes}
-use Rattle.captures.specs.declared.Captures.{Captures}
-use Rattle.captures.specs.declared.Captures.TheVariants.{WrongLine, Both}
 use Rattle.captures.specs.Form.{text_of_two, WrongOfSix}
-use Rattle.captures.specs.Engine.{two_parsed, first_bytes, second_bytes}
+use Rattle.captures.specs.Engine.{Captures, two_parsed, first_bytes, second_bytes}
 
 -- the place of 22; or of both frames the bandwidth code and the channels' bytes
 pub data SaidTwo : Type 0 where
@@ -13,8 +11,8 @@ pub data SaidTwo : Type 0 where
   frames : ℕ → List ℕ → List ℕ → ℕ → List ℕ → List ℕ → SaidTwo
 
 abbrev pub said_by_both : List ℕ → Captures → SaidTwo
-said_by_both s (WrongLine k) = wrong_six k
-said_by_both s (Both c c') = frames c.bw (first_bytes s c) (second_bytes s c) c'.bw (first_bytes s c') (second_bytes s c')
+said_by_both s (Err w) = wrong_six w.line
+said_by_both s (Ok (c, c')) = frames c.bw (first_bytes s c) (second_bytes s c) c'.bw (first_bytes s c') (second_bytes s c')
 
 unfoldable pub said_two : List ℕ → SaidTwo
 said_two s = said_by_both s (two_parsed s)

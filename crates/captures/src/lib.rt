@@ -6,7 +6,7 @@ ghost use Rattle.answer.specs.Lists.{filled};
 ghost use Rattle.input.specs.Engine.{three_lines, second_at, byte_of};
 ghost use Rattle.captures.specs.Engine.{past_of, then_second, six_lines, two_parsed};
 
-use input::Parsed;
+use input::{Lines, WrongLine};
 
 // A capture that was read: where it starts in the text, its bandwidth digit, the pairs of its second and third lines.
 #[derive(Clone, Copy)]
@@ -17,21 +17,18 @@ pub struct Capture {
     pub second: usize,
 }
 
-#[derive(Clone, Copy)]
-pub enum Captures {
-    WrongLine(usize),
-    Both(Capture, Capture),
-}
-
 // The second capture, from where the first ends, and nothing after.
-fn then_second(s: &[u8], c: Capture) -> Captures
+#[tactic(auto, using(crate::proofs::Steps::at_most_4))]
+fn then_second(s: &[u8], c: Capture) -> Result<(Capture, Capture), WrongLine>
     requires { (length s.now ≤ 16384) × (past_of c ≤ length s.now) }
     ensures { result ≡ then_second c (three_lines (drop (past_of c) s.now)) }
 {
     let at = 15 + 2 * c.first + 2 * c.second;
     match input::three_lines(&s[at..]) {
-        Parsed::Wrong(k) => Captures::WrongLine(3 + k),
-        Parsed::Lines { bw, first, second } => Captures::Both(
+        Err(wrong) => Err(WrongLine {
+            line: 3 + wrong.line,
+        }),
+        Ok(Lines { bw, first, second }) => Ok((
             c,
             Capture {
                 at,
@@ -39,35 +36,35 @@ fn then_second(s: &[u8], c: Capture) -> Captures
                 first,
                 second,
             },
-        ),
+        )),
     }
 }
 
 // The six lines, and nothing after.
-fn six_lines(s: &[u8]) -> Captures
+#[tactic(auto, using(input::proofs::Front::front_room), unfolding(crate::specs::Engine::six_lines))]
+fn six_lines(s: &[u8]) -> Result<(Capture, Capture), WrongLine>
     requires { length s.now ≤ 16384 }
     ensures { result ≡ six_lines s.now }
 {
-    match input::first_three(s) {
-        Parsed::Wrong(k) => Captures::WrongLine(k),
-        Parsed::Lines { bw, first, second } => then_second(
-            s,
-            Capture {
-                at: 0,
-                bw,
-                first,
-                second,
-            },
-        ),
-    }
+    let Lines { bw, first, second } = input::first_three(s)?;
+    then_second(
+        s,
+        Capture {
+            at: 0,
+            bw,
+            first,
+            second,
+        },
+    )
 }
 
 // The text of two captures. Only both together have a limit.
-pub fn parse(s: &[u8]) -> Captures
+#[tactic(auto, unfolding(crate::specs::Engine::two_parsed))]
+pub fn parse(s: &[u8]) -> Result<(Capture, Capture), WrongLine>
     ensures { result ≡ two_parsed s.now }
 {
     if 16384 < s.len() {
-        Captures::WrongLine(0)
+        Err(WrongLine { line: 0 })
     } else {
         six_lines(s)
     }

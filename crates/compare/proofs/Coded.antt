@@ -6,10 +6,11 @@ use mathlib.Core.List.{List, ◌++◌, append_assoc}
 use Prim.Native.Nat.{ℕ, ◌+◌, ◌-◌, ◌*◌, ◌/◌, ◌%◌, ◌≤◌, ◌<◌}
 use native.Mathlib.Omega.{arith}
 use borrow.Author.Tests.{lt-ltb, ltb-true, ltb-false, eqb-true, eqb-false, eq-eqb, ne_eqb}
+use Rattle.std.proofs.lemmas.List.{get_or_past}
 use lib.Dec.{ltb, eqb}
 use lib.ListN.{length, get_or, replicate}
 use Rattle.answer.specs.Lists.{at}
-use Rattle.answer.specs.declared.Outcome.TheVariants.{Pass}
+use Rattle.std.specs.Prelude.{Ok}
 use Rattle.answer.proofs.Lists.{get_d_filled}
 use Rattle.bits.specs.Bits.{field}
 use Rattle.bits.proofs.Fields.{field_lt}
@@ -36,6 +37,15 @@ use Rattle.compared.specs.Differences.{by}
 use Rattle.compared.specs.Text.{side_text, user_line, item_line, difference_line}
 use Rattle.difference_lines.specs.Engine.{bits_part, code_line}
 use Rattle.compare.specs.Engine.{code_in72, code_at, channel_codes, frame_code}
+
+-- a channel's 72 numbers, read past their end
+pub in72 : (codes : List ℕ) (i : ℕ) → length codes ≡ 72 → at codes i ≡ code_in72 codes i
+unfolding code_in72
+in72 codes i e = go (ltb i 72) refl
+  where
+    go : (t : Bool) → ltb i 72 ≡ t → at codes i ≡ cond t (at codes i) 0
+    go true h = refl
+    go false h = let l = ltb-false i 72 h in get_or_past codes i 0 (omega arith)
 
 -- ---- each part has its room
 pub record Bounds (f : ℕ) (z : Record) : Type 0 where
@@ -118,7 +128,7 @@ coded n s i f z h l m =
     (joined (side_text s) (bits_part i f) _ _)
 
 -- ---- the numbers of an accepted frame's fields
-module _ (bw : ℕ) (a b : List ℕ) (e : outcome11 bw a b ≡ Pass) where
+module _ (bw : ℕ) (a b : List ℕ) (e : outcome11 bw a b ≡ Ok tt) where
   abbrev r : List ℕ
   r = row bw a b
 

@@ -4,13 +4,14 @@ use mathlib.Core.Bool.{Bool, true, false, cond, not, false≢true}
 use mathlib.Core.List.{List, []}
 use Prim.Native.Nat.{ℕ, ◌+◌, ◌-◌, ◌<◌}
 use native.Mathlib.Omega.{arith}
-use borrow.Author.Tests.{ltb-true, ltb-false, leb-true, eqb-true}
+use borrow.Author.Tests.{le-ltb, ltb-true, ltb-false, leb-true, eqb-true, eq-eqb}
 use lib.Dec.{ltb, leb, eqb}
 use lib.ListN.{length}
+use lib.Pointwise.{pointwise, bytes_decides}
 use Rattle.answer.specs.Least.{least}
 use Rattle.answer.specs.Lists.{at}
-use Rattle.answer.specs.declared.Outcome.TheVariants.{Pass}
-use Rattle.answer.proofs.Least.{least_le, equal_below}
+use Rattle.std.specs.Prelude.{Ok}
+use Rattle.answer.proofs.Least.{least_le, least_none, equal_below}
 use Rattle.answer.proofs.Lists.{build_is}
 use Rattle.bits.specs.Bits.{field}
 use Rattle.bits.specs.Pack.{unpack}
@@ -66,7 +67,32 @@ all_same_lem bw v w r t a b m k c d =
 same_list : (r t : List ℕ) → length t ≡ length r → ((p : ℕ) → p < length r → at r p ≡ at t p) → r ≡ t
 same_list r t l h = build_is (at t) 0 r (length r) refl h ∙ sym (build_is (at t) 0 t (length r) l (λ i j. refl))
 
-module _ (bw : ℕ) (a b c d : List ℕ) (e : outcome11 bw a b ≡ Pass) (f : outcome11 bw c d ≡ Pass)
+-- whether two rows are the same, as `==` of slices tells
+pub rows_apart : (r t : List ℕ) → length t ≡ length r → true ≡ not (pointwise eqb r t) → ltb (first_other r t) (length r) ≡ true
+unfolding first_other
+rows_apart r t l e = go (ltb (least f (length r)) (length r)) refl
+  where
+    f : ℕ → Bool
+    f p = not (eqb (at r p) (at t p))
+
+    go : (s : Bool) → ltb (least f (length r)) (length r) ≡ s → ltb (least f (length r)) (length r) ≡ true
+    go true h = h
+    go false h =
+        let same = equal_below (at r) (at t) (length r) (omega (arith, least_le f (length r), ltb-false (least f (length r)) (length r) h)) in
+        absurd (false≢true (sym (e ∙ ap not ((bytes_decides r t).1 (same_list r t l same)))))
+
+pub rows_same : (r t : List ℕ) → false ≡ not (pointwise eqb r t) → ltb (first_other r t) (length r) ≡ false
+unfolding first_other
+rows_same r t e =
+    let same = (bytes_decides r t).0 (yes (pointwise eqb r t) e) in
+    rw (least_none (λ p. not (eqb (at r p) (at t p))) (length r) (λ k l. ap not (eq-eqb _ _ (ap (λ (s : List ℕ). at s k) same))))
+    (le-ltb (length r) (length r) (omega arith))
+  where
+    yes : (b : Bool) → false ≡ not b → b ≡ true
+    yes true h = refl
+    yes false h = absurd (false≢true h)
+
+module _ (bw : ℕ) (a b c d : List ℕ) (e : outcome11 bw a b ≡ Ok tt) (f : outcome11 bw c d ≡ Ok tt)
     (s : Same bw (overflow a) (overflow c) (row bw a b) (row bw c d) a b (count bw 1 a) (count bw 2 b) c d) where
   rows : row bw a b ≡ row bw c d
   rows = same_list (row bw a b) (row bw c d) (row_length bw c d ∙ sym (row_length bw a b)) s.values
@@ -104,7 +130,7 @@ module _ (bw : ℕ) (a b c d : List ℕ) (e : outcome11 bw a b ≡ Pass) (f : ou
   none = rw (e, f, equal_silent (reading_of bw a b) (reading_of bw c d) equal)
 
 -- by what the code is given of both
-pub no_text : (bw : ℕ) (a b c d : List ℕ) → outcome11 bw a b ≡ Pass → outcome11 bw c d ≡ Pass → {r s t u : List ℕ} {m k m' k' : ℕ}
+pub no_text : (bw : ℕ) (a b c d : List ℕ) → outcome11 bw a b ≡ Ok tt → outcome11 bw c d ≡ Ok tt → {r s t u : List ℕ} {m k m' k' : ℕ}
     → Given bw a b r s m k → Given bw c d t u m' k' → all_same bw (overflow a) (overflow c) r t a b m k c d ≡ true → comparison_text bw a b bw c d ≡ []
 no_text bw a b c d e f g h q =
     none bw a b c d e f

@@ -1,14 +1,16 @@
 -- The text that the code makes, group by group, is that of the differences (02, T-06).
 use mathlib.Core.Path.{◌≡◌, refl, sym, ap, ap₂, ◌∙◌}
-use mathlib.Core.Bool.{Bool, true, false, cond, not}
+use mathlib.Core.Bool.{Bool, true, false, cond, not, ◌&&◌, false≢true}
 use mathlib.Core.List.{List, [], ◌∷◌, ◌++◌, append_assoc, append-nil}
-use Prim.Native.Nat.{ℕ, zero, suc, ◌≤◌, ◌<◌}
+use Prim.Native.Nat.{ℕ, zero, suc, ◌≤◌, ◌<◌, max}
 use native.Mathlib.Omega.{arith}
 use borrow.Author.Tests.{lt-ltb, le-ltb, ltb-true, ltb-false, eqb-true, eqb-false, eq-eqb, ne_eqb}
 use lib.Dec.{ltb, eqb}
 use lib.ListN.{length, replicate}
+use Rattle.std.specs.Prelude.{Option, Some, None}
+use Rattle.std.specs.Option.{option_eq}
 use Rattle.answer.specs.Lists.{at, filled}
-use Rattle.answer.specs.declared.Outcome.TheVariants.{Pass}
+use Rattle.std.specs.Prelude.{Ok}
 use Rattle.text.specs.Text.{upto}
 use Rattle.text.proofs.Laws.{upto_cong}
 use Rattle.channel.specs.Layout.{overflow, row, count}
@@ -26,7 +28,8 @@ use Rattle.compared.proofs.Keep.{keep_append}
 use Rattle.only_in.specs.Engine.{only_lines}
 use Rattle.only_in.proofs.Only.{only_first, only_second}
 use Rattle.compare.specs.Engine.{overflow_pair, overflow_turn, value_turn, common_text, same_code, code_if, code_turn, code_turns}
-use Rattle.compare.specs.Engine.{channel_codes, frame_code, fields_text}
+use Rattle.compare.specs.Engine.{channel_codes, frame_code, fields_text, code_part}
+use Rattle.difference_lines.specs.Engine.{code_line}
 use Rattle.compare.proofs.Coded.{Bounds, code_same, coded, frame_code_lem, code_bounds}
 
 pub longer_most : {m n k : ℕ} → m ≤ k → n ≤ k → longer m n ≤ k
@@ -36,6 +39,14 @@ longer_most {m} {n} {k} h l = go (ltb m n)
     go : (t : Bool) → cond t n m ≤ k
     go true = l
     go false = h
+
+pub longer_max : (m n : ℕ) → max m n ≡ longer m n
+unfolding longer
+longer_max m n = go (ltb m n) refl
+  where
+    go : (t : Bool) → ltb m n ≡ t → max m n ≡ cond t n m
+    go true e = let l = ltb-true m n e in omega arith
+    go false e = let l = ltb-false m n e in omega arith
 
 eqb_swap : (x y : ℕ) → eqb x y ≡ eqb y x
 eqb_swap x y = go (eqb x y) refl
@@ -203,7 +214,7 @@ regroup o v a b u =
     )
 
 -- ---- the whole text of two accepted frames of one bandwidth
-module _ (bw : ℕ) (a b c d : List ℕ) (e : outcome11 bw a b ≡ Pass) (f : outcome11 bw c d ≡ Pass) where
+module _ (bw : ℕ) (a b c d : List ℕ) (e : outcome11 bw a b ≡ Ok tt) (f : outcome11 bw c d ≡ Ok tt) where
   abbrev x : Reading
   x = reading_of bw a b
 
@@ -272,11 +283,38 @@ module _ (bw : ℕ) (a b c d : List ℕ) (e : outcome11 bw a b ≡ Pass) (f : ou
 
   -- by what the code is given of both
   module _ {r s t u : List ℕ} {m k m' k' : ℕ} (g : Given bw a b r s m k) (h : Given bw c d t u m' k') where
-    pub lengths : length t ≡ length r
-    lengths = rw (g.the_row, h.the_row) (row_length bw c d ∙ sym (row_length bw a b))
-
     pub given_text : common_text (overflow a) (overflow c) r t ++ fields_text bw a b r m k c d t m' k' ≡ comparison_text bw a b bw c d
     given_text = rw (g.the_row, g.count1, g.count2, h.the_row, h.count1, h.count2) (sym same_text)
+
+-- ---- a field that both frames have, and one that they have not
+module _ (i m x n y : ℕ) where
+  pub turn_even : option_eq eqb (cond (ltb i m) (Some x) None) (cond (ltb i n) (Some y) None) ≡ true → code_turn i m x n y ≡ []
+  unfolding code_turn same_code code_if
+  turn_even = go (ltb i m) (ltb i n)
+    where
+      go : (s t : Bool) → option_eq eqb (cond s (Some x) None) (cond t (Some y) None) ≡ true
+          → cond ((s && t) && eqb x y) [] (cond s (code_line 1 i x) [] ++ cond t (code_line 2 i y) []) ≡ []
+      go true true e = rw e
+      go true false e = absurd (false≢true e)
+      go false true e = absurd (false≢true e)
+      go false false e = refl
+
+  pub turn_odd : option_eq eqb (cond (ltb i m) (Some x) None) (cond (ltb i n) (Some y) None) ≡ false
+      → code_part 1 i (cond (ltb i m) (Some x) None) ++ code_part 2 i (cond (ltb i n) (Some y) None) ≡ code_turn i m x n y
+  unfolding code_turn same_code code_if
+  turn_odd = go (ltb i m) (ltb i n)
+    where
+      go : (s t : Bool) → option_eq eqb (cond s (Some x) None) (cond t (Some y) None) ≡ false
+          → code_part 1 i (cond s (Some x) None) ++ code_part 2 i (cond t (Some y) None)
+          ≡ cond ((s && t) && eqb x y) [] (cond s (code_line 1 i x) [] ++ cond t (code_line 2 i y) [])
+      go true true e = rw e
+      go true false e = refl
+      go false true e = refl
+      go false false e = refl
+
+-- frames of one bandwidth have as many values
+pub row_lengths : {v w : ℕ} {a b r s c d t u : List ℕ} {m k m' k' : ℕ} → w ≡ v → Given v a b r s m k → Given w c d t u m' k' → length t ≡ length r
+row_lengths {v} {a = a} {b = b} {c = c} {d = d} e g h = rw (g.the_row, h.the_row, e) (row_length v c d ∙ sym (row_length v a b))
 
 -- a channel's numbers, as the code makes them
 pub entered : (bw : ℕ) (s r : List ℕ) (c n : ℕ) {x codes : List ℕ}

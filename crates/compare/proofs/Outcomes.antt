@@ -7,8 +7,10 @@ use borrow.Author.Tests.{lt-ltb, le-ltb, ne_eqb}
 use lib.ListN.{length}
 use Rattle.answer.specs.Answer.{no}
 use Rattle.answer.specs.declared.Answer.{Answer}
-use Rattle.answer.specs.declared.Outcome.{Outcome}
-use Rattle.answer.specs.declared.Outcome.TheVariants.{Pass, Refuse}
+use Rattle.answer.specs.Answer.{Outcome}
+use Rattle.answer.specs.declared.Refusal.{Refusal}
+use Rattle.answer.specs.Answer.{answer_of}
+use Rattle.std.specs.Prelude.{Ok, Err}
 use Rattle.text.specs.Text.{Wrote}
 use Rattle.text.proofs.Laws.{dry, count, front}
 use Rattle.halves.specs.Table.{outcome11}
@@ -19,17 +21,18 @@ use Rattle.compare.specs.Engine.{bandwidth_text, refusals_text}
 
 -- ---- what is said instead of differences
 module _ (bw : ℕ) (a b : List ℕ) (bw' : ℕ) (c d : List ℕ) where
-  pub first_refused : (x : Answer) (o : Outcome) → outcome11 bw a b ≡ Refuse x → outcome11 bw' c d ≡ o → refusals_text x o ≡ comparison_text bw a b bw' c d
+  pub first_refused : (x : Refusal) (o : Outcome) → outcome11 bw a b ≡ Err x → outcome11 bw' c d ≡ o
+      → refusals_text (answer_of x) o ≡ comparison_text bw a b bw' c d
   unfolding comparison_text comparison refusals_text difference_lines difference_line item_line
-  first_refused x Pass e f = rw (e, f)
-  first_refused x (Refuse y) e f = rw (e, f, append-nil)
+  first_refused x (Ok u) e f = rw (e, f)
+  first_refused x (Err y) e f = rw (e, f, append-nil)
 
-  pub second_refused : (y : Answer) → outcome11 bw a b ≡ Pass → outcome11 bw' c d ≡ Refuse y
-      → difference_line 0 (by 2 (refused_with y)) ≡ comparison_text bw a b bw' c d
+  pub second_refused : (y : Refusal) → outcome11 bw a b ≡ Ok tt → outcome11 bw' c d ≡ Err y
+      → difference_line 0 (by 2 (refused_with (answer_of y))) ≡ comparison_text bw a b bw' c d
   unfolding comparison_text comparison difference_lines difference_line item_line
   second_refused y e f = rw (e, f, append-nil)
 
-  pub bandwidths_differ : outcome11 bw a b ≡ Pass → outcome11 bw' c d ≡ Pass → (bw ≡ bw' → ⊥) → bandwidth_text bw bw' ≡ comparison_text bw a b bw' c d
+  pub bandwidths_differ : outcome11 bw a b ≡ Ok tt → outcome11 bw' c d ≡ Ok tt → (bw ≡ bw' → ⊥) → bandwidth_text bw bw' ≡ comparison_text bw a b bw' c d
   unfolding comparison_text comparison bandwidth_text differences reading_of difference_lines difference_line item_line
   bandwidths_differ e f n = rw (e, f, ne_eqb bw bw' n, append-nil)
 

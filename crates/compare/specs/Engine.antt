@@ -1,11 +1,12 @@
 -- Engine: the text of a comparison as the code makes it, group by group. The contracts of the code cite it; nobody has to believe it:
 -- `proofs/Groups.antt`.
-use Rattle.std.specs.Prelude.{Bool, false, cond, not, ◌&&◌, List, [], ◌++◌, ℕ, ◌+◌, ◌-◌, ltb, leb, eqb, length, replicate}
+use Rattle.std.specs.Prelude.{Bool, false, cond, not, ◌&&◌, List, [], ◌++◌, ℕ, ◌+◌, ◌-◌, ltb, leb, eqb, length, replicate, Option, Some, None}
 use Rattle.answer.specs.Least.{least}
 use Rattle.answer.specs.Lists.{at, filled}
 use Rattle.answer.specs.declared.Answer.{Answer}
-use Rattle.answer.specs.declared.Outcome.{Outcome}
-use Rattle.answer.specs.declared.Outcome.TheVariants.{Pass, Refuse}
+use Rattle.answer.specs.Answer.{Outcome}
+use Rattle.answer.specs.Answer.{answer_of}
+use Rattle.std.specs.Prelude.{Ok, Err}
 use Rattle.bits.specs.Bits.{field}
 use Rattle.bits.specs.Pack.{unpack}
 use Rattle.channel.specs.Fields.{overflow_widths}
@@ -53,6 +54,14 @@ code_in72 codes i = cond (ltb i 72) (at codes i) 0
 unfoldable pub code_at : List ℕ → List ℕ → ℕ → ℕ → ℕ
 code_at x₁ x₂ m i = cond (ltb i m) (code_in72 x₁ i) (code_in72 x₂ (i - m))
 
+-- the same as an Option: none from the n-th on
+unfoldable pub code_get : List ℕ → List ℕ → ℕ → ℕ → ℕ → Option ℕ
+code_get x₁ x₂ m n i = cond (ltb i n) (Some (code_at x₁ x₂ m i)) None
+
+abbrev pub code_part : ℕ → ℕ → Option ℕ → List ℕ
+code_part s i (Some x) = code_line s i x
+code_part s i None = []
+
 unfoldable pub code_turns : (ℕ → ℕ) → ℕ → (ℕ → ℕ) → ℕ → List ℕ
 code_turns x m y n = upto (λ i. code_turn i m (x i) n (y i)) (longer m n)
 
@@ -85,8 +94,8 @@ unfoldable pub bandwidth_text : ℕ → ℕ → List ℕ
 bandwidth_text bw bw' = difference_line 0 (by 1 (bandwidth_is bw)) ++ difference_line 0 (by 2 (bandwidth_is bw'))
 
 abbrev pub refused_text : ℕ → Outcome → List ℕ
-refused_text s Pass = []
-refused_text s (Refuse x) = difference_line 0 (by s (refused_with x))
+refused_text s (Ok u) = []
+refused_text s (Err x) = difference_line 0 (by s (refused_with (answer_of x)))
 
 unfoldable pub refusals_text : Answer → Outcome → List ℕ
 refusals_text x o = difference_line 0 (by 1 (refused_with x)) ++ refused_text 2 o

@@ -1,23 +1,143 @@
 // Two frames compared (02, T-06): what one says and the other does not, as lines of text.
 #![tactic(auto)]
 
-ghost use Rattle.std.specs.Prelude.{◌≡◌, ◌+◌, ◌*◌, ◌≤◌, ◌<◌, length, get_or};
+ghost use Rattle.std.specs.Prelude.{◌≡◌, ◌+◌, ◌*◌, ◌≤◌, ◌<◌, length, get_or, Ok};
 ghost use Rattle.answer.specs.Lists.{at as nth};
 ghost use Rattle.text.specs.Text.{Wrote, upto};
 ghost use Rattle.bits.specs.Pack.{unpack};
 ghost use Rattle.channel.specs.Fields.{overflow_widths};
+ghost use Rattle.channel.specs.Layout.{overflow};
 ghost use Rattle.plan.specs.Engine.{kinds_of};
 ghost use Rattle.halves.specs.Table.{outcome11};
-ghost use Rattle.both_halves.specs.Engine.{Given};
+ghost use Rattle.both_halves.specs.Engine.{Given, accepted_plan};
 ghost use Rattle.compared.specs.Differences.{longer};
 ghost use Rattle.compare_size.specs.Size.{compare_size};
 ghost use Rattle.compared.specs.Text.{comparison_text, compare_answer, compare_after};
 ghost use Rattle.compare.specs.Engine.{overflow_turn, value_turn, common_text, bandwidth_text, refusals_text};
-ghost use Rattle.compare.specs.Engine.{same_code, code_if, code_turn, code_in72, code_at, code_turns, fields_text};
-ghost use Rattle.compare.specs.Engine.{first_other, first_changed, all_same};
+ghost use Rattle.compare.specs.Engine.{code_part, code_turn, code_in72, code_at, code_get, code_turns, channel_codes, fields_text};
+ghost use Rattle.compare.specs.Engine.{first_changed, all_same};
 
-use answer::{Answer, Outcome};
+use answer::{Answer, Refusal};
 use difference_lines::{put_bandwidth, put_overflow, put_refused, put_user, put_value};
+use halves::Planned;
+
+// An accepted frame: its channels, its row, the kinds of its plan, and how many User fields each channel has.
+#[derive(Clone, Copy)]
+struct Accepted<'a> {
+    bandwidth: u32,
+    cc1: &'a [u8],
+    cc2: &'a [u8],
+    row: &'a [u16],
+    kinds: &'a [u16; 16],
+    fields1: usize,
+    fields2: usize,
+    ghost passes: { outcome11 bandwidth cc1.now cc2.now ≡ Ok tt },
+    ghost given: { Given bandwidth cc1.now cc2.now row.now kinds.now fields1 fields2 },
+    ghost few: { (length row.now ≤ 16) × (fields1 ≤ 72) × (fields2 ≤ 72) },
+}
+
+// Two accepted frames of one bandwidth.
+#[derive(Clone, Copy)]
+struct Pair<'a> {
+    one: Accepted<'a>,
+    two: Accepted<'a>,
+    ghost same_bandwidth: { two.bandwidth ≡ one.bandwidth },
+}
+
+// The numbers of a frame's User fields, `first` of which are channel 1's.
+#[derive(Drop)]
+struct Codes {
+    codes1: [u64; 72],
+    codes2: [u64; 72],
+    first: usize,
+    count: usize,
+}
+
+impl<'a> Accepted<'a> {
+    // What the reading of a frame comes to.
+    fn new(bandwidth: u32, cc1: &'a [u8], cc2: &'a [u8], read: &'a Planned) -> Accepted<'a>
+        requires read { read.now ≡ accepted_plan bandwidth cc1.now cc2.now }
+        requires passes { read.now.outcome ≡ Ok tt }
+        ensures frame { (result.bandwidth ≡ bandwidth) × (result.cc1.now ≡ cc1.now) × (result.cc2.now ≡ cc2.now) }
+    {
+        let n = channel::positions_of(bandwidth);
+        Accepted {
+            bandwidth,
+            cc1,
+            cc2,
+            row: &read.row[..n],
+            kinds: &read.kinds,
+            fields1: read.fields1,
+            fields2: read.fields2,
+        }
+    }
+
+    fn overflow(&self) -> u32
+        ensures { result ≡ overflow self.now.cc1.now }
+    {
+        bits::field_at(self.cc1, 0, 17)
+    }
+
+    fn codes(&self) -> Codes
+        ensures codes1 { result.codes1 ≡ channel_codes self.now.bandwidth self.now.cc1.now self.now.row.now 1 self.now.fields1 }
+        ensures codes2 { result.codes2 ≡ channel_codes self.now.bandwidth self.now.cc2.now self.now.row.now 2 self.now.fields2 }
+        ensures counts { (result.first ≡ self.now.fields1) × (result.count ≡ self.now.fields1 + self.now.fields2) }
+    {
+        let before = records::numbers_before(self.kinds, self.row);
+        let codes = user_codes::codes_of(self.kinds, self.row);
+        let codes1 = user_codes::fields_of(
+            self.bandwidth,
+            self.cc1,
+            self.row,
+            self.kinds,
+            &before,
+            &codes,
+            1,
+            self.fields1,
+        );
+        let codes2 = user_codes::fields_of(
+            self.bandwidth,
+            self.cc2,
+            self.row,
+            self.kinds,
+            &before,
+            &codes,
+            2,
+            self.fields2,
+        );
+        Codes {
+            codes1,
+            codes2,
+            first: self.fields1,
+            count: self.fields1 + self.fields2,
+        }
+    }
+}
+
+impl Codes {
+    // The i-th over both channels; 0 past the last that a channel has room for.
+    fn at(&self, i: usize) -> u64
+        ensures { result ≡ code_at self.now.codes1 self.now.codes2 self.now.first i }
+    {
+        if i < self.first {
+            code_of(&self.codes1, i)
+        } else {
+            code_of(&self.codes2, i - self.first)
+        }
+    }
+
+    // The same, where the frame has as many.
+    #[tactic(auto, unfolding(crate::specs::Engine::code_get))]
+    fn get(&self, i: usize) -> Option<u64>
+        ensures { result ≡ code_get self.now.codes1 self.now.codes2 self.now.first self.now.count i }
+    {
+        if i < self.count {
+            Some(self.at(i))
+        } else {
+            None
+        }
+    }
+}
 
 // ---- the overflow
 
@@ -56,10 +176,8 @@ fn put_overflows(out: &mut [u8], v: u32, w: u32) -> usize
     ensures bounded { result ≤ 700 }
 {
     let mut e: usize = 0;
-    let mut k: usize = 0;
-    while k < 7 {
+    for k in 0..7 {
         e = put_overflow_turn(out, e, v, w, k);
-        k += 1;
     }
     e
 }
@@ -86,33 +204,10 @@ fn put_values(out: &mut [u8], at: usize, row: &[u16], row2: &[u16]) -> usize
 {
     let n = row.len();
     let mut e = at;
-    let mut p: usize = 0;
-    while p < n {
+    for p in 0..n {
         e = put_value_turn(out, e, p, row[p], row2[p]);
-        p += 1;
     }
     e
-}
-
-// ---- all but the User fields, of frames of one bandwidth with these overflows, rows and kinds of their plans
-fn put_common(
-    out: &mut [u8],
-    v: u32,
-    w: u32,
-    row: &[u16],
-    kinds: &[u16; 16],
-    row2: &[u16],
-    kinds2: &[u16; 16],
-) -> usize
-    requires { (length row.now ≤ 16) × (length row2.now ≡ length row.now) × (kinds.now ≡ kinds_of row.now)
-        × (kinds2.now ≡ kinds_of row2.now) }
-    ensures wrote { Wrote out.old 0 (common_text v w row.now row2.now) out.new result }
-    ensures bounded { result ≤ 140000 }
-{
-    let a = put_overflows(out, v, w);
-    let b = put_values(out, a, row, row2);
-    let c = only_in::put_only(out, b, 1, row, kinds, row2, kinds2);
-    only_in::put_only(out, c, 2, row2, kinds2, row, kinds)
 }
 
 // ---- the User fields, by their numbers
@@ -120,224 +215,137 @@ fn put_common(
 fn code_of(codes: &[u64; 72], i: usize) -> u64
     ensures { result ≡ code_in72 codes.now i }
 {
-    if i < 72 { codes[i] } else { 0 }
+    codes.get(i).copied().unwrap_or(0)
 }
 
-// The i-th over both channels, m of which are channel 1's.
-fn code_at(first: &[u64; 72], second: &[u64; 72], m: usize, i: usize) -> u64
-    ensures { result ≡ code_at first.now second.now m i }
-{
-    if i < m {
-        code_of(first, i)
-    } else {
-        code_of(second, i - m)
-    }
-}
-
-// Both frames have an i-th field, and the same.
-fn is_same(i: usize, m: usize, x: u64, n: usize, y: u64) -> bool
-    ensures { result ≡ same_code i m x n y }
-{
-    (i < m) & (i < n) & (x == y)
-}
-
-// The line of a frame that has n fields, if the i-th is one of them.
-fn put_user_if(out: &mut [u8], at: usize, side: u8, i: usize, n: usize, x: u64) -> usize
+// The line of a frame's i-th field, if it has one.
+fn put_user_if(out: &mut [u8], at: usize, side: u8, i: usize, code: Option<u64>) -> usize
     requires { (at ≤ 500000) × (side < 10) × (i < 1000) }
-    ensures wrote { Wrote out.old at (code_if side i n x) out.new result }
+    ensures wrote { Wrote out.old at (code_part side i code) out.new result }
     ensures bounded { result ≤ at + 150 }
 {
-    if i < n {
-        return put_user(out, at, side, i, x);
+    match code {
+        Some(code) => put_user(out, at, side, i, code),
+        None => at,
     }
-    at
 }
 
-fn put_user_turn(out: &mut [u8], at: usize, i: usize, m: usize, x: u64, n: usize, y: u64) -> usize
+fn put_user_turn(out: &mut [u8], at: usize, i: usize, one: &Codes, two: &Codes) -> usize
     requires { (at ≤ 400000) × (i < 1000) }
-    ensures wrote { Wrote out.old at (code_turn i m x n y) out.new result }
+    ensures wrote { Wrote out.old at
+        (code_turn i one.now.count (code_at one.now.codes1 one.now.codes2 one.now.first i)
+        two.now.count (code_at two.now.codes1 two.now.codes2 two.now.first i)) out.new result }
     ensures bounded { result ≤ at + 300 }
 {
-    if is_same(i, m, x, n, y) {
+    let x = one.get(i);
+    let y = two.get(i);
+    if x == y {
         return at;
     }
-    let a = put_user_if(out, at, 1, i, m, x);
-    put_user_if(out, a, 2, i, n, y)
+    let a = put_user_if(out, at, 1, i, x);
+    put_user_if(out, a, 2, i, y)
 }
 
+#[tactic(auto, unfolding(compared::specs::Differences::longer))]
 fn longer_of(m: usize, n: usize) -> usize
     ensures { result ≡ longer m n }
 {
-    if m < n { n } else { m }
+    m.max(n)
 }
 
-// Of m fields of one frame, m1 of them channel 1's, and n of the other, n1 of them channel 1's.
-fn put_users(
-    out: &mut [u8],
-    at: usize,
-    x1: &[u64; 72],
-    x2: &[u64; 72],
-    m1: usize,
-    m: usize,
-    y1: &[u64; 72],
-    y2: &[u64; 72],
-    n1: usize,
-    n: usize,
-) -> usize
-    requires { (at ≤ 140000) × (m ≤ 144) × (n ≤ 144) }
+// Of all of them.
+fn put_users(out: &mut [u8], at: usize, one: &Codes, two: &Codes) -> usize
+    requires { (at ≤ 140000) × (one.now.count ≤ 144) × (two.now.count ≤ 144) }
     ensures { Wrote out.old at
-        (code_turns (code_at x1.now x2.now m1) m (code_at y1.now y2.now n1) n) out.new result }
+        (code_turns (code_at one.now.codes1 one.now.codes2 one.now.first) one.now.count
+        (code_at two.now.codes1 two.now.codes2 two.now.first) two.now.count) out.new result }
 {
-    let all = longer_of(m, n);
     let mut e = at;
-    let mut i: usize = 0;
-    while i < all {
-        e = put_user_turn(
-            out,
-            e,
-            i,
-            m,
-            code_at(x1, x2, m1, i),
-            n,
-            code_at(y1, y2, n1, i),
-        );
-        i += 1;
+    let all = longer_of(one.count, two.count);
+    for i in 0..all {
+        e = put_user_turn(out, e, i, one, two);
     }
     e
 }
 
-// Of frames of one bandwidth, each with its channels, its row, the kinds of its plan and the fields of its channels.
-fn put_fields(
-    out: &mut [u8],
-    at: usize,
-    bw: u32,
-    a: &[u8],
-    b: &[u8],
-    row: &[u16],
-    kinds: &[u16; 16],
-    m: usize,
-    k: usize,
-    c: &[u8],
-    d: &[u8],
-    row2: &[u16],
-    kinds2: &[u16; 16],
-    m2: usize,
-    k2: usize,
-) -> usize
-    requires { (at ≤ 140000) × (length row.now ≤ 16) × (length row2.now ≤ 16) × (kinds.now ≡ kinds_of row.now)
-        × (kinds2.now ≡ kinds_of row2.now) × (m ≤ 72) × (k ≤ 72) × (m2 ≤ 72) × (k2 ≤ 72) }
-    ensures { Wrote out.old at
-        (fields_text bw a.now b.now row.now m k c.now d.now row2.now m2 k2)
-        out.new result }
-{
-    let before = records::numbers_before(kinds, row);
-    let codes = user_codes::codes_of(kinds, row);
-    let x1 = user_codes::fields_of(bw, a, row, kinds, &before, &codes, 1, m);
-    let x2 = user_codes::fields_of(bw, b, row, kinds, &before, &codes, 2, k);
-    let before2 = records::numbers_before(kinds2, row2);
-    let codes2 = user_codes::codes_of(kinds2, row2);
-    let y1 = user_codes::fields_of(bw, c, row2, kinds2, &before2, &codes2, 1, m2);
-    let y2 = user_codes::fields_of(bw, d, row2, kinds2, &before2, &codes2, 2, k2);
-    put_users(out, at, &x1, &x2, m, m + k, &y1, &y2, m2, m2 + k2)
-}
-
-// ---- frames that read the same, which most do: no owner is looked for, and no line made
-
-// The first position at which two rows differ; their number where none does.
-fn first_other(row: &[u16], row2: &[u16]) -> usize
-    requires { length row2.now ≡ length row.now }
-    ensures { result ≡ first_other row.now row2.now }
-{
-    let n = row.len();
-    let mut p: usize = 0;
-    while p < n {
-        if row[p] != row2[p] {
-            return p;
-        }
-        p += 1;
-    }
-    n
-}
+// ---- frames that read the same
 
 // The first of n User fields of a channel whose bits differ in two frames; n where none does.
 fn first_changed(bw: u32, s: &[u8], t: &[u8], n: usize) -> usize
     requires { n ≤ 72 }
     ensures { result ≡ first_changed bw s.now t.now n }
 {
-    let mut i: usize = 0;
-    while i < n {
+    for i in 0..n {
         let at = channel::user_bit(bw, i);
         if bits::field_at(s, at, 22) != bits::field_at(t, at, 22) {
             return i;
         }
-        i += 1;
     }
     n
 }
 
-// Whether frames of one bandwidth with these overflows and rows, the first with m and k fields, read the same.
-fn is_equal(
-    bw: u32,
-    v: u32,
-    w: u32,
-    row: &[u16],
-    row2: &[u16],
-    a: &[u8],
-    b: &[u8],
-    m: usize,
-    k: usize,
-    c: &[u8],
-    d: &[u8],
-) -> bool
-    requires { (length row2.now ≡ length row.now) × (m ≤ 72) × (k ≤ 72) }
-    ensures { result
-        ≡ all_same bw v w row.now row2.now a.now b.now m k c.now d.now }
-{
-    if v != w {
-        return false;
-    }
-    if first_other(row, row2) < row.len() {
-        return false;
-    }
-    if first_changed(bw, a, c, m) < m {
-        return false;
-    }
-    first_changed(bw, b, d, k) >= k
-}
-
 // ---- two frames
 
-// The differences of accepted frames of one bandwidth.
-fn put_differences(
-    out: &mut [u8],
-    bw: u32,
-    a: &[u8],
-    b: &[u8],
-    row: &[u16],
-    kinds: &[u16; 16],
-    m: usize,
-    k: usize,
-    c: &[u8],
-    d: &[u8],
-    row2: &[u16],
-    kinds2: &[u16; 16],
-    m2: usize,
-    k2: usize,
-) -> usize
-    requires first_given { (outcome11 bw a.now b.now ≡ Outcome.Pass) × Given bw a.now b.now row.now kinds.now m k }
-    requires second_given { (outcome11 bw c.now d.now ≡ Outcome.Pass) × Given bw c.now d.now row2.now kinds2.now m2 k2 }
-    ensures { Wrote out.old 0
-        (comparison_text bw a.now b.now bw c.now d.now) out.new result }
-{
-    let v = bits::field_at(a, 0, 17);
-    let w = bits::field_at(c, 0, 17);
-    if is_equal(bw, v, w, row, row2, a, b, m, k, c, d) {
-        return 0;
+impl Pair<'_> {
+    // Whether both frames read the same.
+    fn is_equal(&self) -> bool
+        ensures { result ≡ all_same self.now.one.bandwidth
+            (overflow self.now.one.cc1.now) (overflow self.now.two.cc1.now) self.now.one.row.now self.now.two.row.now
+            self.now.one.cc1.now self.now.one.cc2.now self.now.one.fields1 self.now.one.fields2
+            self.now.two.cc1.now self.now.two.cc2.now }
+    {
+        let one = &self.one;
+        let two = &self.two;
+        if one.overflow() != two.overflow() {
+            return false;
+        }
+        if one.row != two.row {
+            return false;
+        }
+        if first_changed(one.bandwidth, one.cc1, two.cc1, one.fields1) < one.fields1 {
+            return false;
+        }
+        first_changed(one.bandwidth, one.cc2, two.cc2, one.fields2) >= one.fields2
     }
-    let e = put_common(out, v, w, row, kinds, row2, kinds2);
-    put_fields(
-        out, e, bw, a, b, row, kinds, m, k, c, d, row2, kinds2, m2, k2,
-    )
+
+    // All but the User fields.
+    fn put_common(&self, out: &mut [u8]) -> usize
+        ensures wrote { Wrote out.old 0
+            (common_text (overflow self.now.one.cc1.now) (overflow self.now.two.cc1.now) self.now.one.row.now self.now.two.row.now)
+            out.new result }
+        ensures bounded { result ≤ 140000 }
+    {
+        let one = &self.one;
+        let two = &self.two;
+        let a = put_overflows(out, one.overflow(), two.overflow());
+        let b = put_values(out, a, one.row, two.row);
+        let c = only_in::put_only(out, b, 1, one.row, one.kinds, two.row, two.kinds);
+        only_in::put_only(out, c, 2, two.row, two.kinds, one.row, one.kinds)
+    }
+
+    fn put_fields(&self, out: &mut [u8], at: usize) -> usize
+        requires { at ≤ 140000 }
+        ensures { Wrote out.old at
+            (fields_text self.now.one.bandwidth
+            self.now.one.cc1.now self.now.one.cc2.now self.now.one.row.now self.now.one.fields1 self.now.one.fields2
+            self.now.two.cc1.now self.now.two.cc2.now self.now.two.row.now self.now.two.fields1 self.now.two.fields2)
+            out.new result }
+    {
+        put_users(out, at, &self.one.codes(), &self.two.codes())
+    }
+
+    // Of frames that read the same, which most do, no owner is looked for.
+    fn put_differences(&self, out: &mut [u8]) -> usize
+        ensures { Wrote out.old 0
+            (comparison_text self.now.one.bandwidth self.now.one.cc1.now self.now.one.cc2.now
+            self.now.two.bandwidth self.now.two.cc1.now self.now.two.cc2.now) out.new result }
+    {
+        if self.is_equal() {
+            return 0;
+        }
+        let at = self.put_common(out);
+        self.put_fields(out, at)
+    }
 }
 
 fn put_bandwidths(out: &mut [u8], bw: u32, bw2: u32) -> usize
@@ -348,17 +356,18 @@ fn put_bandwidths(out: &mut [u8], bw: u32, bw2: u32) -> usize
 }
 
 // The first frame is refused with x, and the second has this outcome.
-fn put_refusals(out: &mut [u8], x: Answer, second: Outcome) -> usize
+fn put_refusals(out: &mut [u8], x: Answer, second: Result<(), Refusal>) -> usize
     ensures { Wrote out.old 0 (refusals_text x second) out.new result }
 {
     let a = put_refused(out, 0, 1, x.number, x.channel, x.place);
-    if let Outcome::Refuse(y) = second {
+    if let Err(y) = second {
+        let y = Answer::from(y);
         return put_refused(out, a, 2, y.number, y.channel, y.place);
     }
     a
 }
 
-// The whole text: stored where the buffer reaches; how many bytes it is.
+// The whole text: stored where the buffer reaches; how many bytes it is. Two frames are six parameters here and in `compare`, which are public.
 pub fn put_comparison(
     out: &mut [u8],
     bw: u32,
@@ -375,36 +384,19 @@ pub fn put_comparison(
     let y = both_halves::plan_accepted(bw2, c, d);
     let first = x.outcome;
     let second = y.outcome;
-    if let Outcome::Refuse(r) = first {
-        return put_refusals(out, r, second);
+    if let Err(r) = first {
+        return put_refusals(out, r.into(), second);
     }
-    if let Outcome::Refuse(r) = second {
+    if let Err(r) = second {
+        let r = Answer::from(r);
         return put_refused(out, 0, 2, r.number, r.channel, r.place);
     }
     if bw != bw2 {
         return put_bandwidths(out, bw, bw2);
     }
-    let row = x.row;
-    let kinds = x.kinds;
-    let row2 = y.row;
-    let kinds2 = y.kinds;
-    let n = channel::positions_of(bw);
-    put_differences(
-        out,
-        bw,
-        a,
-        b,
-        &row[..n],
-        &kinds,
-        x.fields1,
-        x.fields2,
-        c,
-        d,
-        &row2[..n],
-        &kinds2,
-        y.fields1,
-        y.fields2,
-    )
+    let one = Accepted::new(bw, a, b, &x);
+    let two = Accepted::new(bw2, c, d, &y);
+    Pair { one, two }.put_differences(out)
 }
 
 // The bytes that always suffice.
@@ -431,11 +423,7 @@ pub fn compare(
 {
     if longest() <= out.len() {
         let place = put_comparison(out, bandwidth1, cc1, cc2, bandwidth2, other1, other2);
-        return Answer {
-            number: 0,
-            channel: 0,
-            place,
-        };
+        return Answer::accepted(place);
     }
     let need = put_comparison(
         &mut out[..0],
@@ -447,16 +435,8 @@ pub fn compare(
         other2,
     );
     if out.len() < need {
-        return Answer {
-            number: 23,
-            channel: 0,
-            place: need,
-        };
+        return Refusal::BufferTooShort { needed: need }.into();
     }
     let place = put_comparison(out, bandwidth1, cc1, cc2, bandwidth2, other1, other2);
-    Answer {
-        number: 0,
-        channel: 0,
-        place,
-    }
+    Answer::accepted(place)
 }

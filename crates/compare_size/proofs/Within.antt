@@ -10,9 +10,10 @@ use native.Mathlib.Omega.{arith}
 use lib.Dec.{eqb}
 use lib.ListN.{length, get_or, length-append}
 use borrow.Author.Tests.{eqb-true}
-use Rattle.answer.specs.declared.Outcome.{Outcome}
-use Rattle.answer.specs.declared.Outcome.TheVariants.{Pass, Refuse}
+use Rattle.answer.specs.Answer.{Outcome}
+use Rattle.std.specs.Prelude.{Ok, Err}
 use Rattle.answer.specs.Lists.{at}
+use Rattle.answer.specs.Answer.{answer_of}
 use Rattle.kinds.specs.Signals.{Signals}
 use Rattle.plan.specs.Engine.{only_plan}
 use Rattle.records.specs.declared.Record.{Record}
@@ -43,7 +44,7 @@ row_of bw a b = at (row bw a b)
 abbrev plan_of : ℕ → List ℕ → List ℕ → ℕ → ℕ
 plan_of bw a b = only_plan (row_of bw a b)
 
-module _ (bw : ℕ) (a b : List ℕ) (e : outcome11 bw a b ≡ Pass) where
+module _ (bw : ℕ) (a b : List ℕ) (e : outcome11 bw a b ≡ Ok tt) where
   row_power : length (row bw a b) ≡ 2 ^ bw
   unfolding positions
   row_power = row_length bw a b
@@ -95,7 +96,7 @@ module _ (bw : ℕ) (a b : List ℕ) (e : outcome11 bw a b ≡ Pass) where
   user_line n s i l h = user_most n s l i _ _ (omega (arith, count_le bw 1 a, count_le bw 2 b))
 
 -- ---- two of one bandwidth
-module _ (bw : ℕ) (a b a' b' : List ℕ) (e : outcome11 bw a b ≡ Pass) (e' : outcome11 bw a' b' ≡ Pass) where
+module _ (bw : ℕ) (a b a' b' : List ℕ) (e : outcome11 bw a b ≡ Ok tt) (e' : outcome11 bw a' b' ≡ Ok tt) where
   abbrev x : Reading
   x = reading_of bw a b
 
@@ -197,7 +198,7 @@ bandwidths_most n b b' =
       no_lines n,
     )
 
-differences_most : (bw : ℕ) (a b : List ℕ) (bw' : ℕ) (a' b' : List ℕ) → outcome11 bw a b ≡ Pass → outcome11 bw' a' b' ≡ Pass
+differences_most : (bw : ℕ) (a b : List ℕ) (bw' : ℕ) (a' b' : List ℕ) → outcome11 bw a b ≡ Ok tt → outcome11 bw' a' b' ≡ Ok tt
     → length (difference_lines (2 ^ bw) (differences (reading_of bw a b) (reading_of bw' a' b'))) ≤ 29466
 unfolding differences
 differences_most bw a b bw' a' b' e f = go (eqb (reading_of bw a b).bandwidth (reading_of bw' a' b').bandwidth) refl
@@ -212,7 +213,7 @@ differences_most bw a b bw' a' b' e f = go (eqb (reading_of bw a b).bandwidth (r
     same g =
         subst
         (λ (c : ℕ).
-        outcome11 c a' b' ≡ Pass
+        outcome11 c a' b' ≡ Ok tt
         → length (difference_lines (2 ^ bw) (keep (differs x (reading_of c a' b')) (all_said x (reading_of c a' b')))) ≤ 29466)
         g (accepted_most bw a b a' b' e) f
 
@@ -224,8 +225,8 @@ differences_most bw a b bw' a' b' e f = go (eqb (reading_of bw a b).bandwidth (r
 
 -- ---- any two frames
 refused_lines : (n : ℕ) (o : Outcome) → length (difference_lines n (refused_by 2 o)) ≤ 92
-refused_lines n Pass = omega (arith, no_lines n)
-refused_lines n (Refuse z) = omega (arith, one_more n (by 2 (refused_with z)) [], refused_most n 2 (omega arith) z, no_lines n)
+refused_lines n (Ok u) = omega (arith, no_lines n)
+refused_lines n (Err z) = omega (arith, one_more n (by 2 (refused_with (answer_of z))) [], refused_most n 2 (omega arith) (answer_of z), no_lines n)
 
 pub comparison_within : (bw : ℕ) (a b : List ℕ) (bw' : ℕ) (a' b' : List ℕ) → length (comparison_text bw a b bw' a' b') ≤ compare_size
 unfolding comparison_text comparison compare_size
@@ -238,7 +239,7 @@ comparison_within bw a b bw' a' b' = go (outcome11 bw a b) (outcome11 bw' a' b')
     n = length (row bw a b)
 
     go : (o o' : Outcome) → outcome11 bw a b ≡ o → outcome11 bw' a' b' ≡ o' → length (difference_lines n (judged_both o o' ds)) ≤ 29466
-    go Pass Pass e f = rw (row_power bw a b e) (differences_most bw a b bw' a' b' e f)
-    go Pass (Refuse z) e f = omega (arith, refused_lines n (Refuse z))
-    go (Refuse z) o' e f =
-        omega (arith, one_more n (by 1 (refused_with z)) (refused_by 2 o'), refused_most n 1 (omega arith) z, refused_lines n o')
+    go (Ok u) (Ok v) e f = rw (row_power bw a b e) (differences_most bw a b bw' a' b' e f)
+    go (Ok u) (Err z) e f = omega (arith, refused_lines n (Err z))
+    go (Err z) o' e f =
+        omega (arith, one_more n (by 1 (refused_with (answer_of z))) (refused_by 2 o'), refused_most n 1 (omega arith) (answer_of z), refused_lines n o')

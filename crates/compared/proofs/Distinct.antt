@@ -5,7 +5,7 @@ use mathlib.Core.List.{List}
 use Prim.Native.Nat.{ℕ, ◌<◌}
 use native.Mathlib.Omega.{arith}
 use lib.ListN.{length, get_or}
-use Rattle.answer.specs.declared.Outcome.TheVariants.{Pass}
+use Rattle.std.specs.Prelude.{Ok}
 use Rattle.answer.specs.Lists.{at}
 use Rattle.resource.specs.Tones.{Among}
 use Rattle.resource.proofs.Agree.{some_tone}
@@ -22,7 +22,7 @@ use Rattle.compared.specs.Reading.{same_resource}
 use Rattle.compared.proofs.Same.{same_tones}
 
 -- ---- of an accepted frame
-module _ (bw : ℕ) (a b : List ℕ) (e : outcome11 bw a b ≡ Pass) where
+module _ (bw : ℕ) (a b : List ℕ) (e : outcome11 bw a b ≡ Ok tt) where
   abbrev r : List ℕ
   r = row bw a b
 

@@ -8,8 +8,8 @@ use native.Mathlib.Omega.{arith}
 use lib.Dec.{ltb, eqb}
 use lib.ListN.{length}
 use borrow.Author.Tests.{eqb-true, eq-eqb, ne_eqb}
-use Rattle.answer.specs.declared.Outcome.{Outcome}
-use Rattle.answer.specs.declared.Outcome.TheVariants.{Pass, Refuse}
+use Rattle.answer.specs.Answer.{Outcome}
+use Rattle.std.specs.Prelude.{Ok, Err}
 use Rattle.records.specs.declared.Record.{Record}
 use Rattle.halves.specs.Table.{outcome11}
 use Rattle.compared.specs.Reading.{Item, bandwidth_is, Reading, reading_of}
@@ -161,10 +161,10 @@ exchanged_2 x y = sym (ap (map exchange) (exchanged_1 y x) ∙ exchanged_back (d
 -- ---- the same of two frames, accepted or refused
 judged_swapped : (o o' : Outcome) (ds es : List Difference) → Swapped es ds → Swapped (judged_both o' o es) (judged_both o o' ds)
 unfolding lines_of keep
-judged_swapped Pass Pass ds es e = e
-judged_swapped Pass (Refuse z) ds es e = refl
-judged_swapped (Refuse z) Pass ds es e = refl
-judged_swapped (Refuse z) (Refuse w) ds es e = refl
+judged_swapped (Ok u) (Ok v) ds es e = e
+judged_swapped (Ok u) (Err z) ds es e = refl
+judged_swapped (Err z) (Ok u) ds es e = refl
+judged_swapped (Err z) (Err w) ds es e = refl
 
 module _ (bw : ℕ) (a b : List ℕ) (bw' : ℕ) (a' b' : List ℕ) where
   pub frames_exchanged_1 : lines_of 1 (comparison bw' a' b' bw a b) ≡ map exchange (lines_of 2 (comparison bw a b bw' a' b'))

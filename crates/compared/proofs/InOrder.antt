@@ -8,8 +8,9 @@ use native.Mathlib.Omega.{arith}
 use lib.Dec.{ltb, eqb}
 use lib.ListN.{length}
 use borrow.Author.Tests.{eq-eqb, ne_eqb}
-use Rattle.answer.specs.declared.Outcome.{Outcome}
-use Rattle.answer.specs.declared.Outcome.TheVariants.{Pass, Refuse}
+use Rattle.answer.specs.Answer.{Outcome}
+use Rattle.answer.specs.Answer.{answer_of}
+use Rattle.std.specs.Prelude.{Ok, Err}
 use Rattle.records.specs.Records.{blank}
 use Rattle.halves.specs.Table.{outcome11}
 use Rattle.compared.specs.Reading.{Item, refused_with, bandwidth_is, Reading, reading_of}
@@ -142,11 +143,11 @@ module _ (bw : ℕ) (a b : List ℕ) (bw' : ℕ) (a' b' : List ℕ) where
     where
       go : (o o' : Outcome)
           → Rises (reading_of bw a b) (reading_of bw' a' b') (judged_both o o' (differences (reading_of bw a b) (reading_of bw' a' b')))
-      go Pass Pass = differences_rise (reading_of bw a b) (reading_of bw' a' b')
-      go Pass (Refuse z) = alone (reading_of bw a b) (reading_of bw' a' b') (by 2 (refused_with z))
-      go (Refuse z) Pass = alone (reading_of bw a b) (reading_of bw' a' b') (by 1 (refused_with z))
-      go (Refuse z) (Refuse w) =
-          both_sides (reading_of bw a b) (reading_of bw' a' b') (by 1 (refused_with z)) (by 2 (refused_with w)) refl refl refl refl
+      go (Ok u) (Ok v) = differences_rise (reading_of bw a b) (reading_of bw' a' b')
+      go (Ok u) (Err z) = alone (reading_of bw a b) (reading_of bw' a' b') (by 2 (refused_with (answer_of z)))
+      go (Err z) (Ok u) = alone (reading_of bw a b) (reading_of bw' a' b') (by 1 (refused_with (answer_of z)))
+      go (Err z) (Err w) =
+          both_sides (reading_of bw a b) (reading_of bw' a' b') (by 1 (refused_with (answer_of z))) (by 2 (refused_with (answer_of w))) refl refl refl refl
 
   pub in_order : InOrder (reading_of bw a b) (reading_of bw' a' b') (comparison bw a b bw' a' b')
   in_order = record {

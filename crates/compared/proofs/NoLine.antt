@@ -6,8 +6,8 @@ use native.Mathlib.Decide.{dec_lt}
 use native.Mathlib.Omega.{arith}
 use lib.ListN.{get_or}
 use borrow.Author.Tests.{lt-ltb, le-ltb}
-use Rattle.answer.specs.declared.Outcome.{Outcome}
-use Rattle.answer.specs.declared.Outcome.TheVariants.{Pass, Refuse}
+use Rattle.answer.specs.Answer.{Outcome}
+use Rattle.std.specs.Prelude.{Ok, Err}
 use Rattle.answer.specs.Lists.{at}
 use Rattle.bits.specs.Bits.{field}
 use Rattle.bits.specs.Pack.{pack, unpack}
@@ -31,10 +31,10 @@ use Rattle.compared.proofs.Words.{frame_words}
 use Rattle.compared.proofs.Silent.{silent_bandwidth, silent_overflows, silent_values, silent_bits, Equal, equal_silent}
 
 -- ---- both are accepted, or there is a line
-none_refused : (o o' : Outcome) (ds : List Difference) → judged_both o o' ds ≡ [] → (o ≡ Pass) × (o' ≡ Pass) × (ds ≡ [])
-none_refused Pass Pass ds e = (refl, refl, e)
-none_refused Pass (Refuse z) ds e = absurd (cons_not_nil e)
-none_refused (Refuse z) o ds e = absurd (cons_not_nil e)
+none_refused : (o o' : Outcome) (ds : List Difference) → judged_both o o' ds ≡ [] → (o ≡ Ok tt) × (o' ≡ Ok tt) × (ds ≡ [])
+none_refused (Ok u) (Ok v) ds e = (refl, refl, e)
+none_refused (Ok u) (Err z) ds e = absurd (cons_not_nil e)
+none_refused (Err z) o ds e = absurd (cons_not_nil e)
 
 -- ---- the User fields over both channels are those of each
 module _ (bw : ℕ) (a b : List ℕ) (m : ℕ) where
@@ -60,7 +60,7 @@ module _ (bw : ℕ) (a b : List ℕ) (bw' : ℕ) (a' b' : List ℕ) where
   y = reading_of bw' a' b'
 
   -- ---- no line between accepted frames: the same frame
-  module _ (e : outcome11 bw a b ≡ Pass) (e' : outcome11 bw' a' b' ≡ Pass) (n : differences x y ≡ []) where
+  module _ (e : outcome11 bw a b ≡ Ok tt) (e' : outcome11 bw' a' b' ≡ Ok tt) (n : differences x y ≡ []) where
     bandwidth_same : bw ≡ bw'
     unfolding reading_of
     bandwidth_same = silent_bandwidth x y n
@@ -127,11 +127,11 @@ module _ (bw : ℕ) (a b : List ℕ) (bw' : ℕ) (a' b' : List ℕ) where
     }
 
   -- ---- the theorem
-  said_nothing : comparison bw a b bw' a' b' ≡ [] → (outcome11 bw a b ≡ Pass) × (outcome11 bw' a' b' ≡ Pass) × (differences x y ≡ [])
+  said_nothing : comparison bw a b bw' a' b' ≡ [] → (outcome11 bw a b ≡ Ok tt) × (outcome11 bw' a' b' ≡ Ok tt) × (differences x y ≡ [])
   unfolding comparison
   said_nothing n = none_refused (outcome11 bw a b) (outcome11 bw' a' b') (differences x y) n
 
-  equal : outcome11 bw a b ≡ Pass → outcome11 bw' a' b' ≡ Pass → words_of bw a b ≡ words_of bw' a' b' → comparison bw a b bw' a' b' ≡ []
+  equal : outcome11 bw a b ≡ Ok tt → outcome11 bw' a' b' ≡ Ok tt → words_of bw a b ≡ words_of bw' a' b' → comparison bw a b bw' a' b' ≡ []
   unfolding comparison
   equal e e' w =
       rw (e, e')
@@ -147,5 +147,5 @@ module _ (bw : ℕ) (a b : List ℕ) (bw' : ℕ) (a' b' : List ℕ) where
   }
 
 -- an accepted frame beside itself
-pub with_itself : (bw : ℕ) (a b : List ℕ) → outcome11 bw a b ≡ Pass → comparison bw a b bw a b ≡ []
+pub with_itself : (bw : ℕ) (a b : List ℕ) → outcome11 bw a b ≡ Ok tt → comparison bw a b bw a b ≡ []
 with_itself bw a b e = equal bw a b bw a b e e refl

@@ -8,8 +8,9 @@ use native.Mathlib.Omega.{arith}
 use lib.Dec.{eqb}
 use lib.ListN.{length}
 use borrow.Author.Tests.{eq-eqb, ne_eqb}
-use Rattle.answer.specs.declared.Outcome.{Outcome}
-use Rattle.answer.specs.declared.Outcome.TheVariants.{Pass, Refuse}
+use Rattle.answer.specs.Answer.{Outcome}
+use Rattle.answer.specs.Answer.{answer_of}
+use Rattle.std.specs.Prelude.{Ok, Err}
 use Rattle.halves.specs.Table.{outcome11}
 use Rattle.compared.specs.Reading.{refused_with, bandwidth_is, Reading, reading_of}
 use Rattle.compared.specs.Differences.{Difference, by, overflow_item, value_item, user_item, resource_item, overflow_turns, value_turns}
@@ -110,12 +111,12 @@ module _ (x y : Reading) where
 
 -- ---- of two frames
 refused_apart : (s : ℕ) (o : Outcome) → Apart (refused_by s o)
-refused_apart s Pass = tt
-refused_apart s (Refuse z) = (each_nil (Unlike (by s (refused_with z))), tt)
+refused_apart s (Ok u) = tt
+refused_apart s (Err z) = (each_nil (Unlike (by s (refused_with (answer_of z)))), tt)
 
 refused_frame : (s : ℕ) (o : Outcome) → Each (λ d. d.frame ≡ s) (refused_by s o)
-refused_frame s Pass = each_nil (λ d. d.frame ≡ s)
-refused_frame s (Refuse z) = each_cons (λ d. d.frame ≡ s) (by s (refused_with z)) [] refl (each_nil (λ d. d.frame ≡ s))
+refused_frame s (Ok u) = each_nil (λ d. d.frame ≡ s)
+refused_frame s (Err z) = each_cons (λ d. d.frame ≡ s) (by s (refused_with (answer_of z))) [] refl (each_nil (λ d. d.frame ≡ s))
 
 module _ (bw : ℕ) (a b : List ℕ) (bw' : ℕ) (a' b' : List ℕ) where
   comparison_apart : Apart (comparison bw a b bw' a' b')
@@ -124,9 +125,9 @@ module _ (bw : ℕ) (a b : List ℕ) (bw' : ℕ) (a' b' : List ℕ) where
     where
       go : (o : Outcome) → outcome11 bw a b ≡ o → (o' : Outcome) → outcome11 bw' a' b' ≡ o'
           → Apart (judged_both o o' (differences (reading_of bw a b) (reading_of bw' a' b')))
-      go Pass e Pass e' = differences_apart (reading_of bw a b) (reading_of bw' a' b') (plan_distinct bw a b e) (plan_distinct bw' a' b' e')
-      go Pass e (Refuse z) e' = refused_apart 2 (Refuse z)
-      go (Refuse z) e o' e' = (λ d m c. let n = c.0 in omega (arith, refused_frame 2 o' d m), refused_apart 2 o')
+      go (Ok u) e (Ok v) e' = differences_apart (reading_of bw a b) (reading_of bw' a' b') (plan_distinct bw a b e) (plan_distinct bw' a' b' e')
+      go (Ok u) e (Err z) e' = refused_apart 2 (Err z)
+      go (Err z) e o' e' = (λ d m c. let n = c.0 in omega (arith, refused_frame 2 o' d m), refused_apart 2 o')
 
   pub once : Once (comparison bw a b bw' a' b')
   once = record { not_again = λ i j d l m e h. pairwise_at Unlike (comparison bw a b bw' a' b') comparison_apart i j d l m (e, h) }

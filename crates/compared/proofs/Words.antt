@@ -6,7 +6,7 @@ use mathlib.Core.List.{List}
 use Prim.Native.Nat.{ℕ, ◌+◌, ◌*◌, ◌≤◌, ◌<◌}
 use lib.ListN.{length, get_or, take}
 use lib.Seq.{get_or-take}
-use Rattle.answer.specs.declared.Outcome.TheVariants.{Pass}
+use Rattle.std.specs.Prelude.{Ok}
 use Rattle.answer.proofs.First.{first_pass, pass_first}
 use Rattle.answer.proofs.Order.{pass_left, pass_right}
 use Rattle.bits.specs.Bits.{field}
@@ -30,8 +30,8 @@ record Taken (bw c : ℕ) (s : List ℕ) : Type 0 where
   pub common_right : present bw c ≡ true → CommonRight bw s
   pub block_right : (b : ℕ) → b < blocks (count bw c s) → Right s (block_at bw b) (covered (count bw c s) b)
 
-taken : (bw c : ℕ) (s : List ℕ) → too_long bw c s ≡ Pass → cut_common bw c s ≡ Pass → wrong_common bw c s ≡ Pass → cut_users bw c s ≡ Pass
-    → wrong_users bw c s ≡ Pass → Taken bw c s
+taken : (bw c : ℕ) (s : List ℕ) → too_long bw c s ≡ Ok tt → cut_common bw c s ≡ Ok tt → wrong_common bw c s ≡ Ok tt → cut_users bw c s ≡ Ok tt
+    → wrong_users bw c s ≡ Ok tt → Taken bw c s
 taken bw c s e2 e3 e4 e9 e10 = record {
   short = (too_long_pass bw c s e2).0;
   empty = (too_long_pass bw c s e2).1;
@@ -78,13 +78,13 @@ module _ (bw c : ℕ) (s t : List ℕ) (u : Taken bw c s) (v : Taken bw c t) (ov
   }
 
 -- ---- both channels of an accepted frame
-module _ (bw : ℕ) (a b : List ℕ) (e : outcome11 bw a b ≡ Pass) where
-  each : (k : ℕ) → get_or (checks11 bw a b) k Pass ≡ Pass
+module _ (bw : ℕ) (a b : List ℕ) (e : outcome11 bw a b ≡ Ok tt) where
+  each : (k : ℕ) → get_or (checks11 bw a b) k (Ok tt) ≡ Ok tt
   unfolding outcome11
   each = first_pass (checks11 bw a b) e
 
   nine : Nine bw a b
-  nine = record { passed = pass_first (take 9 (checks11 bw a b)) (λ k l. get_or-take 9 (checks11 bw a b) k Pass l ∙ each k) }
+  nine = record { passed = pass_first (take 9 (checks11 bw a b)) (λ k l. get_or-take 9 (checks11 bw a b) k (Ok tt) l ∙ each k) }
 
   taken_1 : Taken bw 1 a
   unfolding check2 check3 check4 check9 check10
@@ -104,7 +104,7 @@ module _ (bw : ℕ) (a b : List ℕ) (e : outcome11 bw a b ≡ Pass) where
   overflow_2 = (overflow_differs_pass bw a b (each 4)).overflow_same
 
 -- ---- two of them
-module _ (bw : ℕ) (a b a' b' : List ℕ) (e : outcome11 bw a b ≡ Pass) (e' : outcome11 bw a' b' ≡ Pass) (f : SameFrame bw a b bw a' b') where
+module _ (bw : ℕ) (a b a' b' : List ℕ) (e : outcome11 bw a b ≡ Ok tt) (e' : outcome11 bw a' b' ≡ Ok tt) (f : SameFrame bw a b bw a' b') where
   values_1 : (k : ℕ) → k < subfields_in bw 1 → value bw a k ≡ value bw a' k
   values_1 k l =
       let m = place_1 bw k (known_code bw a b e) l in
@@ -126,8 +126,8 @@ module _ (bw : ℕ) (a b a' b' : List ℕ) (e : outcome11 bw a b ≡ Pass) (e' :
   words_at = words_same (nine bw a b e) agree
 
 -- the converse of `words_determine`
-pub frame_words : (bw : ℕ) (a b : List ℕ) (bw' : ℕ) (a' b' : List ℕ) → outcome11 bw a b ≡ Pass → outcome11 bw' a' b' ≡ Pass
+pub frame_words : (bw : ℕ) (a b : List ℕ) (bw' : ℕ) (a' b' : List ℕ) → outcome11 bw a b ≡ Ok tt → outcome11 bw' a' b' ≡ Ok tt
     → SameFrame bw a b bw' a' b' → words_of bw a b ≡ words_of bw' a' b'
 frame_words bw a b bw' a' b' e e' f =
-    subst (λ (z : ℕ). outcome11 z a' b' ≡ Pass → SameFrame bw a b z a' b' → words_of bw a b ≡ words_of z a' b') f.bandwidth
+    subst (λ (z : ℕ). outcome11 z a' b' ≡ Ok tt → SameFrame bw a b z a' b' → words_of bw a b ≡ words_of z a' b') f.bandwidth
     (λ e' f. words_at bw a b a' b' e e' f) e' f

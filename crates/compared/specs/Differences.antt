@@ -1,8 +1,9 @@
 -- The differences of two frames, as a list (02, T-06): what one frame says and the other does not, in 02's order.
 use Rattle.std.specs.Prelude.{Bool, cond, not, List, [], ◌∷◌, ◌++◌, map, ℕ, zero, suc, ltb, eqb, length}
 use Rattle.answer.specs.Lists.{at}
-use Rattle.answer.specs.declared.Outcome.{Outcome}
-use Rattle.answer.specs.declared.Outcome.TheVariants.{Pass, Refuse}
+use Rattle.answer.specs.Answer.{Outcome}
+use Rattle.answer.specs.Answer.{answer_of}
+use Rattle.std.specs.Prelude.{Ok, Err}
 use Rattle.halves.specs.Table.{outcome11}
 use Rattle.records.specs.declared.Record.{Record}
 use Rattle.compared.specs.Reading.{Item, refused_with, bandwidth_is, overflow_is, value_is, resource_is, user_is, Reading, reading_of, tells}
@@ -87,13 +88,13 @@ differences x y =
 
 -- "If one or both are refused, say which and its answer, first frame first, and compare nothing."
 abbrev pub refused_by : ℕ → Outcome → List Difference
-refused_by s Pass = []
-refused_by s (Refuse z) = by s (refused_with z) ∷ []
+refused_by s (Ok u) = []
+refused_by s (Err z) = by s (refused_with (answer_of z)) ∷ []
 
 abbrev pub judged_both : Outcome → Outcome → List Difference → List Difference
-judged_both Pass Pass ds = ds
-judged_both Pass (Refuse z) ds = refused_by 2 (Refuse z)
-judged_both (Refuse z) o ds = refused_by 1 (Refuse z) ++ refused_by 2 o
+judged_both (Ok u) (Ok v) ds = ds
+judged_both (Ok u) (Err z) ds = refused_by 2 (Err z)
+judged_both (Err z) o ds = refused_by 1 (Err z) ++ refused_by 2 o
 
 -- of two frames, of the reading's 1 to 11
 unfoldable pub comparison : ℕ → List ℕ → List ℕ → ℕ → List ℕ → List ℕ → List Difference

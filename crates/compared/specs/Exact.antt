@@ -1,7 +1,7 @@
 -- What is held of the differences (02, T-06): "the exact differences out".
 use Rattle.std.specs.Prelude.{◌≡◌, true, false, cond, ℕ, ◌-◌, ◌<◌, eqb, length, get_or}
 use mathlib.Core.List.{List, [], ◌∷◌, map, Memᴰ}
-use Rattle.answer.specs.declared.Outcome.TheVariants.{Pass}
+use Rattle.std.specs.Prelude.{Ok}
 use Rattle.halves.specs.Table.{outcome11}
 use Rattle.frame_words.specs.Words.{words_of}
 use Rattle.compared.specs.Reading.{Item, refused_with, bandwidth_is, overflow_is, value_is, resource_is, user_is, Reading, same_resource, tells}
@@ -54,11 +54,11 @@ pub record Exact (x y : Reading) : Type 0 where
 
 -- "Equal readings give no line, and no line means equal readings; padding doesn't count": of two frames
 pub record NoLine (bw : ℕ) (a b : List ℕ) (bw' : ℕ) (a' b' : List ℕ) : Type 0 where
-  pub accepted_1 : comparison bw a b bw' a' b' ≡ [] → outcome11 bw a b ≡ Pass
-  pub accepted_2 : comparison bw a b bw' a' b' ≡ [] → outcome11 bw' a' b' ≡ Pass
+  pub accepted_1 : comparison bw a b bw' a' b' ≡ [] → outcome11 bw a b ≡ Ok tt
+  pub accepted_2 : comparison bw a b bw' a' b' ≡ [] → outcome11 bw' a' b' ≡ Ok tt
   pub one_bandwidth : comparison bw a b bw' a' b' ≡ [] → bw ≡ bw'
   pub one_reading : comparison bw a b bw' a' b' ≡ [] → words_of bw a b ≡ words_of bw' a' b'
-  pub equal : outcome11 bw a b ≡ Pass → outcome11 bw' a' b' ≡ Pass → bw ≡ bw' → words_of bw a b ≡ words_of bw' a' b'
+  pub equal : outcome11 bw a b ≡ Ok tt → outcome11 bw' a' b' ≡ Ok tt → bw ≡ bw' → words_of bw a b ≡ words_of bw' a' b'
       → comparison bw a b bw' a' b' ≡ []
 
 -- "once": no two lines of one frame say the same

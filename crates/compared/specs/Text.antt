@@ -2,7 +2,8 @@
 use Rattle.std.specs.Prelude.{List, [], ◌∷◌, ◌++◌, ℕ, zero, suc, ◌+◌, ◌/◌, ◌%◌, ltb, length, drop, get_or}
 use Rattle.answer.specs.Answer.{no, refuse_if, answer_at, after}
 use Rattle.answer.specs.declared.Answer.{Answer}
-use Rattle.answer.specs.declared.Outcome.{Outcome}
+use Rattle.answer.specs.Answer.{Outcome}
+use Rattle.answer.specs.declared.Refusal.TheVariants.{BufferTooShort}
 use Rattle.records.specs.declared.Record.{Record}
 use Rattle.channel.specs.Layout.{row}
 use Rattle.text.specs.Text.{codes, keyed, line}
@@ -73,7 +74,7 @@ comparison_text bw a b bw' a' b' = difference_lines (length (row bw a b)) (compa
 
 -- ---- the call: "Accepted: the text's bytes as place (0: equal readings). 23 with the bytes needed."
 unfoldable pub room_outcome : ℕ → ℕ → Outcome
-room_outcome need room = refuse_if (ltb room need) (no 23 0 need)
+room_outcome need room = refuse_if (ltb room need) (BufferTooShort need)
 
 unfoldable pub text_answer : List ℕ → ℕ → Answer
 text_answer t room = answer_at (room_outcome (length t) room) (length t)

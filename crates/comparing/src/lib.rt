@@ -7,7 +7,7 @@ ghost use Rattle.captures.specs.Engine.{first_bytes, second_bytes};
 ghost use Rattle.compared.specs.Text.{comparison_text};
 ghost use Rattle.compared.specs.Program.{compared_text};
 
-use captures::{Capture, Captures};
+use captures::Capture;
 
 // The comparison of the frames whose captures stand in the text. No channel has more bytes than the text has pairs of hex digits.
 fn put_captures(out: &mut [u8], text: &[u8], c: Capture, d: Capture) -> usize
@@ -40,7 +40,7 @@ pub fn respond(text: &[u8], out: &mut [u8]) -> usize
 {
     let parsed = captures::parse(text);
     match parsed {
-        Captures::WrongLine(line) => lines::put_refusal(out, 22, 0, line),
-        Captures::Both(c, d) => put_captures(out, text, c, d),
+        Err(wrong) => lines::put_refusal(out, 22, 0, wrong.line),
+        Ok((c, d)) => put_captures(out, text, c, d),
     }
 }

@@ -13,14 +13,14 @@ ghost use Rattle.resource.specs.Engine.{resource_named};
 
 use resource::{Pairing, Resource, Size};
 
-// Which frame has the line: 1 or 2.
+// Which frame has the line: 1 or 2, a number as the definition `by` has it.
 pub fn put_side(out: &mut [u8], at: usize, side: u8) -> usize
     requires { (at ≤ 800000) × (side < 10) }
     ensures wrote { Wrote out.old at (side_text side) out.new result }
     ensures bounded { result ≤ at + 8 }
 {
     let a = text::put_all(out, at, b"frame=");
-    let b = text::put(out, a, 48 + side);
+    let b = text::put(out, a, b'0' + side);
     text::put(out, b, b' ')
 }
 
@@ -38,8 +38,8 @@ pub fn put_refused(
     ensures bounded { result ≤ at + 120 }
 {
     let a = put_side(out, at, side);
-    let b = text::put_key(out, a, b"answer=", number as u64);
-    let c = text::put_key(out, b, b" channel=", channel as u64);
+    let b = text::put_key(out, a, b"answer=", u64::from(number));
+    let c = text::put_key(out, b, b" channel=", u64::from(channel));
     text::put_line(out, c, b" place=", place as u64)
 }
 
@@ -50,7 +50,7 @@ pub fn put_bandwidth(out: &mut [u8], at: usize, side: u8, bw: u32) -> usize
     ensures bounded { result ≤ at + 40 }
 {
     let a = put_side(out, at, side);
-    text::put_line(out, a, b"bw=", bw as u64)
+    text::put_line(out, a, b"bw=", u64::from(bw))
 }
 
 fn put_overflow_name(out: &mut [u8], at: usize, k: usize) -> usize
@@ -77,7 +77,7 @@ pub fn put_overflow(out: &mut [u8], at: usize, side: u8, k: usize, v: u32) -> us
 {
     let a = put_side(out, at, side);
     let b = put_overflow_name(out, a, k);
-    let c = text::put_dec(out, b, v as u64);
+    let c = text::put_dec(out, b, u64::from(v));
     text::put(out, c, b'\n')
 }
 
@@ -89,7 +89,7 @@ pub fn put_value(out: &mut [u8], at: usize, side: u8, p: usize, v: u16) -> usize
 {
     let a = put_side(out, at, side);
     let b = text::put_key(out, a, b"position=", p as u64);
-    text::put_line(out, b, b" value=", v as u64)
+    text::put_line(out, b, b" value=", u64::from(v))
 }
 
 // ---- a User field, by its number: 22 bits, and above them its resource's size, index and segment
@@ -99,9 +99,9 @@ fn hex_digit(d: u32) -> u8
     ensures { result ≡ hex_digit d }
 {
     if d < 10 {
-        return 48 + d as u8;
+        return b'0' + d as u8;
     }
-    55 + d as u8
+    b'A' - 10 + d as u8
 }
 
 fn put_hex(out: &mut [u8], at: usize, n: u32) -> usize

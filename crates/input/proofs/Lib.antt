@@ -5,6 +5,6 @@ pub mod Agree
 pub mod Turns
 pub mod Tests
 pub mod Pairs
-pub mod Lines
+pub mod Keyed
 pub mod Wrong
 pub mod Front

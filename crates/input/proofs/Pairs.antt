@@ -13,7 +13,7 @@ use Rattle.answer.specs.Least.{least}
 use Rattle.answer.proofs.Least.{least_all, equal_below}
 use Rattle.answer.proofs.Lists.{build_is}
 use Rattle.text.specs.Text.{codes}
-use Rattle.input.specs.declared.Scan.TheVariants.{Bad, Pairs}
+use Rattle.std.specs.Prelude.{Some, None}
 use Rattle.input.specs.Form.{Bytes, hex_digit, pairs}
 use Rattle.input.specs.Engine.{hex_of, pick, hex_line, byte_of, bytes_at}
 
@@ -49,17 +49,17 @@ pub length_pairs : (a : List ℕ) → length (pairs a) ≡ 2 * length a
 length_pairs [] = refl
 length_pairs (x ∷ a) = let h = length_pairs a in omega arith
 
-pub hex_line_pairs : (a rest : List ℕ) (n : ℕ) → Bytes a → hex_line (pairs a ++ (10 ∷ rest)) n ≡ Pairs (n + length a)
-hex_line_pairs [] [] n h = ap Pairs (sym (add-zero n))
-hex_line_pairs [] (y ∷ rest) n h = ap Pairs (sym (add-zero n))
+pub hex_line_pairs : (a rest : List ℕ) (n : ℕ) → Bytes a → hex_line (pairs a ++ (10 ∷ rest)) n ≡ Some (n + length a)
+hex_line_pairs [] [] n h = ap Some (sym (add-zero n))
+hex_line_pairs [] (y ∷ rest) n h = ap Some (sym (add-zero n))
 hex_line_pairs (x ∷ a) rest n h =
     let i : x / 16 < 16 = omega (arith, h.0) in
     let j : x % 16 < 16 = omega arith in
     let u : hex_of (hex_digit (x / 16)) < 16 = rw (hex_digit_lem (x / 16) i) i in
     let v : hex_of (hex_digit (x % 16)) < 16 = rw (hex_digit_lem (x % 16) j) j in
-    let r : hex_line (pairs a ++ (10 ∷ rest)) (suc n) ≡ Pairs (suc n + length a) = hex_line_pairs a rest (suc n) h.1 in
+    let r : hex_line (pairs a ++ (10 ∷ rest)) (suc n) ≡ Some (suc n + length a) = hex_line_pairs a rest (suc n) h.1 in
     rw (ne_eqb (hex_digit (x / 16)) 10 (not_hex (x / 16) i), lt-ltb (hex_of (hex_digit (x / 16))) 16 u, lt-ltb (hex_of (hex_digit (x % 16))) 16 v)
-    (r ∙ ap Pairs (omega arith))
+    (r ∙ ap Some (omega arith))
 
 -- what n - j pairs and a line feed before the rest hold
 pub record Held (l : List ℕ) (j n : ℕ) : Type 0 where
@@ -69,14 +69,14 @@ pub record Held (l : List ℕ) (j n : ℕ) : Type 0 where
   pub is : l ≡ pairs bytes ++ (10 ∷ rest)
   pub many : n ≡ j + length bytes
 
-pub bad_pairs : {A : Type 0} {n : ℕ} → Bad ≡ Pairs n → A
+pub bad_pairs : {A : Type 0} {n : ℕ} → None ≡ Some n → A
 bad_pairs e = let z : ◌≡◌ {A = ℕ} 0 1 = cc in absurd (omega arith)
 
-pub hex_line_held : (l : List ℕ) (j n : ℕ) → hex_line l j ≡ Pairs n → Held l j n
+pub hex_line_held : (l : List ℕ) (j n : ℕ) → hex_line l j ≡ Some n → Held l j n
 hex_line_held [] j n e = bad_pairs e
 hex_line_held (x ∷ []) j n e = go (eqb x 10) refl e
   where
-    go : (b : Bool) → eqb x 10 ≡ b → pick b (Pairs j) Bad ≡ Pairs n → Held (x ∷ []) j n
+    go : (b : Bool) → eqb x 10 ≡ b → pick b (Some j) None ≡ Some n → Held (x ∷ []) j n
     go true f e =
         record {
           bytes = [];
@@ -104,8 +104,8 @@ hex_line_held (x ∷ y ∷ l) j n e = go (eqb x 10) (ltb (hex_of x) 16) (ltb (he
           many = let k = h.many in omega arith;
         }
 
-    go : (b c d : Bool) → eqb x 10 ≡ b → ltb (hex_of x) 16 ≡ c → ltb (hex_of y) 16 ≡ d → (hex_line l (suc j) ≡ Pairs n → Held l (suc j) n)
-        → pick b (Pairs j) (pick c (pick d (hex_line l (suc j)) Bad) Bad) ≡ Pairs n → Held (x ∷ y ∷ l) j n
+    go : (b c d : Bool) → eqb x 10 ≡ b → ltb (hex_of x) 16 ≡ c → ltb (hex_of y) 16 ≡ d → (hex_line l (suc j) ≡ Some n → Held l (suc j) n)
+        → pick b (Some j) (pick c (pick d (hex_line l (suc j)) None) None) ≡ Some n → Held (x ∷ y ∷ l) j n
     go true c d f g k ih e =
         record {
           bytes = [];

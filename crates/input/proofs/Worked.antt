@@ -5,11 +5,11 @@ use mathlib.Core.List.{List}
 use Prim.Native.Nat.{ℕ, ◌+◌, ◌*◌, ◌≤◌}
 use native.Mathlib.Omega.{arith}
 use lib.ListN.{length}
-use Rattle.input.specs.declared.Parsed.{Parsed}
-use Rattle.input.specs.declared.Parsed.TheVariants.{Wrong, Lines}
+use Rattle.std.specs.Prelude.{Ok, Err}
 use Rattle.answer.proofs.Lists.{length_build}
 use Rattle.input.specs.Form.{text_of}
-use Rattle.input.specs.Engine.{parsed, byte_of, bytes_at, second_at}
+use Rattle.input.specs.declared.Lines.{Lines}
+use Rattle.input.specs.Engine.{Parsed, wrong_at, parsed, byte_of, bytes_at, second_at}
 use Rattle.input.specs.Worked.{Said, wrong, frame, said_by, said, TextOf, PlaceOf22, Worked}
 use Rattle.input.proofs.FirstWrong.{one_line, whole_right}
 use Rattle.input.proofs.Exact.{text_read, refused, accepted, text_accepted, few}
@@ -29,12 +29,12 @@ unfolding said
 said_frame s d a b e = go (parsed s) refl e
   where
     go : (x : Parsed) → parsed s ≡ x → said_by s x ≡ frame d a b → TextOf s d a b
-    go (Wrong k) f e = absurd (let z : ◌≡◌ {A = ℕ} 0 1 = cc in omega arith)
-    go (Lines c n m) f e =
-        let h = accepted s c n m f in
-        let x : c ≡ d = cc in
-        let y : bytes_at s 9 n ≡ a = cc in
-        let z : bytes_at s (second_at n) m ≡ b = cc in
+    go (Err w) f e = absurd (let z : ◌≡◌ {A = ℕ} 0 1 = cc in omega arith)
+    go (Ok l) f e =
+        let h = accepted s l.bw l.first l.second f in
+        let x : l.bw ≡ d = cc in
+        let y : bytes_at s 9 l.first ≡ a = cc in
+        let z : bytes_at s (second_at l.first) l.second ≡ b = cc in
         rw (sym x, sym y, sym z) (record { is_digit = h.1.is_digit; are_bytes = h.1.are_bytes; is = h.1.is; most = h.0 })
 
 said_wrong : (s : List ℕ) (k : ℕ) → said s ≡ wrong k → PlaceOf22 k s
@@ -42,8 +42,8 @@ unfolding said
 said_wrong s k e = go (parsed s) refl e
   where
     go : (x : Parsed) → parsed s ≡ x → said_by s x ≡ wrong k → PlaceOf22 k s
-    go (Wrong j) f e = refused s k (f ∙ ap Wrong cc)
-    go (Lines c n m) f e = absurd (let z : ◌≡◌ {A = ℕ} 0 1 = cc in omega arith)
+    go (Err w) f e = refused s k (f ∙ ap wrong_at (let q : w.line ≡ k = cc in q))
+    go (Ok l) f e = absurd (let z : ◌≡◌ {A = ℕ} 0 1 = cc in omega arith)
 
 -- the place of 22 is said
 wrong_said : (s : List ℕ) (k : ℕ) → PlaceOf22 k s → said s ≡ wrong k
@@ -66,21 +66,22 @@ wrong_said s k p = go (said s) refl
 
 -- what is said tells what was found
 pub said_once : (s : List ℕ) (x y : Parsed) → said_by s x ≡ said_by s y → x ≡ y
-said_once s (Wrong j) (Wrong k) e = ap Wrong cc
-said_once s (Wrong j) (Lines d n m) e = absurd (let z : ◌≡◌ {A = ℕ} 0 1 = cc in omega arith)
-said_once s (Lines d n m) (Wrong k) e = absurd (let z : ◌≡◌ {A = ℕ} 0 1 = cc in omega arith)
-said_once s (Lines d n m) (Lines c i j) e =
-    let x : d ≡ c = cc in
-    let y : bytes_at s 9 n ≡ bytes_at s 9 i = cc in
-    let z : bytes_at s (second_at n) m ≡ bytes_at s (second_at i) j = cc in
-    let p : n ≡ i = sym (length_build (byte_of s 9) n) ∙ ap length y ∙ length_build (byte_of s 9) i in
-    let q : m ≡ j = sym (length_build (byte_of s (second_at n)) m) ∙ ap length z ∙ length_build (byte_of s (second_at i)) j in
+said_once s (Err v) (Err w) e = ap wrong_at (let q : v.line ≡ w.line = cc in q)
+said_once s (Err v) (Ok l) e = absurd (let z : ◌≡◌ {A = ℕ} 0 1 = cc in omega arith)
+said_once s (Ok l) (Err w) e = absurd (let z : ◌≡◌ {A = ℕ} 0 1 = cc in omega arith)
+said_once s (Ok l) (Ok t) e =
+    let x : l.bw ≡ t.bw = cc in
+    let y : bytes_at s 9 l.first ≡ bytes_at s 9 t.first = cc in
+    let z : bytes_at s (second_at l.first) l.second ≡ bytes_at s (second_at t.first) t.second = cc in
+    let p : l.first ≡ t.first = sym (length_build (byte_of s 9) l.first) ∙ ap length y ∙ length_build (byte_of s 9) t.first in
+    let q : l.second ≡ t.second =
+    sym (length_build (byte_of s (second_at l.first)) l.second) ∙ ap length z ∙ length_build (byte_of s (second_at t.first)) t.second in
     rw (x, p, q)
 
 -- so the channels' bytes are few
-pub few_said : (s : List ℕ) (d n m : ℕ) → said_by s (Lines d n m) ≡ said s → 15 + 2 * n + 2 * m ≤ 8192
+pub few_said : (s : List ℕ) (l : Lines) → said_by s (Ok l) ≡ said s → 15 + 2 * l.first + 2 * l.second ≤ 8192
 unfolding said
-few_said s d n m e = few s d n m (sym (said_once s (Lines d n m) (parsed s) e))
+few_said s l e = few s l.bw l.first l.second (sym (said_once s (Ok l) (parsed s) e))
 
 pub worked : (s : List ℕ) → Worked s
 worked s = record { says = frame_said s; is_said = said_frame s; is_wrong = said_wrong s; wrong_said = wrong_said s }

@@ -1,10 +1,8 @@
 -- What a text says, as a function. An engine works it out, and nobody has to believe it: beside it stands that it is what `Form.antt` says of the
 -- text (`Worked`), and `proofs/Worked.antt` shows it of every text (`worked`).
-use Rattle.std.specs.Prelude.{◌≡◌, ◌⊎◌, List, ℕ, ◌≤◌, ◌<◌, length}
-use Rattle.input.specs.declared.Parsed.{Parsed}
-use Rattle.input.specs.declared.Parsed.TheVariants.{Wrong, Lines}
+use Rattle.std.specs.Prelude.{◌≡◌, ◌⊎◌, Ok, Err, List, ℕ, ◌≤◌, ◌<◌, length}
 use Rattle.input.specs.Form.{Bytes, text_of, IsWrongLine}
-use Rattle.input.specs.Engine.{parsed, bytes_at, second_at}
+use Rattle.input.specs.Engine.{Parsed, parsed, bytes_at, second_at}
 
 -- the place of 22; or the bandwidth code and both channels' bytes
 pub data Said : Type 0 where
@@ -13,8 +11,8 @@ pub data Said : Type 0 where
 
 -- by what `parse` found: the number of a wrong line is the place, and as many pairs as were found are the bytes
 abbrev pub said_by : List ℕ → Parsed → Said
-said_by s (Wrong k) = wrong k
-said_by s (Lines d n m) = frame d (bytes_at s 9 n) (bytes_at s (second_at n) m)
+said_by s (Err w) = wrong w.line
+said_by s (Ok l) = frame l.bw (bytes_at s 9 l.first) (bytes_at s (second_at l.first) l.second)
 
 unfoldable pub said : List ℕ → Said
 said s = said_by s (parsed s)

@@ -11,8 +11,6 @@ ghost use Rattle.input.specs.Engine.{
   keyed,
   Room,
   line_bw,
-  after_two,
-  after_one,
   first_three,
   three_lines,
   pair_of,
@@ -20,61 +18,50 @@ ghost use Rattle.input.specs.Engine.{
 };
 ghost use Rattle.input.specs.Worked.{said_by, said};
 
-#[derive(Drop)]
-enum Scan {
-    Bad,
-    Pairs(usize),
+// The lines of a text, read: the bandwidth digit, the pairs of the second and third lines.
+#[derive(Clone, Copy)]
+pub struct Lines {
+    pub bw: u32,
+    pub first: usize,
+    pub second: usize,
 }
 
+// The first line that is wrong, from 1; 0 where the text is too long.
 #[derive(Clone, Copy)]
-pub enum Parsed {
-    Wrong(usize),
-    Lines {
-        bw: u32,
-        first: usize,
-        second: usize,
-    },
+pub struct WrongLine {
+    pub line: usize,
 }
 
 // The value of a hex digit, or 16.
 fn hex(c: u8) -> u8
     ensures { result ≡ hex_of c }
 {
-    if c < 48 {
-        16
-    } else if c < 58 {
-        c - 48
-    } else if c < 65 {
-        16
-    } else if c < 71 {
-        c - 55
-    } else {
-        16
+    match c {
+        b'0'..=b'9' => c - b'0',
+        b'A'..=b'F' => c - b'A' + 10,
+        _ => 16,
     }
 }
 
-// Pairs of hex digits up to a line feed.
-fn hex_line(s: &[u8], at: usize) -> Scan
+// How many pairs of hex digits there are up to a line feed, where nothing else is.
+fn hex_line(s: &[u8], at: usize) -> Option<usize>
     requires { at ≤ length s.now }
     ensures { (result ≡ hex_line (drop at s.now) 0) × Room result at (length s.now) }
 {
-    let mut i = at;
-    let mut n: usize = 0;
-    while i < s.len() {
+    for n in 0..(s.len() - at).div_ceil(2) {
+        let i = at + 2 * n;
         let a = s[i];
-        if a == 10 {
-            return Scan::Pairs(n);
+        if a == b'\n' {
+            return Some(n);
         }
         if hex(a) >= 16 {
-            return Scan::Bad;
+            return None;
         }
         if hex(bits::byte_at(s, i + 1)) >= 16 {
-            return Scan::Bad;
+            return None;
         }
-        i += 2;
-        n += 1;
     }
-    Scan::Bad
+    None
 }
 
 // Whether the text has a key at a place.
@@ -82,21 +69,11 @@ fn key_at(s: &[u8], at: usize, k: &[u8]) -> bool
     requires { at ≤ length s.now }
     ensures { result ≡ starts k.now (drop at s.now) }
 {
-    let mut j = 0;
-    while j < k.len() {
-        if s.len() - at <= j {
-            return false;
-        }
-        if s[at + j] != k[j] {
-            return false;
-        }
-        j += 1;
-    }
-    true
+    s[at..].starts_with(k)
 }
 
-// A line of hex pairs with its key.
-fn line(s: &[u8], at: usize, k: &[u8]) -> Scan
+// How many pairs a line with this key has.
+fn line(s: &[u8], at: usize, k: &[u8]) -> Option<usize>
     requires at_in_bounds { at ≤ length s.now }
     requires k_len_bound { length k.now ≤ 16 }
     ensures { (result ≡ keyed k.now (drop at s.now)) × Room result (at + length k.now) (length s.now) }
@@ -104,7 +81,7 @@ fn line(s: &[u8], at: usize, k: &[u8]) -> Scan
     if key_at(s, at, k) {
         hex_line(s, at + k.len())
     } else {
-        Scan::Bad
+        None
     }
 }
 
@@ -114,78 +91,53 @@ fn line_bw(s: &[u8]) -> bool
 {
     if key_at(s, 0, b"bw=") {
         let d = bits::byte_at(s, 3);
-        if d < 48 {
+        if d < b'0' {
             return false;
         }
-        if d < 58 {
-            return bits::byte_at(s, 4) == 10;
+        if d <= b'9' {
+            return bits::byte_at(s, 4) == b'\n';
         }
         return false;
     }
     false
 }
 
-// The third line, after n pairs in the second.
-fn after_two(s: &[u8], bw: u32, n: usize) -> Parsed
-    requires { (length s.now ≤ 16384) × (10 + 2 * n ≤ length s.now) × (bw ≡ get_or s.now 3 0 - 48) }
-    ensures { result ≡ after_two s.now n (keyed (codes "cc2=") (drop (10 + 2 * n) s.now)) }
-{
-    match line(s, 10 + 2 * n, b"cc2=") {
-        Scan::Bad => Parsed::Wrong(3),
-        Scan::Pairs(m) => Parsed::Lines {
-            bw,
-            first: n,
-            second: m,
-        },
-    }
-}
-
-// The second line, and the one after it.
-fn after_one(s: &[u8], bw: u32) -> Parsed
-    requires { (length s.now ≤ 16384) × (5 ≤ length s.now) × (bw ≡ get_or s.now 3 0 - 48) }
-    ensures { result ≡ after_one s.now (keyed (codes "cc1=") (drop 5 s.now)) }
-{
-    match line(s, 5, b"cc1=") {
-        Scan::Bad => Parsed::Wrong(2),
-        Scan::Pairs(n) => after_two(s, bw, n),
-    }
-}
-
 // The three lines at the front of a text. What comes after them is not looked at: it may be a second capture (02, T-06).
-pub fn first_three(s: &[u8]) -> Parsed
+#[tactic(auto, unfolding(crate::specs::Engine::first_three))]
+pub fn first_three(s: &[u8]) -> Result<Lines, WrongLine>
     requires { length s.now ≤ 16384 }
     ensures { result ≡ first_three s.now }
 {
-    if line_bw(s) {
-        after_one(s, (bits::byte_at(s, 3) - 48) as u32)
-    } else {
-        Parsed::Wrong(1)
+    if !line_bw(s) {
+        return Err(WrongLine { line: 1 });
     }
+    let bw = u32::from(bits::byte_at(s, 3) - b'0');
+    let first = line(s, 5, b"cc1=").ok_or(WrongLine { line: 2 })?;
+    let second = line(s, 10 + 2 * first, b"cc2=").ok_or(WrongLine { line: 3 })?;
+    Ok(Lines { bw, first, second })
 }
 
 // The three lines, and nothing after.
-pub fn three_lines(s: &[u8]) -> Parsed
+#[tactic(auto, using(crate::proofs::Front::front_room), unfolding(crate::specs::Engine::three_lines))]
+pub fn three_lines(s: &[u8]) -> Result<Lines, WrongLine>
     requires { length s.now ≤ 16384 }
     ensures { result ≡ three_lines s.now }
 {
-    match first_three(s) {
-        Parsed::Wrong(k) => Parsed::Wrong(k),
-        Parsed::Lines { bw, first, second } => {
-            if s.len() == 15 + 2 * first + 2 * second {
-                Parsed::Lines { bw, first, second }
-            } else {
-                Parsed::Wrong(4)
-            }
-        }
+    let lines = first_three(s)?;
+    if s.len() == 15 + 2 * lines.first + 2 * lines.second {
+        Ok(lines)
+    } else {
+        Err(WrongLine { line: 4 })
     }
 }
 
 // The program's text: "over 8,192 bytes, else not the three lines".
-pub fn parse(s: &[u8]) -> Parsed
+#[tactic(auto, unfolding(crate::specs::Worked::said, crate::specs::Engine::parsed))]
+pub fn parse(s: &[u8]) -> Result<Lines, WrongLine>
     ensures { said_by s.now result ≡ said s.now }
 {
     if 8192 < s.len() {
-        Parsed::Wrong(0)
+        Err(WrongLine { line: 0 })
     } else {
         three_lines(s)
     }
@@ -194,8 +146,8 @@ pub fn parse(s: &[u8]) -> Parsed
 fn pair(x: u8, y: u8) -> u8
     ensures { result ≡ pair_of x y }
 {
-    let high = hex(x) as u32;
-    let low = hex(y) as u32;
+    let high = u32::from(hex(x));
+    let low = u32::from(hex(y));
     ((16 * high + low) % 256) as u8
 }
 
@@ -204,12 +156,10 @@ pub fn unhex(s: &[u8], at: usize, n: usize, out: &mut [u8])
     requires { (at ≤ 65536) × (n ≤ length out.old) × (n ≤ 8192) }
     ensures { out.new ≡ filled (byte_of s.now at) n out.old }
 {
-    let mut i = 0;
-    while i < n {
+    for i in 0..n {
         out[i] = pair(
             bits::byte_at(s, at + 2 * i),
             bits::byte_at(s, at + 2 * i + 1),
         );
-        i += 1;
     }
 }

@@ -11,6 +11,7 @@ ghost use Rattle.resource_line.specs.ResourceLine.{ru_line};
 ghost use Rattle.larger_line.specs.Engine.{class_kind, index_kind, index_in, comma_text};
 
 // The number of its name, by its kind. One `match` of constants, so that it is one load from a fixed table.
+#[tactic(auto, unfolding(crate::specs::Engine::class_kind))]
 fn class_of(kind: u16) -> u32
     ensures { (result ≡ class_kind kind) × (result < 13) }
 {
@@ -55,6 +56,7 @@ fn class_of(kind: u16) -> u32
 }
 
 // Its index, but a 484's.
+#[tactic(auto, unfolding(crate::specs::Engine::index_kind))]
 fn index_of(kind: u16) -> u32
     ensures { (result ≡ index_kind kind) × (result < 100) }
 {
@@ -116,7 +118,7 @@ fn put_place_if(out: &mut [u8], at: usize, n: u32, own: bool, p: u32) -> usize
 {
     if own {
         let lo = edge_of(p);
-        return stores::put_span(out, at, lo, lo + 242 - 1, 128 * n, 44);
+        return stores::put_span(out, at, lo, lo + 242 - 1, 128 * n, b',' as u64);
     }
     at
 }
@@ -130,8 +132,8 @@ fn put_places(out: &mut [u8], at: usize, n: u32, b: u32, mask: u32) -> usize
     if mask % 16 == 15 {
         let lo = 256 * b + 12;
         let up = 256 * b + 515;
-        let a = stores::put_span(out, at, lo, lo + 498 - 1, 128 * n, 44);
-        return stores::put_span(out, a, up, up + 498 - 1, 128 * n, 44);
+        let a = stores::put_span(out, at, lo, lo + 498 - 1, 128 * n, b',' as u64);
+        return stores::put_span(out, a, up, up + 498 - 1, 128 * n, b',' as u64);
     }
     let a = put_place_if(out, at, n, mask % 2 == 1, b);
     let c = put_place_if(out, a, n, mask / 2 % 2 == 1, b + 1);

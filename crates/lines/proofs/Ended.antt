@@ -1,12 +1,10 @@
 -- The tables of short numbers with the ends of their lines: what each entry has is computed.
-use mathlib.Core.Path.{◌≡◌}
 use mathlib.Core.Bool.{Bool, ◌&&◌}
-use mathlib.Core.List.{List, [], ◌∷◌, ◌++◌}
-use Prim.Native.Nat.{ℕ, zero, suc, ◌+◌, ◌/◌, ◌≤◌, zero-le}
-use native.Mathlib.Omega.{arith}
+use mathlib.Core.List.{◌++◌}
+use Prim.Native.Nat.{ℕ, ◌+◌, ◌/◌}
 use lib.Dec.{T, leb, leb→le}
 use lib.ListN.{take}
-use Rattle.resource.proofs.Test.{both_left, both_right, Missed}
+use Rattle.resource.proofs.Test.{both_left, both_right}
 use Rattle.text.specs.Text.{codes, dec}
 use Rattle.stores.specs.Engine.{bytes_of}
 use Rattle.stores.proofs.Laws.{same, same_equal}
@@ -43,15 +41,3 @@ tailed n w t =
       least = leb→le _ _ (both_left some most size);
       most = leb→le _ _ (both_right some most size);
     }
-
--- what a `match` on the numbers below n leaves over
-abbrev pub keys_below : ℕ → List (List ℕ)
-keys_below zero = []
-keys_below (suc n) = (n ∷ []) ∷ keys_below n
-
-pub left_over : (n v : ℕ) → Missed (keys_below n) v → n ≤ v
-left_over zero v m = zero-le
-left_over (suc n) v m =
-    let l = left_over n v m.0 in
-    let h : v ≡ n → ⊥ = m.1 in
-    omega (arith, l, h)

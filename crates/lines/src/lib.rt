@@ -1,8 +1,8 @@
 // The lines of a listing beside those of its resources, into a lent buffer.
 #![tactic(auto)]
 
-ghost use Rattle.std.specs.Prelude.{◌≡◌, ◌+◌, ◌≤◌, ◌<◌, length, ◌++◌};
-ghost use Rattle.text.specs.Text.{codes, dec, Wrote, line};
+ghost use Rattle.std.specs.Prelude.{◌≡◌, ◌+◌, ◌≤◌, ◌<◌, length};
+ghost use Rattle.text.specs.Text.{Wrote};
 ghost use Rattle.lines.specs.Lines.{assigned, id_text, sta_line, refusal_text, head_text};
 ghost use Rattle.lines.specs.Engine.{id_word, Ended, Tailed, counts_text};
 
@@ -23,28 +23,6 @@ pub fn put_id(out: &mut [u8], at: usize, id: u32) -> usize
         return text::put_dec(out, at, id as u64);
     }
     text::put_all(out, at, b"none")
-}
-
-// The line of a User field whose resource nobody has.
-fn put_none(out: &mut [u8], at: usize, resource: usize) -> usize
-    requires { at ≤ 80000 }
-    ensures wrote { Wrote out.old at (line (codes "sta=none resource=") resource) out.new result }
-    ensures bounded { result ≤ at + 55 }
-{
-    text::put_line(out, at, b"sta=none resource=", resource as u64)
-}
-
-// The same of any, into whatever room there is.
-fn put_sta_within(out: &mut [u8], at: usize, id: u32, resource: usize) -> usize
-    requires { at ≤ 80000 }
-    ensures wrote { Wrote out.old at (sta_line id resource) out.new result }
-    ensures bounded { result ≤ at + 55 }
-{
-    if is_assigned(id) {
-        let a = text::put_key(out, at, b"sta=", id as u64);
-        return text::put_line(out, a, b" resource=", resource as u64);
-    }
-    put_none(out, at, resource)
 }
 
 // A count up to 144 with the end of its line after it, the first byte lowest, and from bit 32 on how many bytes that are: one load from a
@@ -211,7 +189,7 @@ fn id_word(id: u32) -> u64
     if is_assigned(id) {
         return stores::digits_of(id);
     }
-    1701736302 // none
+    0x656E6F6E // none
 }
 
 // The last seven bytes of a resource's number after its key, and from bit 56 on how many digits it has.
@@ -369,34 +347,36 @@ fn tail_word(n: usize) -> u64
     }
 }
 
-// The same by whole stores, where there is room. What each stores past its text is written over by the next, and the number ends where its
-// line feed stands.
+// The line of a User field by whole stores. What each stores past its text is written over by the next, and the number ends where its line
+// feed stands.
 fn put_sta_whole(out: &mut [u8], at: usize, id: u32, resource: usize) -> usize
     requires { (at ≤ 80000) × (id < 10000) × (resource ≤ 144) × (at + 22 ≤ length out.old) }
     ensures wrote { Wrote out.old at (sta_line id resource) out.new result }
-    ensures bounded { result ≤ at + 55 }
+    ensures bounded { result ≤ at + 22 }
 {
-    let name = 1029796979 + 4294967296 * id_word(id); // sta=
+    let name = 0x3D617473 + 4294967296 * id_word(id); // sta=
     stores::put_eight(out, at, name);
     let a = at + (8 - stores::lead_of(id));
-    stores::put_eight(out, a, 7165919078637728288); // " resourc"
+    stores::put_eight(out, a, 0x6372756F73657220); // " resourc"
     let tail = tail_word(resource);
     let b = a + (3 + (tail >> 56) as usize);
     stores::put_eight(out, b, tail);
-    out[b + 7] = 10;
+    out[b + 7] = b'\n';
     b + 8
 }
 
-// The line of a User field.
+// The same into whatever room there is: where it may be too little, the line stands in room of its own first.
 pub fn put_sta(out: &mut [u8], at: usize, id: u32, resource: usize) -> usize
     requires { (at ≤ 80000) × (id < 10000) × (resource ≤ 144) }
     ensures wrote { Wrote out.old at (sta_line id resource) out.new result }
     ensures bounded { result ≤ at + 55 }
 {
-    if out.len() < at + 22 {
-        return put_sta_within(out, at, id, resource);
+    if at + 22 <= out.len() {
+        return put_sta_whole(out, at, id, resource);
     }
-    put_sta_whole(out, at, id, resource)
+    let mut own = [0u8; 22];
+    let end = put_sta_whole(&mut own, 0, id, resource);
+    text::put_all(out, at, &own[..end])
 }
 
 // The three lines of a refusal.
@@ -409,45 +389,25 @@ pub fn put_refusal(out: &mut [u8], number: u32, channel: u32, place: usize) -> u
     text::put_line(out, b, b"place=", place as u64)
 }
 
-// The lines before the resources, into whatever room there is.
-fn put_head_within(
-    out: &mut [u8],
-    bw: u32,
-    resources: usize,
-    fields1: usize,
-    fields2: usize,
-    stations: usize,
-) -> usize
-    ensures wrote { Wrote out.old 0 (head_text bw resources fields1 fields2 stations) out.new result }
-    ensures bounded { result ≤ 200 }
-{
-    let a = text::put_line(out, 0, b"answer=", 0);
-    let b = text::put_line(out, a, b"bw=", bw as u64);
-    let c = text::put_line(out, b, b"resources=", resources as u64);
-    let d = text::put_line(out, c, b"fields1=", fields1 as u64);
-    let e = text::put_line(out, d, b"fields2=", fields2 as u64);
-    text::put_line(out, e, b"stations=", stations as u64)
-}
-
-// The last three of them. What is stored past a count is written over by the next key.
+// The last three of the lines before the resources. What is stored past a count is written over by the next key.
 fn put_counts(out: &mut [u8], at: usize, fields1: usize, fields2: usize, stations: usize) -> usize
     requires { (fields1 ≤ 144) × (fields2 ≤ 144) × (stations ≤ 144) × (at ≤ 100) × (at + 40 ≤ length out.old) }
     ensures wrote { Wrote out.old at (counts_text fields1 fields2 stations) out.new result }
     ensures bounded { result ≤ at + 40 }
 {
-    let a = stores::put_eight(out, at, 4409432385324935526); // fields1=
+    let a = stores::put_eight(out, at, 0x3D3173646C656966); // fields1=
     let first = ended_word(fields1);
     stores::put_eight(out, a, first);
-    let b = stores::put_eight(out, a + (first >> 32) as usize, 4409713860301646182); // fields2=
+    let b = stores::put_eight(out, a + (first >> 32) as usize, 0x3D3273646C656966); // fields2=
     let second = ended_word(fields2);
     stores::put_eight(out, b, second);
     let c = b + (second >> 32) as usize;
-    stores::put_eight(out, c, 8317708060514677875); // stations
+    stores::put_eight(out, c, 0x736E6F6974617473); // stations
     let last = ended_word(stations);
-    stores::put_by_fours(out, c + 7, 15731 + 65536 * last, (last >> 32) as usize - 2) // s=
+    stores::put_by_fours(out, c + 7, 0x3D73 + 65536 * last, (last >> 32) as usize - 2) // s=
 }
 
-// All of them by whole stores.
+// The lines before the resources, by whole stores.
 fn put_head_whole(
     out: &mut [u8],
     bw: u32,
@@ -458,17 +418,17 @@ fn put_head_whole(
 ) -> usize
     requires { (bw < 10) × (resources ≤ 144) × (fields1 ≤ 144) × (fields2 ≤ 144) × (stations ≤ 144) × (80 ≤ length out.old) }
     ensures wrote { Wrote out.old 0 (head_text bw resources fields1 fields2 stations) out.new result }
-    ensures bounded { result ≤ 200 }
+    ensures bounded { result ≤ 80 }
 {
-    let a = stores::put_eight(out, 0, 3476060267521207905); // answer=0
-    let b = stores::put_eight(out, a, 7309916347481678346 + 4294967296 * bw as u64); // a line feed, bw=0, a line feed and re
-    let c = stores::put_eight(out, b, 4427994336431796083); // sources=
+    let a = stores::put_eight(out, 0, 0x303D726577736E61); // answer=0
+    let b = stores::put_eight(out, a, 0x65720A303D77620A + 4294967296 * bw as u64); // a line feed, bw=0, a line feed, re
+    let c = stores::put_eight(out, b, 0x3D73656372756F73); // sources=
     let count = ended_word(resources);
     stores::put_eight(out, c, count);
     put_counts(out, c + (count >> 32) as usize, fields1, fields2, stations)
 }
 
-// The lines before the resources.
+// The same into whatever room there is.
 pub fn put_head(
     out: &mut [u8],
     bw: u32,
@@ -481,8 +441,10 @@ pub fn put_head(
     ensures wrote { Wrote out.old 0 (head_text bw resources fields1 fields2 stations) out.new result }
     ensures bounded { result ≤ 200 }
 {
-    if out.len() < 80 {
-        return put_head_within(out, bw, resources, fields1, fields2, stations);
+    if 80 <= out.len() {
+        return put_head_whole(out, bw, resources, fields1, fields2, stations);
     }
-    put_head_whole(out, bw, resources, fields1, fields2, stations)
+    let mut own = [0u8; 80];
+    let end = put_head_whole(&mut own, bw, resources, fields1, fields2, stations);
+    text::put_all(out, 0, &own[..end])
 }

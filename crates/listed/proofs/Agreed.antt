@@ -5,7 +5,7 @@ use Prim.Native.Nat.{ℕ, ◌<◌}
 use native.Mathlib.Omega.{arith}
 use lib.ListN.{length, get_or}
 use Rattle.answer.specs.Lists.{at}
-use Rattle.answer.specs.declared.Outcome.TheVariants.{Pass}
+use Rattle.std.specs.Prelude.{Ok}
 use Rattle.kinds.specs.Signals.{Signals}
 use Rattle.plan.specs.Engine.{only_plan}
 use Rattle.records.specs.Records.{records_from, blank}
@@ -16,7 +16,7 @@ use Rattle.halves.specs.Table.{outcome11}
 use Rattle.both_halves.proofs.Accepted.{known_code, accepted_signals}
 use Rattle.listed.specs.Listing.{resources}
 
-pub agreed : (bw : ℕ) (a b : List ℕ) → outcome11 bw a b ≡ Pass → (i : ℕ) → i < length (resources (row bw a b))
+pub agreed : (bw : ℕ) (a b : List ℕ) → outcome11 bw a b ≡ Ok tt → (i : ℕ) → i < length (resources (row bw a b))
     → AgreesRecord (length (row bw a b)) (get_or (resources (row bw a b)) i blank)
 unfolding positions
 agreed bw a b e =

@@ -4,9 +4,11 @@
 use Rattle.std.specs.Prelude.{cond, List, ◌++◌, [], ◌∷◌, ℕ, ◌+◌, ◌-◌, ltb, length, drop, get_or}
 use Rattle.answer.specs.Answer.{no, refuse_if, ◌or◌, answer_at, after}
 use Rattle.answer.specs.declared.Answer.{Answer}
-use Rattle.answer.specs.declared.Outcome.{Outcome}
-use Rattle.answer.specs.declared.Outcome.TheVariants.{Pass, Refuse}
+use Rattle.answer.specs.Answer.{Outcome}
+use Rattle.std.specs.Prelude.{Ok, Err}
 use Rattle.answer.specs.Tally.{tally}
+use Rattle.answer.specs.declared.Refusal.TheVariants.{BufferTooShort}
+use Rattle.answer.specs.Answer.{answer_of}
 use Rattle.resource.specs.Tones.{tones_of}
 use Rattle.plan.specs.Worked.{the_plan}
 use Rattle.records.specs.declared.Record.{Record}
@@ -61,7 +63,7 @@ listing bw a b = listing_of bw (row bw a b) a b (count bw 1 a) (count bw 2 b)
 
 -- "23 | listing's buffer is too short | 0, bytes needed"
 unfoldable pub check23 : ℕ → List ℕ → List ℕ → ℕ → Outcome
-check23 bw a b room = refuse_if (ltb room (length (listing bw a b))) (no 23 0 (length (listing bw a b)))
+check23 bw a b room = refuse_if (ltb room (length (listing bw a b))) (BufferTooShort (length (listing bw a b)))
 
 -- 1 to 11 as the reader, "and 23 last"
 unfoldable pub list_outcome : ℕ → List ℕ → List ℕ → ℕ → Outcome
@@ -84,8 +86,8 @@ refusal_of x = refusal_text x.number x.channel x.place
 
 -- the listing, or the refusal
 abbrev pub outcome_text : Outcome → List ℕ → List ℕ
-outcome_text Pass t = t
-outcome_text (Refuse x) t = refusal_of x
+outcome_text (Ok u) t = t
+outcome_text (Err x) t = refusal_of (answer_of x)
 
 unfoldable pub frame_text : ℕ → List ℕ → List ℕ → List ℕ
 frame_text bw a b = outcome_text (outcome11 bw a b) (listing bw a b)

@@ -11,7 +11,9 @@ use lib.Seq.{take-append_seam}
 use Rattle.answer.specs.Answer.{◌or◌}
 use Rattle.answer.proofs.Order.{after_kept}
 use Rattle.answer.specs.declared.Answer.{Answer}
-use Rattle.answer.specs.declared.Outcome.TheVariants.{Pass, Refuse}
+use Rattle.answer.specs.declared.Refusal.{Refusal}
+use Rattle.answer.specs.Answer.{answer_of}
+use Rattle.std.specs.Prelude.{Ok, Err}
 use Rattle.text.specs.Text.{upto}
 use Rattle.channel.specs.Layout.{row, count}
 use Rattle.records.specs.Records.{blank}
@@ -37,27 +39,27 @@ unfolding list_answer list_after
 list_kept bw a b d h = after_kept (list_outcome bw a b (length d)) (length (listing bw a b)) _ d h
 
 -- accepted, the text stands at the front of the buffer
-pub list_text : (bw : ℕ) (a b d : List ℕ) → list_outcome bw a b (length d) ≡ Pass
+pub list_text : (bw : ℕ) (a b d : List ℕ) → list_outcome bw a b (length d) ≡ Ok tt
     → take (list_answer bw a b (length d)).place (list_after bw a b d) ≡ listing bw a b
 unfolding list_answer list_after
 list_text bw a b d e = rw e (take-append_seam (listing bw a b) (drop (length (listing bw a b)) d))
 
 -- ---- 1 to 11 as the reader: `list` refuses with one of them exactly when `read` with room for 154 words does
-pub read_refuses : (bw : ℕ) (a b : List ℕ) (x : Answer) → outcome11 bw a b ≡ Refuse x → read_answer bw a b 154 ≡ x
-unfolding read_answer ◌or◌
+pub read_refuses : (bw : ℕ) (a b : List ℕ) (x : Refusal) → outcome11 bw a b ≡ Err x → read_answer bw a b 154 ≡ answer_of x
+unfolding read_answer
 read_refuses bw a b x e = rw (read_outcome_stages bw a b 154, e)
 
-pub read_accepts : (bw : ℕ) (a b : List ℕ) → outcome11 bw a b ≡ Pass → (read_answer bw a b 154).number ≡ 0
-unfolding read_answer ◌or◌ check12 no_room
+pub read_accepts : (bw : ℕ) (a b : List ℕ) → outcome11 bw a b ≡ Ok tt → (read_answer bw a b 154).number ≡ 0
+unfolding read_answer check12 no_room
 read_accepts bw a b e = rw (read_outcome_stages bw a b 154, e, le-ltb 154 (word_count bw a b) (word_count_le bw a b))
 
-pub list_refuses : (bw : ℕ) (a b : List ℕ) (room : ℕ) (x : Answer) → outcome11 bw a b ≡ Refuse x → list_answer bw a b room ≡ x
-unfolding list_answer list_outcome ◌or◌
+pub list_refuses : (bw : ℕ) (a b : List ℕ) (room : ℕ) (x : Refusal) → outcome11 bw a b ≡ Err x → list_answer bw a b room ≡ answer_of x
+unfolding list_answer list_outcome
 list_refuses bw a b room x e = rw e
 
-pub list_accepts : (bw : ℕ) (a b : List ℕ) (room : ℕ) → outcome11 bw a b ≡ Pass
+pub list_accepts : (bw : ℕ) (a b : List ℕ) (room : ℕ) → outcome11 bw a b ≡ Ok tt
     → ((list_answer bw a b room).number ≡ 0) ⊎ ((list_answer bw a b room).number ≡ 23)
-unfolding list_answer list_outcome check23 ◌or◌
+unfolding list_answer list_outcome check23
 list_accepts bw a b room e = go (ltb room (length (listing bw a b))) refl
   where
     go : (t : Bool) → ltb room (length (listing bw a b)) ≡ t

@@ -8,11 +8,12 @@ use lib.ListN.{length}
 use Rattle.answer.specs.Answer.{◌or◌}
 use Rattle.answer.specs.Order.{first_of, Judged}
 use Rattle.answer.specs.declared.Answer.{Answer}
-use Rattle.answer.specs.declared.Outcome.{Outcome}
-use Rattle.answer.specs.declared.Outcome.TheVariants.{Pass}
+use Rattle.answer.specs.Answer.{Outcome}
+use Rattle.std.specs.Prelude.{Ok}
 use Rattle.answer.proofs.Numbers.{Only, only_if, none, more, distinct, absent, zero_pass, judged}
 use Rattle.answer.proofs.First.{first_append}
 use Rattle.answer.proofs.Order.{or_end}
+use Rattle.answer.specs.declared.Refusal.TheVariants.{BufferTooShort}
 use Rattle.halves.specs.Table.{checks11, outcome11}
 use Rattle.halves.proofs.Exactly.{checks11_then}
 use Rattle.listed.specs.Listing.{listing, check23, list_outcome, list_answer, list_numbers, list_checks}
@@ -21,7 +22,7 @@ use Rattle.listing.proofs.list.Reads as list
 
 only_23 : (bw : ℕ) (a b : List ℕ) (room : ℕ) → Only 23 (check23 bw a b room)
 unfolding check23
-only_23 bw a b room = only_if (ltb room (length (listing bw a b))) 23 0 (length (listing bw a b))
+only_23 bw a b room = only_if (ltb room (length (listing bw a b))) (BufferTooShort (length (listing bw a b)))
 
 numbers_distinct : distinct (0 ∷ list_numbers) ≡ true
 unfolding distinct absent
@@ -39,7 +40,7 @@ list_judged bw a b room =
     rw (listable_rows bw a b room) at (judged (checks11_then bw a b (more (only_23 bw a b room) none)) numbers_distinct (length (listing bw a b)))
 
 -- number 0 is given only where every row passes
-pub accepted_exactly : (bw : ℕ) (a b : List ℕ) (room : ℕ) → (list_answer bw a b room).number ≡ 0 → list_outcome bw a b room ≡ Pass
+pub accepted_exactly : (bw : ℕ) (a b : List ℕ) (room : ℕ) → (list_answer bw a b room).number ≡ 0 → list_outcome bw a b room ≡ Ok tt
 unfolding list_answer
 accepted_exactly bw a b room =
     rw (listable_rows bw a b room) at (zero_pass (checks11_then bw a b (more (only_23 bw a b room) none)) numbers_distinct (length (listing bw a b)))

@@ -6,7 +6,7 @@ ghost use Rattle.both_halves.specs.Engine.{Handed};
 ghost use Rattle.listing_size.specs.Longest.{longest_at};
 ghost use Rattle.listed.specs.Listing.{list_answer, list_after};
 
-use answer::{Answer, Outcome};
+use answer::{Answer, Refusal};
 use listing_lines::put_listing;
 
 // The bytes of a bandwidth's longest listing.
@@ -41,31 +41,19 @@ fn list_users(
     ensures out_after { out.new ≡ list_after bw a.now b.now out.old }
 {
     let seen = second_half::check_users(fields, bw, a, b, m, k);
-    if let Outcome::Refuse(x) = seen {
-        return x;
+    if let Err(x) = seen {
+        return x.into();
     }
     if longest_of(bw) <= out.len() {
         let place = put_listing(out, bw, fields, row, kinds, m, k);
-        return Answer {
-            number: 0,
-            channel: 0,
-            place,
-        };
+        return Answer::accepted(place);
     }
     let need = put_listing(&mut out[..0], bw, fields, row, kinds, m, k);
     if out.len() < need {
-        return Answer {
-            number: 23,
-            channel: 0,
-            place: need,
-        };
+        return Refusal::BufferTooShort { needed: need }.into();
     }
     let place = put_listing(out, bw, fields, row, kinds, m, k);
-    Answer {
-        number: 0,
-        channel: 0,
-        place,
-    }
+    Answer::accepted(place)
 }
 
 // The same with room for the fields: for a few no more is cleared than they need.
@@ -100,8 +88,8 @@ pub fn list(bandwidth: u32, cc1: &[u8], cc2: &[u8], out: &mut [u8]) -> Answer
     let mut kinds = [0u16; 16];
     let plan = first_half::plan_row(&mut row, &mut kinds, bandwidth, cc1, cc2);
     let planned = plan.outcome;
-    if let Outcome::Refuse(x) = planned {
-        return x;
+    if let Err(x) = planned {
+        return x.into();
     }
     let n = channel::positions_of(bandwidth);
     list_planned(

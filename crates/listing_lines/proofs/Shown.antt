@@ -4,8 +4,8 @@ use mathlib.Core.Path.{◌≡◌, sym, ap, ◌∙◌}
 use mathlib.Core.List.{List}
 use Prim.Native.Nat.{ℕ, ◌+◌, ◌%◌, ◌≤◌, ◌<◌}
 use lib.ListN.{length, get_or}
-use Rattle.answer.specs.declared.Outcome.{Outcome}
-use Rattle.answer.specs.declared.Outcome.TheVariants.{Pass}
+use Rattle.answer.specs.Answer.{Outcome}
+use Rattle.std.specs.Prelude.{Ok}
 use Rattle.answer.specs.Lists.{Front, filled}
 use Rattle.answer.proofs.Lists.{front_filled}
 use Rattle.answer.specs.Tally.{tally}
@@ -30,7 +30,7 @@ use Rattle.listed.specs.Listing.{resources, record_line, ru_lines, owner_in, sta
 use Rattle.listed.proofs.Agreed.{agreed}
 use Rattle.listing_lines.specs.Engine.{Counted, field_line, fields_listing}
 
-module _ (bw : ℕ) (a b : List ℕ) (e : outcome11 bw a b ≡ Pass) where
+module _ (bw : ℕ) (a b : List ℕ) (e : outcome11 bw a b ≡ Ok tt) where
   lines : runs_lines (length (row bw a b)) (resources (row bw a b)) ≡ ru_lines (length (row bw a b)) (resources (row bw a b))
   unfolding runs_lines ru_lines
   lines =
@@ -80,7 +80,7 @@ module _ {bw : ℕ} {a b r c : List ℕ} {m k : ℕ} (h : Handed bw a b r c m k)
   pub told : {o p : Outcome} → o ≡ outcome9to11 bw a b → o ≡ p → outcome11 bw a b ≡ p
   told e f = h.rest ∙ sym e ∙ f
 
-  pub written : (w : List ℕ) {o : Outcome} {v d t : List ℕ} {n : ℕ} → o ≡ outcome9to11 bw a b → o ≡ Pass → v ≡ filled (user_of bw a b m) (m + k) w
+  pub written : (w : List ℕ) {o : Outcome} {v d t : List ℕ} {n : ℕ} → o ≡ outcome9to11 bw a b → o ≡ Ok tt → v ≡ filled (user_of bw a b m) (m + k) w
       → Wrote d 0 (fields_listing bw r v m k) t n → Wrote d 0 (listing bw a b) t n
   written w {v = v} e f g x =
       let y = shown bw a b (told e f) v m k (front_filled (user_of bw a b m) (m + k) w v g) h.given in

@@ -19,12 +19,9 @@ fn put_records(out: &mut [u8], at: usize, row: &[u16], kinds: &[u16; 16]) -> usi
     ensures wrote { Wrote out.old at (runs_lines (length row.now) (resources row.now)) out.new result }
     ensures bounded { result ≤ at + 460 * length (resources row.now) }
 {
-    let n = row.len();
     let mut o = at;
-    let mut p: usize = 0;
-    while p < n {
+    for p in 0..row.len() {
         o = put_position(out, o, row, kinds[p], p);
-        p += 1;
     }
     o
 }

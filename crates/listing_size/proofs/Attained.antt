@@ -10,8 +10,8 @@ use Rattle.answer.specs.Answer.{◌or◌}
 use Rattle.answer.specs.Order.{first_of}
 use Rattle.answer.specs.Least.{least}
 use Rattle.answer.specs.Lists.{build, at}
-use Rattle.answer.specs.declared.Outcome.{Outcome}
-use Rattle.answer.specs.declared.Outcome.TheVariants.{Pass}
+use Rattle.answer.specs.Answer.{Outcome}
+use Rattle.std.specs.Prelude.{Ok}
 use Rattle.answer.proofs.Order.{pass_left, pass_right}
 use Rattle.bits.specs.Bits.{bit, field, differs, Small}
 use Rattle.block.specs.Check.{step, register, sent, check, right}
@@ -82,12 +82,12 @@ none_shared x p = let q = 1 * (p / 1) + 0 in go (eqb (q % 2 + 1) x) (takes 0 (q 
     go true false = omega arith
     go false t = omega arith
 
-zeros_pass : (n : ℕ) → outcome7 (zeros n) or outcome8 (zeros n) ≡ Pass
+zeros_pass : (n : ℕ) → outcome7 (zeros n) or outcome8 (zeros n) ≡ Ok tt
 zeros_pass n =
     let s = subst (λ (r : ℕ → ℕ). Signals (λ p. 0) r 0 (length (zeros n))) (sym (all_zeros n)) (zeros_signals (length (zeros n))) in
     let e = subst (λ (r : ℕ → ℕ). Eight (λ p. 0) r 0 (length (zeros n))) (sym (all_zeros n))
     (λ p l m. omega (arith, none_shared 1 p, none_shared 2 p)) in
-    sym ((worked (zeros n)).only_laid Pass (accepted (λ p. 0, s, e)))
+    sym ((worked (zeros n)).only_laid (Ok tt) (accepted (λ p. 0, s, e)))
 
 -- ---- frames whose values are all 0, with 0 for the overflow, STA-ID 2047, which may repeat, and 0 for the rest of each User field
 -- four User blocks are 27 bytes
@@ -139,12 +139,12 @@ checks_with bw seventh eighth =
     (check1 bw ∷ check2 bw a b ∷ check3 bw a b ∷ check4 bw a b ∷ check5 bw a b ∷ check6 bw a b ∷ seventh ∷ eighth
     ∷ check9 bw a b ∷ check10 bw a b ∷ check11 bw a b ∷ [])
 
-others_pass : (bw : ℕ) → bw < 5 → checks_with bw Pass Pass ≡ Pass
+others_pass : (bw : ℕ) → bw < 5 → checks_with bw (Ok tt) (Ok tt) ≡ Ok tt
 unfolding times channel second count total present subfields_in subfields fields_of pieces carried positions row build row_at value value_at
     firsts seconds second_at first_bits second_bits field bit wrong_users wrong_users_of first_wrong wrong_block least blocks block_at covered
     common has_second right check sent register step check1 check2 check3 check4 check5 check6 check9 check10 check11 too_long cut_common
     wrong_first wrong_second wrong_common overflow_differs differs uncarried first_uncarried not_carried cut_users end_of user_at first_repeated
-    station_twice first_of ◌or◌
+    station_twice first_of
 others_pass zero l = refl
 others_pass (suc zero) l = refl
 others_pass (suc (suc zero)) l = refl
@@ -152,7 +152,7 @@ others_pass (suc (suc (suc zero))) l = refl
 others_pass (suc (suc (suc (suc zero)))) l = refl
 others_pass (suc (suc (suc (suc (suc bw))))) l = absurd (omega arith)
 
-is_accepted : (bw : ℕ) → bw < 5 → outcome11 bw (channel bw) (second bw) ≡ Pass
+is_accepted : (bw : ℕ) → bw < 5 → outcome11 bw (channel bw) (second bw) ≡ Ok tt
 unfolding outcome11 check7 check8
 is_accepted bw l =
     let n = 2 ^ bw in

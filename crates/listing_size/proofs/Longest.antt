@@ -7,11 +7,12 @@ use Prim.Native.Nat.{ℕ, zero, suc, ◌+◌, ◌-◌, ◌*◌, ◌%◌, ◌^◌
 use native.Mathlib.Omega.{arith}
 use lib.Dec.{ltb, leb, eqb, leb→le}
 use lib.ListN.{length, get_or, length-append}
-use Rattle.answer.specs.declared.Outcome.{Outcome}
-use Rattle.answer.specs.declared.Outcome.TheVariants.{Pass, Refuse}
+use Rattle.answer.specs.Answer.{Outcome}
+use Rattle.std.specs.Prelude.{Ok, Err}
 use Rattle.answer.specs.Lists.{build, at}
 use Rattle.answer.proofs.Lists.{get_d_build}
 use Rattle.answer.proofs.Tally.{tally_le}
+use Rattle.answer.specs.Answer.{answer_of}
 use Rattle.bits.proofs.Fields.{field_lt}
 use Rattle.resource.specs.Index.{index_of, resource_at, position_of, place_of}
 use Rattle.resource.specs.Tones.{tones_at, tones_of}
@@ -115,7 +116,7 @@ module _ (bw : ℕ) (r a b : List ℕ) where
       omega (arith, both, hd, ru, all, stations_most)
 
 -- ---- the listing of an accepted frame, at every bandwidth
-pub longest_most : (bw : ℕ) (a b : List ℕ) → outcome11 bw a b ≡ Pass → length (listing bw a b) ≤ longest (2 ^ bw)
+pub longest_most : (bw : ℕ) (a b : List ℕ) → outcome11 bw a b ≡ Ok tt → length (listing bw a b) ≤ longest (2 ^ bw)
 unfolding listing positions
 longest_most bw a b e =
     let l : bw ≤ 4 = known_code bw a b e in
@@ -131,11 +132,11 @@ pub longest_is : (bw : ℕ) → bw < 5 → longest (2 ^ bw) ≡ longest_at bw
 unfolding longest_at
 longest_is bw l = sym (get_d_build (λ b. longest (2 ^ b)) 5 bw 0 l) ∙ ap (λ (w : List ℕ). get_or w bw 0) longest_table
 
-pub listing_within : (bw : ℕ) (a b : List ℕ) → outcome11 bw a b ≡ Pass → length (listing bw a b) ≤ longest_at bw
+pub listing_within : (bw : ℕ) (a b : List ℕ) → outcome11 bw a b ≡ Ok tt → length (listing bw a b) ≤ longest_at bw
 listing_within bw a b e = omega (arith, longest_most bw a b e, longest_is bw (omega (arith, known_code bw a b e)))
 
 -- so at most 10,131 bytes
-pub listing_most : (bw : ℕ) (a b : List ℕ) → outcome11 bw a b ≡ Pass → length (listing bw a b) ≤ 10131
+pub listing_most : (bw : ℕ) (a b : List ℕ) → outcome11 bw a b ≡ Ok tt → length (listing bw a b) ≤ 10131
 unfolding longest dec signed upto carried pieces fields_of own_pieces index_of resource_at position_of place_of tones_at tones_of divides
     piece_fields name_text comma tones_text ru_name ru_head ru_line
 listing_most bw a b e =
@@ -153,8 +154,8 @@ unfolding frame_text
 frame_most bw a b = go (outcome11 bw a b) refl
   where
     go : (o : Outcome) → outcome11 bw a b ≡ o → length (outcome_text o (listing bw a b)) ≤ 10131
-    go Pass e = listing_most bw a b e
-    go (Refuse x) e = omega (arith, refusal_short x.number x.channel x.place)
+    go (Ok u) e = listing_most bw a b e
+    go (Err x) e = omega (arith, refusal_short (answer_of x).number (answer_of x).channel (answer_of x).place)
 
 pub program_most : (s : List ℕ) → length (program_text s) ≤ 10131
 unfolding program_text

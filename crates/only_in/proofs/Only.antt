@@ -9,7 +9,7 @@ use borrow.Author.Tests.{eq-eqb, ne_eqb}
 use lib.Dec.{eqb}
 use lib.ListN.{length, get_or}
 use Rattle.answer.specs.Lists.{at}
-use Rattle.answer.specs.declared.Outcome.TheVariants.{Pass}
+use Rattle.std.specs.Prelude.{Ok}
 use Rattle.text.proofs.Laws.{upto_cong}
 use Rattle.resource.specs.Values.{own_pieces}
 use Rattle.resource.specs.Engine.{piece_at}
@@ -98,7 +98,7 @@ module _ (s : ℕ) (r t : List ℕ) (e : length t ≡ length r) where
       ∙ position_lines s r t p (o p) (only_plan (at t) p) (only_known (at r) p) (only_known (at t) p))
 
 -- ---- the subcarriers of an accepted frame's lines are 01's
-found_lines : (bw : ℕ) (a b : List ℕ) (s : ℕ) (ws : List Record) → outcome11 bw a b ≡ Pass
+found_lines : (bw : ℕ) (a b : List ℕ) (s : ℕ) (ws : List Record) → outcome11 bw a b ≡ Ok tt
     → lines_by (only_line s (record_line (length (row bw a b))) ws) (resources (row bw a b))
     ≡ lines_by (only_line s (runs_line (length (row bw a b))) ws) (resources (row bw a b))
 found_lines bw a b s ws e =
@@ -120,7 +120,7 @@ module _ (bw : ℕ) (a b c d : List ℕ) where
   one_length : length (row bw c d) ≡ length (row bw a b)
   one_length = row_length bw c d ∙ sym (row_length bw a b)
 
-  pub only_first : outcome11 bw a b ≡ Pass
+  pub only_first : outcome11 bw a b ≡ Ok tt
       → only_lines 1 (row bw a b) (row bw c d) ≡ difference_lines (length (row bw a b)) (keep (differs x y) (resource_items 1 x))
   unfolding resource_items reading_of
   only_first e =
@@ -129,7 +129,7 @@ module _ (bw : ℕ) (a b c d : List ℕ) where
       ∙ found_lines bw a b 1 (resources (row bw c d)) e
       ∙ row_lines 1 (row bw a b) (row bw c d) one_length)
 
-  pub only_second : outcome11 bw c d ≡ Pass
+  pub only_second : outcome11 bw c d ≡ Ok tt
       → only_lines 2 (row bw c d) (row bw a b) ≡ difference_lines (length (row bw a b)) (keep (differs x y) (resource_items 2 y))
   unfolding resource_items reading_of
   only_second e =

@@ -44,10 +44,8 @@ fn shape_of(v: u16) -> u32
 {
     let here = resource::pieces_of(v);
     let mut shape: u32 = 0;
-    let mut k: u16 = 0;
-    while k < here {
+    for k in 0..here {
         shape += 1 << piece_number(resource::piece_at(v, k));
-        k += 1;
     }
     shape
 }
@@ -60,6 +58,8 @@ fn shape_in(kind: u16, v: u16) -> u32
 }
 
 // ---- the lines
+
+// A frame and the other's are parameters one by one: `put_only` is public and takes them so, and each contract below names them one by one.
 
 // Of the k-th piece of position p, unless it is one of the other frame's.
 fn put_only_piece(
@@ -98,10 +98,8 @@ fn put_only_pieces(
 {
     let here = resource::pieces_of(v);
     let mut e = at;
-    let mut k: u16 = 0;
-    while k < here {
+    for k in 0..here {
         e = put_only_piece(out, e, side, n, v, p, k, others);
-        k += 1;
     }
     e
 }
@@ -169,10 +167,9 @@ pub fn put_only(
 {
     let n = row.len();
     let mut e = at;
-    let mut p: usize = 0;
-    while p < n {
+    // By its index: three lists zipped and numbered are no plainer.
+    for p in 0..n {
         e = put_only_at(out, e, side, row, kinds[p], p, theirs[p], other[p]);
-        p += 1;
     }
     e
 }

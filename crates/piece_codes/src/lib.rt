@@ -128,6 +128,7 @@ pub fn base_of(n: u32, p: u32) -> u32
 }
 
 // How many of a kind a position has.
+#[tactic(auto, unfolding(crate::specs::Engine::each_of))]
 fn each_of(k: u32) -> u32
     ensures { (result ≡ each_of k) × (result ≤ 9) }
 {
@@ -142,6 +143,7 @@ fn each_of(k: u32) -> u32
 }
 
 // The index of a piece at place q of its segment: 19 does not exist among the 26s.
+#[tactic(auto, unfolding(crate::specs::Engine::index_at))]
 pub fn index_at(q: u32, c: u32) -> u32
     requires { (q < 4) × (c < 128) }
     ensures { (result ≡ index_at q c) × (result < 100) }
@@ -157,6 +159,7 @@ pub fn index_at(q: u32, c: u32) -> u32
 // ---- the pieces of one run: all that their lines say, by one load
 
 // Whether the piece of this code is one run of subcarriers, in a channel of n positions.
+#[tactic(auto, unfolding(crate::specs::Engine::is_single))]
 pub fn is_single(n: u32, c: u32) -> bool
     ensures { result ≡ is_single n c }
 {
@@ -177,6 +180,7 @@ fn shift_of(n: u32) -> u32
 }
 
 // Its place among them: the codes side by side.
+#[tactic(auto, unfolding(crate::specs::Engine::place_of))]
 fn place_of(n: u32, c: u32) -> u32
     requires { c < 128 }
     ensures { (result ≡ place_of n c) × (result < 128) }
@@ -186,6 +190,7 @@ fn place_of(n: u32, c: u32) -> u32
 
 // From the lowest byte: its first subcarrier, three bytes of its name, its last subcarrier, twice its index's step from position to position,
 // its index in the first one, its name's length.
+#[tactic(auto, unfolding(crate::specs::Engine::entry_of))]
 fn entry_of(d: u32) -> u64
     requires { d < 128 }
     ensures { result ≡ entry_of d }

@@ -5,7 +5,7 @@ ghost use Rattle.std.specs.Prelude.{◌≡◌, map, ◌++◌, ◌+◌, ◌*◌, 
 ghost use Rattle.text.specs.Text.{codes, Wrote};
 ghost use Rattle.resource.specs.Values.{piece_fields, own_pieces};
 ghost use Rattle.resource.specs.Engine.{span_of, piece_at, runs_of, held};
-ghost use Rattle.piece_codes.specs.Engine.{code_of, is_code, is_single, runs_by};
+ghost use Rattle.piece_codes.specs.Engine.{is_code, is_single, runs_by};
 ghost use Rattle.resource_line.specs.ResourceLine.{tones_text};
 ghost use Rattle.kinds.specs.Kinds.{span};
 ghost use Rattle.records.specs.Records.{piece_record, lead, list_at};
@@ -45,12 +45,12 @@ fn put_word_tones(out: &mut [u8], at: usize, n: u32, base: u32, w: u32) -> usize
     let lo = base + w % 256;
     let hi = lo + w / 256 % 256 - 1;
     if w < 65536 {
-        return stores::put_span(out, at, lo, hi, zero, 10);
+        return stores::put_span(out, at, lo, hi, zero, b'\n' as u64);
     }
-    let a = stores::put_span(out, at, lo, hi, zero, 44); // a comma
+    let a = stores::put_span(out, at, lo, hi, zero, b',' as u64);
     let lo2 = base + w / 65536 % 256;
     let hi2 = lo2 + w / 65536 / 256 - 1;
-    stores::put_span(out, a, lo2, hi2, zero, 10)
+    stores::put_span(out, a, lo2, hi2, zero, b'\n' as u64)
 }
 
 // The subcarriers of the 242 at 20 MHz, and the line's end: "-122:-2,2:122".
@@ -115,54 +115,40 @@ fn put_coded_piece(out: &mut [u8], at: usize, n: u32, p: u32, c: u32, users: u32
     put_coded(out, at, n, p, c, users)
 }
 
-// A line for each piece of position p, which is given to itself, where there is room for nine.
+// A line for each piece of position p, which is given to itself, of at most nine.
 fn put_pieces_whole(out: &mut [u8], at: usize, n: u16, v: u16, p: usize) -> usize
     requires { (at ≤ 600000) × (n ≤ 16) × (p < 16) × (at + 630 ≤ length out.old) }
     ensures wrote { Wrote out.old at (runs_lines n (list_at 0 (λ q. v) p)) out.new result }
-    ensures bounded { result ≤ at + 460 * length (list_at 0 (λ q. v) p) }
+    ensures bounded { (result ≤ at + 70 * length (list_at 0 (λ q. v) p)) × (result ≤ at + 630) }
 {
     let here = resource::pieces_of(v);
     let users = resource::piece_fields(v) as u32;
     let mut left = piece_codes::codes_of(v);
     let mut e = at;
-    let mut k: u16 = 0;
-    while k < here {
+    for k in 0..here {
         e = put_coded_piece(out, e, n as u32, p as u32, (left % 128) as u32, users);
         left /= 128;
-        k += 1;
     }
     e
 }
 
-// The same into whatever room there is.
-fn put_pieces_within(out: &mut [u8], at: usize, n: u16, v: u16, p: usize) -> usize
-    requires { (at ≤ 600000) × (n ≤ 16) × (p < 16) }
-    ensures wrote { Wrote out.old at (runs_lines n (list_at 0 (λ q. v) p)) out.new result }
-    ensures bounded { result ≤ at + 460 * length (list_at 0 (λ q. v) p) }
-{
-    let here = resource::pieces_of(v);
-    let mut e = at;
-    let mut k: u16 = 0;
-    while k < here {
-        e = put_piece(out, e, n, v, p, k);
-        k += 1;
-    }
-    e
-}
-
+// The same into whatever room there is: where it may be too little, the lines stand in room of their own first.
 fn put_pieces(out: &mut [u8], at: usize, n: u16, v: u16, p: usize) -> usize
     requires { (at ≤ 600000) × (n ≤ 16) × (p < 16) }
     ensures wrote { Wrote out.old at (runs_lines n (list_at 0 (λ q. v) p)) out.new result }
     ensures bounded { result ≤ at + 460 * length (list_at 0 (λ q. v) p) }
 {
-    if out.len() < at + 630 {
-        return put_pieces_within(out, at, n, v, p);
+    if at + 630 <= out.len() {
+        return put_pieces_whole(out, at, n, v, p);
     }
-    put_pieces_whole(out, at, n, v, p)
+    let mut own = [0u8; 630];
+    let end = put_pieces_whole(&mut own, 0, n, v, p);
+    text::put_all(out, at, &own[..end])
 }
 
-// The line of the larger resource of this kind, of which p is the lowest position, into whatever room there is.
-fn put_larger_within(out: &mut [u8], at: usize, row: &[u16], kind: u16, p: usize) -> usize
+// The line of the larger resource of this kind, of which p is the lowest position, whatever its users: `put_larger` takes any row, and whole
+// stores have room for one digit of users.
+fn put_larger_exact(out: &mut [u8], at: usize, row: &[u16], kind: u16, p: usize) -> usize
     requires { (at ≤ 600000) × (length row.now ≤ 16) × (p < length row.now) × (kind < 36) × (kind ≡ 0 → ⊥) × (p % span kind ≡ lead kind) }
     ensures wrote { Wrote out.old at (runs_lines (length row.now) (listed_at row.now kind p)) out.new result }
     ensures bounded { result ≤ at + 460 * length (listed_at row.now kind p) }
@@ -172,20 +158,23 @@ fn put_larger_within(out: &mut [u8], at: usize, row: &[u16], kind: u16, p: usize
     put_record(out, at, n, records::larger_record(kind, row, p), tones)
 }
 
-// The same, by whole stores where there is room.
+// The same, by whole stores of fewer than ten users: where there may be too little room, the line stands in room of its own first.
 pub fn put_larger(out: &mut [u8], at: usize, row: &[u16], kind: u16, p: usize) -> usize
     requires { (at ≤ 600000) × (length row.now ≤ 16) × (p < length row.now) × (kind < 36) × (kind ≡ 0 → ⊥) × (p % span kind ≡ lead kind) }
     ensures wrote { Wrote out.old at (runs_lines (length row.now) (listed_at row.now kind p)) out.new result }
     ensures bounded { result ≤ at + 460 * length (listed_at row.now kind p) }
 {
-    if out.len() < at + 240 {
-        return put_larger_within(out, at, row, kind, p);
-    }
     let users = kinds::total_of(kind, row, p);
     if 10 <= users {
-        return put_larger_within(out, at, row, kind, p);
+        return put_larger_exact(out, at, row, kind, p);
     }
-    larger_line::put_line(out, at, row.len() as u32, kind, p as u32, users as u32)
+    let n = row.len() as u32;
+    if at + 240 <= out.len() {
+        return larger_line::put_line(out, at, n, kind, p as u32, users as u32);
+    }
+    let mut own = [0u8; 240];
+    let end = larger_line::put_line(&mut own, 0, n, kind, p as u32, users as u32);
+    text::put_all(out, at, &own[..end])
 }
 
 // A line for each of the resources whose lowest position is p, which is given to this kind.

@@ -1,3 +1,2 @@
 pub mod Held
-pub mod LineLaws
 pub mod Whole

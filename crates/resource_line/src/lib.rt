@@ -82,13 +82,9 @@ fn put_tones(out: &mut [u8], at: usize, t: Tones, n: u16) -> usize
     ensures wrote { Wrote out.old at (tones_text (held_spans n t)) out.new result }
     ensures bounded { result ≤ at + 352 }
 {
-    let count = t.count as usize;
-    let runs = t.runs;
     let mut o = at;
-    let mut i: usize = 0;
-    while i < count {
-        o = put_run(out, o, i, runs[i], n);
-        i += 1;
+    for (i, run) in t.runs[..t.count as usize].iter().enumerate() {
+        o = put_run(out, o, i, *run, n);
     }
     o
 }
@@ -144,6 +140,7 @@ fn pairing_class(pairing: Pairing) -> u32
 }
 
 // The number of a resource's name.
+#[tactic(auto, unfolding(crate::specs::Engine::class_of))]
 fn class_of(r: Resource) -> u32
     ensures { (result ≡ class_of r) × (result < 13) }
 {
@@ -153,51 +150,55 @@ fn class_of(r: Resource) -> u32
     }
 }
 
-// The first eight bytes of a line, by the number of its name. One `match` of constants each, so that it is one load from a fixed table.
+// The first eight bytes of a line, by the number of its name. One `match` of constants each, so that it is one load from a fixed table; a
+// constant takes no call of from_le_bytes, so the text stands beside it.
+#[tactic(auto, unfolding(crate::specs::Engine::first_of))]
 fn first_of(k: u32) -> u64
     ensures { result ≡ first_of k }
 {
     match k {
-        0 => 7955925633869903218,
-        1 => 7955925616740365682,
-        2 => 7575114153849615730,
-        3 => 3615042706507396466,
-        4 => 7575109772999751026,
-        5 => 7575111989236430194,
-        6 => 7575114192638539122,
-        7 => 3907217340122363250,
-        8 => 3907217340139140466,
-        9 => 3615040541894210930,
-        10 => 3759157933372175730,
-        11 => 3907217340122363250,
-        12 => 3907217340139140466,
+        0 => 0x6E692036323D7572, // ru=26 in
+        1 => 0x6E692032353D7572, // ru=52 in
+        2 => 0x69203630313D7572, // ru=106 i
+        3 => 0x322B3630313D7572, // ru=106+2
+        4 => 0x69203234323D7572, // ru=242 i
+        5 => 0x69203438343D7572, // ru=484 i
+        6 => 0x69203639393D7572, // ru=996 i
+        7 => 0x36393978323D7572, // ru=2x996
+        8 => 0x36393978333D7572, // ru=3x996
+        9 => 0x322B3438343D7572, // ru=484+2
+        10 => 0x342B3639393D7572, // ru=996+4
+        11 => 0x36393978323D7572, // ru=2x996
+        12 => 0x36393978333D7572, // ru=3x996
         _ => 0,
     }
 }
 
 // The last eight before the index.
+#[tactic(auto, unfolding(crate::specs::Engine::last_of))]
 fn last_of(k: u32) -> u64
     ensures { result ≡ last_of k }
 {
     match k {
-        0 => 4429401715542401078,
-        1 => 4429401715542401074,
-        2 => 4429401715542401078,
-        3 => 4429401715542401078,
-        4 => 4429401715542401074,
-        5 => 4429401715542401076,
-        6 => 4429401715542401078,
-        7 => 4429401715542401078,
-        8 => 4429401715542401078,
-        9 => 4429401715542401074,
-        10 => 4429401715542401076,
-        11 => 4429401715542401076,
-        12 => 4429401715542401076,
+        0 => 0x3D7865646E692036, // 6 index=
+        1 => 0x3D7865646E692032, // 2 index=
+        2 => 0x3D7865646E692036, // 6 index=
+        3 => 0x3D7865646E692036, // 6 index=
+        4 => 0x3D7865646E692032, // 2 index=
+        5 => 0x3D7865646E692034, // 4 index=
+        6 => 0x3D7865646E692036, // 6 index=
+        7 => 0x3D7865646E692036, // 6 index=
+        8 => 0x3D7865646E692036, // 6 index=
+        9 => 0x3D7865646E692032, // 2 index=
+        10 => 0x3D7865646E692034, // 4 index=
+        11 => 0x3D7865646E692034, // 4 index=
+        12 => 0x3D7865646E692034, // 4 index=
         _ => 0,
     }
 }
 
 // Where these begin.
+#[tactic(auto, unfolding(crate::specs::Engine::last_place))]
 fn last_place(k: u32) -> usize
     ensures { (result ≡ last_place k) × (result ≤ 11) }
 {
@@ -220,14 +221,15 @@ fn last_place(k: u32) -> usize
 }
 
 // Of the names of four parts, the eight after the first.
+#[tactic(auto, unfolding(crate::specs::Engine::middle_of))]
 fn middle_of(k: u32) -> u64
     ensures { result ≡ middle_of k }
 {
     match k {
-        9 => 8675450682572026420,
-        10 => 8675450682572026936,
-        11 => 7236837238266934315,
-        12 => 7236837238266934315,
+        9 => 0x7865646E69203234, // 42 index
+        10 => 0x7865646E69203438, // 84 index
+        11 => 0x646E69203438342B, // +484 ind
+        12 => 0x646E69203438342B, // +484 ind
         _ => 0,
     }
 }
@@ -272,9 +274,9 @@ fn put_counts(out: &mut [u8], at: usize, g: u32, users: u32) -> usize
     ensures wrote { Wrote out.old at (counts_text g users) out.new result }
     ensures bounded { result ≡ at + 24 }
 {
-    let a = stores::put_eight(out, at, 4428285715518285171); // segment=
-    let b = stores::put_eight(out, a, 4428008638689648688 + g as u64); // 0 users=
-    stores::put_eight(out, b, 4427994383626018864 + users as u64) // 0 tones=
+    let a = stores::put_eight(out, at, 0x3D746E656D676573); // segment=
+    let b = stores::put_eight(out, a, 0x3D73726573752030 + g as u64); // 0 users=
+    stores::put_eight(out, b, 0x3D73656E6F742030 + users as u64) // 0 tones=
 }
 
 // A line up to its subcarriers, by the number of the resource's name and by its index.
@@ -309,8 +311,8 @@ pub fn put_named(
     put_counts(out, b + 7 + (index / 16777216) as usize, g, users)
 }
 
-// A line up to its subcarriers, into whatever room there is.
-fn put_head_within(out: &mut [u8], at: usize, g: u16, r: Resource, users: u64) -> usize
+// A line up to its subcarriers, of any numbers: `put_ru` takes any segment and users, of which whole stores have room for one digit each.
+fn put_head_exact(out: &mut [u8], at: usize, g: u16, r: Resource, users: u64) -> usize
     requires { at ≤ 700000 }
     ensures wrote { Wrote out.old at (ru_head g r users ++ codes " tones=") out.new result }
     ensures bounded { result ≤ at + 107 }
@@ -319,24 +321,15 @@ fn put_head_within(out: &mut [u8], at: usize, g: u16, r: Resource, users: u64) -
     text::put_all(out, a, b" tones=")
 }
 
-// The same of any, by whole stores where there is room and the numbers are short.
+// The same, by whole stores where the numbers are short and there is room.
 fn put_head(out: &mut [u8], at: usize, g: u16, r: Resource, users: u64) -> usize
     requires { at ≤ 700000 }
     ensures wrote { Wrote out.old at (ru_head g r users ++ codes " tones=") out.new result }
     ensures bounded { result ≤ at + 107 }
 {
     let i = resource::number_of(r);
-    if out.len() < at + 46 {
-        return put_head_within(out, at, g, r, users);
-    }
-    if 100 <= i {
-        return put_head_within(out, at, g, r, users);
-    }
-    if 10 <= g {
-        return put_head_within(out, at, g, r, users);
-    }
-    if 10 <= users {
-        return put_head_within(out, at, g, r, users);
+    if out.len() < at + 46 || 100 <= i || 10 <= g || 10 <= users {
+        return put_head_exact(out, at, g, r, users);
     }
     put_start(out, at, class_of(r), i as u32, g as u32, users as u32)
 }

@@ -7,8 +7,7 @@ ghost use Rattle.both_halves.specs.Engine.{Handed};
 ghost use Rattle.input.specs.Engine.{bytes_at, second_at};
 ghost use Rattle.listed.specs.Listing.{frame_text, program_text};
 
-use answer::Outcome;
-use input::Parsed;
+use answer::Answer;
 use lines::put_refusal;
 use listing_lines::put_listing;
 
@@ -28,7 +27,8 @@ fn put_planned(
 {
     let mut fields = [0u32; 144];
     let seen = second_half::check_users(&mut fields, bw, a, b, m, k);
-    if let Outcome::Refuse(y) = seen {
+    if let Err(y) = seen {
+        let y = Answer::from(y);
         return put_refusal(out, y.number, y.channel, y.place);
     }
     put_listing(out, bw, &fields, row, kinds, m, k)
@@ -42,7 +42,8 @@ fn put_outcome(out: &mut [u8], bw: u32, a: &[u8], b: &[u8]) -> usize
     let mut kinds = [0u16; 16];
     let plan = first_half::plan_row(&mut row, &mut kinds, bw, a, b);
     let planned = plan.outcome;
-    if let Outcome::Refuse(x) = planned {
+    if let Err(x) = planned {
+        let x = Answer::from(x);
         return put_refusal(out, x.number, x.channel, x.place);
     }
     let n = channel::positions_of(bw);
@@ -68,7 +69,7 @@ pub fn respond(text: &[u8], out: &mut [u8]) -> usize
 {
     let parsed = input::parse(text);
     match parsed {
-        Parsed::Wrong(line) => put_refusal(out, 22, 0, line),
-        Parsed::Lines { bw, first, second } => put_lines(out, text, bw, first, second),
+        Err(wrong) => put_refusal(out, 22, 0, wrong.line),
+        Ok(lines) => put_lines(out, text, lines.bw, lines.first, lines.second),
     }
 }

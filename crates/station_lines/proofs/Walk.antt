@@ -48,16 +48,20 @@ module _ (c : ℕ) (row : ℕ → ℕ) (p : ℕ) (e : p % 2 + 1 ≡ c) where
   pub within : (n : ℕ) → p < n → fields_before c row p + fields_of (row p) ≤ fields_before c row n
   within n h = omega (arith, before_next c row p, in_own c p (fields_of (row p)) e, before_rise c row (p + 1) n (omega arith))
 
+  -- past the row all are met
+  pub all_met : (n : ℕ) → n ≤ p → p ≤ n + 1 → fields_before c row p ≡ fields_before c row n
+  all_met n l m = ⊎_elim (λ (h : n < p).
+      let s : p ≡ n + 1 = omega arith in
+      let none : in_channel c n (fields_of (row n)) ≡ 0 = rw (ne_eqb (n % 2 + 1) c (λ (f : n % 2 + 1 ≡ c). omega arith)) in
+      rw s (omega (arith, before_next c row n, none)))
+      (λ (h : p ≤ n). let s : p ≡ n = omega arith in rw s refl) (below_or n p)
+
 -- channel 2's first position has one before it, which is channel 1's
 pub none_before : (c : ℕ) (row : ℕ → ℕ) → 1 ≤ c → c ≤ 2 → 0 ≡ fields_before c row (c - 1)
 none_before zero row l h = absurd (omega (arith, l))
 none_before (suc zero) row l h = refl
 none_before (suc (suc zero)) row l h = refl
 none_before (suc (suc (suc c))) row l h = absurd (omega (arith, h))
-
--- where not all of a channel's fields are met, the row goes on
-pub goes_on : (c : ℕ) (row : ℕ → ℕ) (p n : ℕ) → fields_before c row p < fields_before c row n → p < n
-goes_on c row p n h = ⊎_elim (λ l. l) (λ (l : n ≤ p). absurd (omega (arith, before_rise c row n p l))) (below_or p n)
 
 -- the lines of one position more
 module _ (fields : List ℕ) (i : ℕ) (r : List ℕ) (c j p : ℕ) where

@@ -46,16 +46,15 @@ fn put_given(
     let step = resource::is_divided(row[p]) as usize; // each field of a divided position is another piece's
     let mut number = records::first_owner(kinds, before, row, p) as usize + 1;
     let mut o = at;
-    let mut k: usize = 0;
-    while k < f {
+    for k in 0..f {
         o = put_sta(out, o, station_at(fields, i + k), number);
         number += step;
-        k += 1;
     }
     o
 }
 
-// A line for each of the n User fields of channel 1 or 2, of which the i-th is the first, position by position.
+// A line for each of the n User fields of channel 1 or 2, of which the i-th is the first, position by position. The row says how many they
+// are; n is for the contract.
 pub fn put_channel(
     out: &mut [u8],
     at: usize,
@@ -75,12 +74,10 @@ pub fn put_channel(
 {
     let mut o = at;
     let mut j: usize = 0;
-    let mut p = channel - 1;
-    while j < n {
+    for p in (channel - 1..row.len()).step_by(2) {
         let f = resource::fields_of(row[p]) as usize;
         o = put_given(out, o, fields, i + j, row, kinds, before, p, f);
         j += f;
-        p += 2;
     }
     o
 }
@@ -92,10 +89,8 @@ pub fn stations_in(fields: &[u32], n: usize) -> usize
     ensures bounded { result ≤ n }
 {
     let mut stations: usize = 0;
-    let mut i: usize = 0;
-    while i < n {
-        stations += is_assigned(station_at(fields, i)) as usize;
-        i += 1;
+    for i in 0..n {
+        stations += usize::from(is_assigned(station_at(fields, i)));
     }
     stations
 }

@@ -8,12 +8,12 @@ use native.Mathlib.Omega.{arith}
 use lib.Bits.{bit_and, and_block, and_mask, and_zero_r}
 use lib.Count.{count_trailing_zeros, under}
 use lib.Dec.{T, ltb, leb, leb→le, eqb, eqb→eq}
-use lib.ListN.{length, take, drop, set, length-set, length-append, length-drop, take-append-drop}
-use lib.Seq.{sets, set_comm, set-set, length-take-le}
+use lib.ListN.{length, take, drop, set, length-append, length-drop, take-append-drop}
+use lib.Seq.{sets, set_comm, set-set, length-take-le, take-append_seam}
 use borrow.Author.Tests.{ltb-true, ltb-false, le-ltb}
 use lib.IntN.{pos, ◌-ℤ◌}
 use Rattle.text.specs.Text.{Wrote, codes, dec, signed}
-use Rattle.text.proofs.Laws.{after, kept, digit_alone, signed_low, signed_high}
+use Rattle.text.proofs.Laws.{after, kept, front, count, digit_alone, signed_low, signed_high}
 use Rattle.resource.proofs.Test.{both_left, both_right, below, every_below}
 use Rattle.stores.specs.Engine.{bytes_of, hundreds_of, pair_of, tens_of, values_of, zeros_in, four_of, lead_of, digits_of, ended_of}
 use Rattle.stores.specs.Engine.{spaced_of, spaced_word, apart, minus_if, Over, Under}
@@ -42,16 +42,11 @@ sets_append d at t u =
     let q : Wrote e (at + length t) u f (at + length t + length u) = record { bytes = refl; next = refl } in
     (after p q).bytes
 
-pub two_stored : (d : List ℕ) (at a b : ℕ) → Wrote d at (a ∷ b ∷ []) (set (set d at a) (at + 1) b) (at + 2)
-two_stored d at a b = let s : at + 1 ≡ suc at = omega arith in record { bytes = rw s; next = refl }
-
-pub four_stored : (d : List ℕ) (at a b c e : ℕ)
-    → Wrote d at (a ∷ b ∷ c ∷ e ∷ []) (set (set (set (set d at a) (at + 1) b) (at + 2) c) (at + 3) e) (at + 4)
-four_stored d at a b c e =
-    let s : at + 1 ≡ suc at = omega arith in
-    let t : at + 2 ≡ suc (suc at) = omega arith in
-    let u : at + 3 ≡ suc (suc (suc at)) = omega arith in
-    record { bytes = rw (s, t, u); next = refl }
+-- a text that its own line holds, from there to where it belongs
+pub moved : {d e t b f : List ℕ} {at n r : ℕ} → n ≤ length d → Wrote d 0 t e n → Wrote b at (take n e) f r → Wrote b at t f r
+moved {d} {e} {t} l w v =
+    let held : take (length t) e ≡ t = ap (take (length t)) (front (omega (arith, count w, l)) w) ∙ take-append_seam t (drop (length t) d) in
+    rw (ap (λ (k : ℕ). take k e) (count w) ∙ held) at v
 
 -- a text over the end of another, from its byte j on
 pub over : {d e f : List ℕ} {at r o : ℕ} (a b : List ℕ) (j : ℕ) → j ≤ length a → length a ≤ j + length b → Wrote d at a e r
@@ -120,10 +115,6 @@ overlapped {d} {e} {f} {at} {r} {o} m j w l h p q =
       bytes = q.bytes ∙ ap (λ (x : List ℕ). sets x (at + j) (bytes_of m (w / 2 ^ (8 * j)))) p.bytes ∙ rw k (overlap m j d at w l);
       next = q.next ∙ rw (bytes_length m (w / 2 ^ (8 * j)), bytes_length (j + m) w) (omega arith);
     }
-
-pub eight_stored : {d e f : List ℕ} {at r o : ℕ} (w : ℕ) → Wrote d at (bytes_of 4 w) e r → Wrote e r (bytes_of 4 (w / 4294967296)) f o
-    → Wrote d at (bytes_of 8 w) f o
-eight_stored {d} {e} {f} {at} {r} {o} w p q = subst (λ (t : List ℕ). Wrote d at t f o) (sym (bytes_append 4 4 w)) (after p q)
 
 -- ---- digits
 abbrev pub same : List ℕ → List ℕ → Bool
@@ -204,9 +195,6 @@ trailing_low (suc k) (suc m) n l h = go (n % 2) refl (λ s. trailing_low k m (n 
     go : (b : ℕ) → n % 2 ≡ b → (0 < n / 2 → count_trailing_zeros k (n / 2) < m) → under b (count_trailing_zeros k (n / 2)) < suc m
     go zero e f = suc-le-suc (f (omega (arith, e, l)))
     go (suc b) e f = omega arith
-
-pub zeros_most : (v : ℕ) → v < 168430090 → count_trailing_zeros 32 (v + 16777216) / 8 ≤ 3
-zeros_most v l = let t = trailing_low 32 28 (v + 16777216) (omega arith) (omega arith) in omega (arith, t)
 
 -- ---- two numbers side by side: what is shifted out of the higher is masked, what is shifted out of the lower is gone
 shifted_13 : (h s : ℕ) → h < 128
@@ -479,9 +467,6 @@ pub one_under : (d : List ℕ) (at x : ℕ) → Under 0 d at (x ∷ []) (set d a
 one_under d at x =
     let w : Wrote d at (x ∷ []) (set d at x) (at + 1) = record { bytes = refl; next = refl } in
     last_bytes [] (x ∷ []) at (omega arith) w
-
-pub kept_two : {e t : List ℕ} {p r : ℕ} (d : List ℕ) (i j x y : ℕ) → Wrote (set (set d i x) j y) p t e r → length e ≡ length d
-kept_two d i j x y w = kept w ∙ length-set (set d i x) j y ∙ length-set d i x
 
 -- a minus before
 pub minus_under : {d e t : List ℕ} {at r : ℕ} → Under 3 d (at + 1) t e r → Under 3 d at (codes "-" ++ t) (set e at 45) r

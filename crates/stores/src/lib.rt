@@ -1,11 +1,13 @@
-// Texts of at most eight bytes as one number, the first byte the lowest, written by whole stores where the buffer reaches.
+// Texts of at most eight bytes as one number, the first byte the lowest, written by whole stores where the buffer reaches. Buffer and place
+// are two parameters, as the public functions of all writers have them and their contracts say: `Wrote out.old at .. out.new result`.
 #![tactic(auto)]
 
-ghost use Rattle.std.specs.Prelude.{◌≡◌, cond, [], ◌∷◌, ◌++◌, ◌+◌, ◌-◌, ◌*◌, ◌/◌, ◌%◌, ◌≤◌, ◌<◌, ◌^◌, ltb, length, pos, ◌-ℤ◌};
+ghost use Rattle.std.specs.Prelude.{◌≡◌, cond, [], ◌∷◌, ◌++◌, ◌+◌, ◌-◌, ◌*◌, ◌/◌, ◌%◌, ◌≤◌, ◌<◌, length, pos, ◌-ℤ◌};
 ghost use Rattle.text.specs.Text.{Wrote, codes, dec, signed};
-ghost use Rattle.stores.specs.Engine.{bytes_of, values_of, zeros_in, four_of, lead_of, digits_of, ended_of, spaced_word, apart, minus_if, Over, Under};
+ghost use Rattle.stores.specs.Engine.{bytes_of, values_of, zeros_in, four_of, lead_of, digits_of, ended_of, spaced_word};
+ghost use Rattle.stores.specs.Engine.{apart, minus_if, Over, Under};
 
-// Two bytes, in one store.
+// Two bytes, in one store: written out for each size, since a loop over the bytes would be longer by its invariant.
 fn put_two(out: &mut [u8], at: usize, w: u64) -> usize
     requires { (at + 2 ≤ length out.old) × (at ≤ 1040000) }
     ensures { Wrote out.old at (bytes_of 2 w) out.new result }
@@ -89,7 +91,7 @@ fn values_of_two(m: u32, n: u32) -> u64
     requires { (m < 10000) × (n < 10000) }
     ensures { result ≡ values_of m + 4294967296 * values_of n }
 {
-    let both = m as u64 + 4294967296 * n as u64;
+    let both = m as u64 + 4294967296 * n as u64; // by `as`: of `u64::from` the proofs here know only its clause, and don't close
     let hundreds = ((both * 5243) >> 19) & 0x7F0000007F;
     let pair = hundreds + 65536 * (both - 100 * hundreds);
     let tens = ((pair * 103) >> 10) & 0xF000F000F000F;
@@ -108,7 +110,7 @@ fn one_if(t: bool) -> usize
     ensures value { result ≡ cond t 1 0 }
     ensures bounded { result ≤ 1 }
 {
-    t as usize
+    usize::from(t)
 }
 
 // How many of the four digits are zeros in front, by their values: those below the lowest bit that is set, where the last counts as one.
@@ -265,6 +267,7 @@ pub fn put_run(out: &mut [u8], at: usize, lo: u32, hi: u32, zero: u32, c: u8) ->
 
 // A number below 40 and a space after it, and in the fourth byte how many bytes these are. One `match` of constants, so that it is one load
 // from a fixed table.
+#[tactic(auto, unfolding(crate::specs::Engine::spaced_word, crate::specs::Engine::spaced_of))]
 pub fn spaced_of(n: u32) -> u32
     requires { n < 40 }
     ensures { result ≡ spaced_word n }
@@ -321,7 +324,7 @@ pub fn put_spaced(out: &mut [u8], at: usize, n: u32) -> usize
     ensures bounded { result ≤ at + 3 }
 {
     let lead = one_if(n < 10);
-    let two = 2109488 + (n / 10) as u64 + 256 * (n % 10) as u64; // 00 and a space
+    let two = 0x203030 + (n / 10) as u64 + 256 * (n % 10) as u64; // 00 and a space
     put_by_twos(out, at, two >> (8 * lead), 1 - lead)
 }
 
@@ -332,7 +335,7 @@ fn put_digits(out: &mut [u8], at: usize, n: u32) -> usize
     ensures bounded { result ≤ at + 4 }
 {
     if n < 10 {
-        return text::put(out, at, 48 + n as u8);
+        return text::put(out, at, b'0' + n as u8);
     }
     put_short(out, at, digits_of(n), 4 - lead_of(n))
 }
@@ -345,7 +348,7 @@ fn put_signed_whole(out: &mut [u8], at: usize, u: u32, zero: u32) -> usize
 {
     if u < zero {
         let n = zero - u;
-        return put_short(out, at, 45 + 256 * digits_of(n), 5 - lead_of(n));
+        return put_short(out, at, b'-' as u64 + 256 * digits_of(n), 5 - lead_of(n));
     }
     put_digits(out, at, u - zero)
 }
@@ -356,13 +359,7 @@ pub fn put_signed(out: &mut [u8], at: usize, u: u64, zero: u64) -> usize
     ensures wrote { Wrote out.old at (signed (pos u -ℤ pos zero)) out.new result }
     ensures bounded { result ≤ at + 21 }
 {
-    if out.len() < at + 5 {
-        return text::put_signed(out, at, u, zero);
-    }
-    if 10000 <= u {
-        return text::put_signed(out, at, u, zero);
-    }
-    if 10000 <= zero {
+    if out.len() < at + 5 || 10000 <= u || 10000 <= zero {
         return text::put_signed(out, at, u, zero);
     }
     put_signed_whole(out, at, u as u32, zero as u32)

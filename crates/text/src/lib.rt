@@ -23,10 +23,8 @@ fn put_each(out: &mut [u8], at: usize, s: &[u8]) -> usize
     ensures { Wrote out.old at s.now out.new result }
 {
     let mut o = at;
-    let mut j = 0;
-    while j < s.len() {
-        o = put(out, o, s[j]);
-        j += 1;
+    for &b in s {
+        o = put(out, o, b);
     }
     o
 }
@@ -36,12 +34,10 @@ fn put_whole(out: &mut [u8], at: usize, s: &[u8]) -> usize
     requires { (at + length s.now ≤ 1048576) × (at + length s.now ≤ length out.old) }
     ensures { Wrote out.old at s.now out.new result }
 {
-    let mut j = 0;
-    while j < s.len() {
+    for j in 0..s.len() {
         out[at + j] = s[j];
-        j += 1;
     }
-    at + j
+    at + s.len()
 }
 
 // A fixed text, byte for byte. Most are written whole or only counted.
@@ -63,8 +59,10 @@ fn put_digit(out: &mut [u8], at: usize, n: u64) -> usize
     requires { at + 1 ≤ 1048576 }
     ensures { Wrote out.old at ((48 + n % 10) ∷ []) out.new result }
 {
-    put(out, at, 48 + (n % 10) as u8)
+    put(out, at, b'0' + (n % 10) as u8)
 }
+
+// The digits of the numbers that most are, by a function for each width: in a trial a recursion that puts one digit each took twice as long.
 
 // At most two digits, of the 18 that may stand before the last two of a number.
 fn put_two(out: &mut [u8], at: usize, n: u64) -> usize
@@ -74,7 +72,7 @@ fn put_two(out: &mut [u8], at: usize, n: u64) -> usize
     if n < 10 {
         return put_digit(out, at, n);
     }
-    let o = put(out, at, 48 + (n / 10) as u8);
+    let o = put(out, at, b'0' + (n / 10) as u8);
     put_digit(out, o, n)
 }
 

@@ -18,8 +18,8 @@ fn code_of(r: Resource, segment: u16) -> u32
     ensures { result ≡ resource_code r segment }
 {
     let size = resource::subcarriers_of(r);
-    let index = resource::number_of(r) as u32;
-    size + 4096 * (index + 256 * (segment as u32))
+    let index = u32::from(resource::number_of(r));
+    size + 4096 * (index + 256 * u32::from(segment))
 }
 
 // Of the k-th resource whose lowest position is p, which is given to this kind.
@@ -46,10 +46,8 @@ fn enter_codes(codes: &mut [u32; 144], row: &[u16], kind: u16, p: usize, i: usiz
     ensures codes_after { codes.new ≡ filled (resource_codes row.now) result (replicate 144 0) }
 {
     let here = records::listed_of(kind, p, row[p]) as usize;
-    let mut k: usize = 0;
-    while k < here {
+    for k in 0..here {
         codes[i + k] = code_at(kind, row, p, k as u16);
-        k += 1;
     }
     i + here
 }
@@ -61,13 +59,10 @@ pub fn codes_of(kinds: &[u16; 16], row: &[u16]) -> [u32; 144]
         ≡ filled (resource_codes row.now)
         (length (records_from (only_plan (at row.now)) (at row.now) (length row.now))) (replicate 144 0) }
 {
-    let n = row.len();
     let mut codes = [0u32; 144];
     let mut i: usize = 0;
-    let mut p: usize = 0;
-    while p < n {
+    for p in 0..row.len() {
         i = enter_codes(&mut codes, row, kinds[p], p, i);
-        p += 1;
     }
     codes
 }
@@ -76,7 +71,7 @@ pub fn codes_of(kinds: &[u16; 16], row: &[u16]) -> [u32; 144]
 fn code_in(codes: &[u32; 144], i: u16) -> u32
     ensures { result ≡ code_in codes.now i }
 {
-    if i < 144 { codes[i as usize] } else { 0 }
+    if i < 144 { codes[usize::from(i)] } else { 0 }
 }
 
 // The first n User fields of a channel, with the numbers of their owners and the codes of all resources.
@@ -85,11 +80,9 @@ fn fields_with(bw: u32, s: &[u8], owners: &[u16; 72], codes: &[u32; 144], n: usi
     ensures { result ≡ filled (field_code bw s.now owners.now codes.now) n (replicate 72 0) }
 {
     let mut fields = [0u64; 72];
-    let mut i: usize = 0;
-    while i < n {
-        let bits = bits::field_at(s, channel::user_bit(bw, i), 22) as u64;
-        fields[i] = bits + 4194304 * (code_in(codes, owners[i]) as u64);
-        i += 1;
+    for i in 0..n {
+        let bits = u64::from(bits::field_at(s, channel::user_bit(bw, i), 22));
+        fields[i] = bits + 4194304 * u64::from(code_in(codes, owners[i]));
     }
     fields
 }

@@ -4,17 +4,17 @@ use Rattle.compare.proofs.Outcomes.{first_refused, second_refused, bandwidths_di
 use Rattle.both_halves.proofs.Halves.{outcome, code, given}
 use Rattle.compare.proofs.put_comparison.Goals as goal
 
-pub returns-in-Refuse : goal.returns-in-Refuse
-returns-in-Refuse c =
-    let e = outcome c.args.bw c.args.a.now c.args.b.now c.plan_accepted-x.ensures c.in-Refuse.is in
+pub returns-in-Err : goal.returns-in-Err
+returns-in-Err c =
+    let e = outcome c.args.bw c.args.a.now c.args.b.now c.plan_accepted-x.ensures c.in-Err.is in
     let f = outcome c.args.bw2 c.args.c.now c.args.d.now c.plan_accepted-y.ensures refl in
-    rw (← (first_refused c.args.bw c.args.a.now c.args.b.now c.args.bw2 c.args.c.now c.args.d.now _ _ e f)) c.put_refusals.ensures
+    rw (← (first_refused c.args.bw c.args.a.now c.args.b.now c.args.bw2 c.args.c.now c.args.d.now _ _ e f)) (rw c.into.ensures at c.put_refusals.ensures)
 
-pub returns-in-Refuse-second : goal.returns-in-Refuse-second
-returns-in-Refuse-second c =
+pub returns-in-Err-second : goal.returns-in-Err-second
+returns-in-Err-second c =
     let e = outcome c.args.bw c.args.a.now c.args.b.now c.plan_accepted-x.ensures c.in_default.is in
-    let f = outcome c.args.bw2 c.args.c.now c.args.d.now c.plan_accepted-y.ensures c.in-Refuse-second.is in
-    rw (← (second_refused c.args.bw c.args.a.now c.args.b.now c.args.bw2 c.args.c.now c.args.d.now _ e f)) c.put_refused.ensures.wrote
+    let f = outcome c.args.bw2 c.args.c.now c.args.d.now c.plan_accepted-y.ensures c.in-Err-second.is in
+    rw (← (second_refused c.args.bw c.args.a.now c.args.b.now c.args.bw2 c.args.c.now c.args.d.now _ e f)) (rw c.from-r.ensures at c.put_refused.ensures.wrote)
 
 pub returns-then-bw-bw2 : goal.returns-then-bw-bw2
 returns-then-bw-bw2 c =
@@ -23,19 +23,8 @@ returns-then-bw-bw2 c =
     let z = bandwidths_differ c.args.bw c.args.a.now c.args.b.now c.args.bw2 c.args.c.now c.args.d.now e f c.if-bw-bw2.true in
     rw (← z) c.put_bandwidths.ensures
 
-pub positions_of-n-requires : goal.positions_of-n-requires
-positions_of-n-requires c = code _ _ _ c.plan_accepted-x.ensures c.in_default.is
-
-pub put_differences-requires-clause-first_given : goal.put_differences-requires-clause-first_given
-put_differences-requires-clause-first_given c = (
-  outcome _ _ _ c.plan_accepted-x.ensures c.in_default.is,
-  given _ _ _ c.plan_accepted-x.ensures c.in_default.is
-      c.positions_of-n.ensures.value,
-)
-
-pub put_differences-requires-clause-second_given : goal.put_differences-requires-clause-second_given
-put_differences-requires-clause-second_given c = (
-  rw c.if-bw-bw2.false (outcome _ _ _ c.plan_accepted-y.ensures c.in_default-second.is),
-  rw c.if-bw-bw2.false
-      (given _ _ _ c.plan_accepted-y.ensures c.in_default-second.is (rw c.if-bw-bw2.false at c.positions_of-n.ensures.value)),
-)
+pub returns : goal.returns
+returns c =
+    let one = c.new-one.ensures.frame in
+    let two = c.new-two.ensures.frame in
+    rw (← one.0, ← one.1, ← one.2, ← two.0, ← two.1, ← two.2) c.put_differences.ensures

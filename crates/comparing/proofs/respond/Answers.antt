@@ -7,22 +7,22 @@ use Rattle.comparing.proofs.respond.Goals as goal
 
 pub put_captures-requires-clause-first_bound : goal.put_captures-requires-clause-first_bound
 put_captures-requires-clause-first_bound c =
-    let x = fits_first c.args.text.now _ _ c.parse-parsed.ensures c.in-Both.is in
-    let y = fits_second c.args.text.now _ _ c.parse-parsed.ensures c.in-Both.is in
+    let x = fits_first c.args.text.now _ _ c.parse-parsed.ensures c.in-Ok.is in
+    let y = fits_second c.args.text.now _ _ c.parse-parsed.ensures c.in-Ok.is in
     (x.at, x.first, x.second)
 
 pub put_captures-requires-clause-second_bound : goal.put_captures-requires-clause-second_bound
 put_captures-requires-clause-second_bound c =
-    let x = fits_first c.args.text.now _ _ c.parse-parsed.ensures c.in-Both.is in
-    let y = fits_second c.args.text.now _ _ c.parse-parsed.ensures c.in-Both.is in
+    let x = fits_first c.args.text.now _ _ c.parse-parsed.ensures c.in-Ok.is in
+    let y = fits_second c.args.text.now _ _ c.parse-parsed.ensures c.in-Ok.is in
     (y.at, y.first, y.second)
 
-pub returns-in-WrongLine : goal.returns-in-WrongLine
+pub returns-in-Err : goal.returns-in-Err
 unfolding compared_text said_two
-returns-in-WrongLine c =
-    let e = sym c.parse-parsed.ensures ∙ c.in-WrongLine.is in
+returns-in-Err c =
+    let e = sym c.parse-parsed.ensures ∙ c.in-Err.is in
     rw e c.put_refusal.ensures.wrote
 
-pub returns-in-Both : goal.returns-in-Both
+pub returns-in-Ok : goal.returns-in-Ok
 unfolding compared_text
-returns-in-Both c = rw (frames_said c.args.text.now _ _ c.parse-parsed.ensures c.in-Both.is) c.put_captures.ensures
+returns-in-Ok c = rw (frames_said c.args.text.now _ _ c.parse-parsed.ensures c.in-Ok.is) c.put_captures.ensures

@@ -5,4 +5,4 @@ use Rattle.difference_lines.proofs.put_bandwidth.Goals as goal
 
 pub returns-clause-wrote : goal.returns-clause-wrote
 unfolding difference_line item_line
-returns-clause-wrote c = after c.put_side-a.ensures.wrote c.put_line.ensures.wrote
+returns-clause-wrote c = after c.put_side-a.ensures.wrote (rw c.from.ensures at c.put_line.ensures.wrote)

@@ -5,4 +5,6 @@ use Rattle.difference_lines.proofs.put_refused.Goals as goal
 
 pub returns-clause-wrote : goal.returns-clause-wrote
 unfolding difference_line item_line
-returns-clause-wrote c = after c.put_side-a.ensures.wrote (after (after c.put_key-b.ensures.wrote c.put_key-c.ensures.wrote) c.put_line.ensures.wrote)
+returns-clause-wrote c =
+    after c.put_side-a.ensures.wrote
+    (after (after (rw c.from.ensures at c.put_key-b.ensures.wrote) (rw c.from-2.ensures at c.put_key-c.ensures.wrote)) c.put_line.ensures.wrote)

@@ -1,7 +1,7 @@
 -- `input::key_at` meets its contract.
-use Rattle.std.proofs.Common.{sym, ◌∙◌, arith}
-use Rattle.input.proofs.Turns.{key_short}
+use Rattle.std.proofs.Common.{◌∙◌, drop}
+use Rattle.input.proofs.Turns.{rest_whole, starts_bytes}
 use Rattle.input.proofs.key_at.Goals as goal
 
-pub returns-then-s-at : goal.returns-then-s-at
-returns-then-s-at c = sym (key_short c.args.k.now c.args.s.now c.loop-j.j c.args.at (omega arith) (omega arith)) ∙ c.loop-j.invariant.0
+pub returns : goal.returns
+returns c = c.starts_with.ensures.value ∙ rw (rest_whole c.args.at c.args.s.now) (starts_bytes c.args.k.now (drop c.args.at c.args.s.now))

@@ -1,11 +1,8 @@
--- What the loops of `input::unhex` keep, and what falls.
-use Rattle.std.proofs.Common.{◌≡◌, ◌-◌, ◌≤◌}
+-- What the loops of `input::unhex` keep.
+use Rattle.std.proofs.Common.{◌≡◌}
 use Rattle.answer.specs.Lists.{filled}
 use Rattle.input.specs.Engine.{byte_of}
 use Rattle.input.proofs.unhex.Given as goal
 
 abbrev pub invariant-loop-i : goal.invariant-loop-i
-invariant-loop-i l = (l.i ≤ l.fn.n) × (l.out ≡ filled (byte_of l.fn.s l.fn.at) l.i l.initial.out)
-
-abbrev pub decreases-loop-i : goal.decreases-loop-i
-decreases-loop-i l = l.fn.n - l.i
+invariant-loop-i l = l.out ≡ filled (byte_of l.fn.s l.fn.at) l.i l.initial.out

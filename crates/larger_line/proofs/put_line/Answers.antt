@@ -1,4 +1,4 @@
---
+-- `larger_line::put_line` meets its contract.
 use Rattle.std.proofs.Common.{arith, ◌≡◌, refl, sym, ap, ◌∙◌, ◌++◌, map, append_assoc, ℕ, zero, suc, ◌/◌, ◌%◌, ◌≤◌, ◌<◌, length, length-append}
 use Rattle.text.specs.Text.{codes}
 use Rattle.text.proofs.Laws.{after}
@@ -14,7 +14,6 @@ some_kind : (c : ℕ) → (c ≡ 0 → ⊥) → 1 ≤ c
 some_kind zero n = absurd (n refl)
 some_kind (suc c) n = omega arith
 
--- src/lib.rt:191:20
 pub overflow_sub-b : goal.overflow_sub-b
 overflow_sub-b c =
     let m = runs_some c.args.kind c.args.p c.requires.1 (some_kind c.args.kind c.requires.2) c.requires.3 in
@@ -22,7 +21,6 @@ overflow_sub-b c =
     let l = ap length t ∙ length-append (tones_text (map (span_of c.args.n) (larger_runs c.args.kind c.args.p))) (codes ",") in
     omega (arith, c.put_runs-b.ensures.wrote.next, l)
 
--- src/lib.rt:182:1
 pub returns-clause-wrote : goal.returns-clause-wrote
 unfolding ru_line
 returns-clause-wrote c =

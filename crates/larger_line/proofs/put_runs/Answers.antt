@@ -1,4 +1,4 @@
---
+-- `larger_line::put_runs` meets its contract.
 use Rattle.kinds.specs.Kinds.{span, mask}
 use Rattle.std.proofs.Common.{arith, mod-eq_of_lt, ◌≡◌, refl, sym, ◌∙◌, ℕ, zero, suc, ◌+◌, ◌*◌, ◌/◌, ◌%◌, ◌^◌, ◌≤◌, ◌<◌, lt-ltb, le-ltb}
 use Rattle.text.proofs.Laws.{after}
@@ -16,7 +16,6 @@ shifted m w (suc (suc zero)) h l k = mod-eq_of_lt (omega arith)
 shifted m w (suc (suc (suc zero))) h l k = mod-eq_of_lt (omega arith)
 shifted m w (suc (suc (suc (suc s)))) h l k = absurd (omega arith)
 
--- src/lib.rt:162:9
 pub returns-then-kind-lt7-clause-wrote : goal.returns-then-kind-lt7-clause-wrote
 unfolding places_of
 returns-then-kind-lt7-clause-wrote c =
@@ -27,7 +26,6 @@ returns-then-kind-lt7-clause-wrote c =
     (c.mask_of-mask.ensures, c.start_of-from.ensures.1) refl in
     rw (narrow_is c.args.kind c.args.p c.if-kind-lt7.true) (rw e at c.put_places.ensures.wrote)
 
--- src/lib.rt:166:9
 pub returns-then-kind-lt12-clause-wrote : goal.returns-then-kind-lt12-clause-wrote
 returns-then-kind-lt12-clause-wrote c =
     let k : span c.args.kind ≡ 8 = rw (kind_span c.args.kind c.requires.1 c.if-kind-lt7.false, lt-ltb c.args.kind 12 c.if-kind-lt12.true) in
@@ -35,7 +33,6 @@ returns-then-kind-lt12-clause-wrote c =
     rw (c.start_of-from.ensures.1, c.mask_of-mask.ensures, wide_is c.args.kind c.args.p c.requires.1 c.if-kind-lt7.false, k) refl in
     rw e at c.put_two_segments-a.ensures.wrote
 
--- src/lib.rt:154:1
 pub returns-clause-wrote : goal.returns-clause-wrote
 returns-clause-wrote c =
     let k : span c.args.kind ≡ 16 = rw (kind_span c.args.kind c.requires.1 c.if-kind-lt7.false, le-ltb c.args.kind 12 c.if-kind-lt12.false) in

@@ -1,20 +1,21 @@
 -- `listing::list_users` meets its contract.
-use Rattle.std.proofs.Common.{arith}
+use Rattle.std.proofs.Common.{◌∙◌, arith}
 use Rattle.listing.proofs.Outcome.{refused_by, too_short, at_once, listed}
 use Rattle.listing_size.proofs.Longest.{listing_within}
 use Rattle.listing_lines.proofs.Shown.{few, counted, told, written}
 use Rattle.text.proofs.Laws.{count}
 use Rattle.listing.proofs.list_users.Goals as goal
 
-pub returns-in-Refuse-clause-value : goal.returns-in-Refuse-clause-value
-returns-in-Refuse-clause-value c =
-    (refused_by c.args.bw c.args.a.now c.args.b.now c.args.out.now _
-    (told c.requires.0 c.check_users-seen.ensures.value c.in-Refuse.is)).0
+pub returns-in-Err-clause-value : goal.returns-in-Err-clause-value
+returns-in-Err-clause-value c =
+    c.into.ensures
+    ∙ (refused_by c.args.bw c.args.a.now c.args.b.now c.args.out.now _
+    (told c.requires.0 c.check_users-seen.ensures.value c.in-Err.is)).0
 
-pub returns-in-Refuse-clause-out_after : goal.returns-in-Refuse-clause-out_after
-returns-in-Refuse-clause-out_after c =
+pub returns-in-Err-clause-out_after : goal.returns-in-Err-clause-out_after
+returns-in-Err-clause-out_after c =
     (refused_by c.args.bw c.args.a.now c.args.b.now c.args.out.now _
-    (told c.requires.0 c.check_users-seen.ensures.value c.in-Refuse.is)).1
+    (told c.requires.0 c.check_users-seen.ensures.value c.in-Err.is)).1
 
 pub put_listing-place-requires : goal.put_listing-place-requires
 put_listing-place-requires c = (
@@ -31,7 +32,8 @@ returns-then-longest_of-out-clause-value c =
     let w = written c.requires.0 _ c.check_users-seen.ensures.value c.in_default.is (c.check_users-seen.ensures.fields_after c.in_default.is)
     c.put_listing-place.ensures in
     let l = listing_within c.args.bw c.args.a.now c.args.b.now o in
-    (at_once c.args.bw c.args.a.now c.args.b.now c.args.out.now o w
+    c.accepted.ensures
+    ∙ (at_once c.args.bw c.args.a.now c.args.b.now c.args.out.now o w
     (omega (arith, count w, l, c.longest_of.ensures))).0
 
 pub returns-then-longest_of-out-clause-out_after : goal.returns-then-longest_of-out-clause-out_after
@@ -56,7 +58,8 @@ pub returns-then-out-need-clause-value : goal.returns-then-out-need-clause-value
 returns-then-out-need-clause-value c =
     let w = written c.requires.0 _ c.check_users-seen.ensures.value c.in_default.is (c.check_users-seen.ensures.fields_after c.in_default.is)
     c.put_listing-need.ensures in
-    (too_short c.args.bw c.args.a.now c.args.b.now c.args.out.now (told c.requires.0 c.check_users-seen.ensures.value c.in_default.is) w c.if-out-need.true).0
+    c.into-then-out-need.ensures
+    ∙ (too_short c.args.bw c.args.a.now c.args.b.now c.args.out.now (told c.requires.0 c.check_users-seen.ensures.value c.in_default.is) w c.if-out-need.true).0
 
 pub returns-then-out-need-clause-out_after : goal.returns-then-out-need-clause-out_after
 returns-then-out-need-clause-out_after c =
@@ -79,7 +82,8 @@ returns-clause-value c =
     c.put_listing-need.ensures in
     let v = written c.requires.0 _ c.check_users-seen.ensures.value c.in_default.is (c.check_users-seen.ensures.fields_after c.in_default.is)
     c.put_listing-place-2.ensures in
-    (listed c.args.bw c.args.a.now c.args.b.now c.args.out.now (told c.requires.0 c.check_users-seen.ensures.value c.in_default.is) w c.if-out-need.false v).0
+    c.accepted-2.ensures
+    ∙ (listed c.args.bw c.args.a.now c.args.b.now c.args.out.now (told c.requires.0 c.check_users-seen.ensures.value c.in_default.is) w c.if-out-need.false v).0
 
 pub returns-clause-out_after : goal.returns-clause-out_after
 returns-clause-out_after c =

@@ -12,7 +12,7 @@ use Rattle.listing_lines.proofs.put_records.Goals as goal
 
 pub loop-p-init : goal.loop-p-init
 unfolding runs_lines
-loop-p-init c = (omega arith, no_item _ _ _, omega arith)
+loop-p-init c = (no_item _ _ _, omega arith)
 
 pub put_position-o-requires : goal.put_position-o-requires
 put_position-o-requires c = (
@@ -29,7 +29,6 @@ loop-p-preserved c =
     let q = rw k at c.put_position-o.ensures.wrote in
     let most = rw k at c.put_position-o.ensures.bounded in
     let u = runs_lines (length c.args.row.now) (list_at (o c.loop-p.p) (value c.args.row.now) c.loop-p.p) in (
-      omega arith,
-      rw (lines_next (length c.args.row.now) o (value c.args.row.now) c.loop-p.p) (after {u = u} c.loop-p.invariant.1 q),
+      rw (lines_next (length c.args.row.now) o (value c.args.row.now) c.loop-p.p) (after {u = u} c.loop-p.invariant.0 q),
       omega (arith, next_length o (value c.args.row.now) c.loop-p.p, most),
     )

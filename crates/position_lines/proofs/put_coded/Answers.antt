@@ -1,4 +1,4 @@
---
+-- `position_lines::put_coded` meets its contract.
 use Rattle.std.proofs.Common.{arith, sym, ◌&&◌, T, eqb, eqb→eq, append_assoc, ◌/◌, ◌%◌, ◌<◌}
 use Rattle.resource.proofs.Test.{both_left, both_right}
 use Rattle.text.proofs.Laws.{after}
@@ -11,7 +11,6 @@ use Rattle.position_lines.specs.Engine.{code_line}
 use Rattle.position_lines.proofs.Coded.{code_class, whole_20}
 use Rattle.position_lines.proofs.put_coded.Goals as goal
 
--- src/lib.rt:76:9
 pub returns-then-n-c-clause-wrote : goal.returns-then-n-c-clause-wrote
 unfolding code_line ru_line
 returns-then-n-c-clause-wrote c =
@@ -25,7 +24,6 @@ returns-then-n-c-clause-wrote c =
     let whole = eqb→eq c.args.c 65 (both_right (eqb c.args.n 1) (eqb c.args.c 65) both) in
     rw append_assoc (after head (rw (sym (whole_20 c.args.n c.args.p c.args.c one whole)) at c.put_whole_20.ensures.wrote))
 
--- src/lib.rt:80:5
 pub put_word_tones-requires : goal.put_word_tones-requires
 put_word_tones-requires c =
     let g = word_good c.args.n c.args.c c.requires.2 c.requires.3 in (
@@ -38,7 +36,6 @@ put_word_tones-requires c =
       omega (arith, c.put_start-a.ensures.bounded, c.requires.6),
     )
 
--- src/lib.rt:68:1
 pub returns-clause-wrote : goal.returns-clause-wrote
 unfolding code_line ru_line
 returns-clause-wrote c =

@@ -1,5 +1,5 @@
 -- `position_lines::put_pieces_whole` meets its contract.
-use Rattle.std.proofs.Common.{arith, ◌≡◌, refl, sym, ap, ◌∙◌, ℕ, ◌+◌, ◌/◌, ◌%◌, ◌<◌, length, drop, get_or, rules}
+use Rattle.std.proofs.Common.{arith, ◌≡◌, refl, sym, ap, ◌∙◌, ℕ, ◌+◌, ◌/◌, ◌%◌, ◌<◌, length, drop, get_or}
 use Rattle.text.proofs.Laws.{no_item, item, kept}
 use Rattle.resource.specs.Values.{own_pieces}
 use Rattle.resource.specs.Engine.{piece_at}
@@ -21,7 +21,7 @@ next v k l = let o = own_piece v k l in unpack (own_pieces v) k l (code_back (pi
 
 pub loop-k-init : goal.loop-k-init
 unfolding codes_of
-loop-k-init c = (search rules, c.codes_of-left.ensures, no_item _ _ _, omega arith)
+loop-k-init c = (c.codes_of-left.ensures, no_item _ _ _, omega arith)
 
 pub put_coded_piece-e-requires : goal.put_coded_piece-e-requires
 put_coded_piece-e-requires c =
@@ -29,15 +29,15 @@ put_coded_piece-e-requires c =
     let x = next c.args.v c.loop-k.k h in
     let q = piece_at c.args.v c.loop-k.k in
     let g = own_piece c.args.v c.loop-k.k h in
-    let code : c.loop-k.left % 128 ≡ code_of q = rw c.loop-k.invariant.1 x.0 in
-    let room = kept c.loop-k.invariant.2 in (
+    let code : c.loop-k.left % 128 ≡ code_of q = rw c.loop-k.invariant.0 x.0 in
+    let room = kept c.loop-k.invariant.1 in (
       c.requires.1,
       c.requires.2,
       rw code (code_back q g.0 g.1).1,
       rw code (code_is q g.0 g.1),
       rw c.piece_fields-users.ensures (piece_few c.args.v),
-      omega (arith, own_most c.args.v, c.requires.0, c.loop-k.invariant.3, h),
-      omega (arith, own_most c.args.v, c.requires.3, c.loop-k.invariant.3, h, room),
+      omega (arith, own_most c.args.v, c.requires.0, c.loop-k.invariant.2, h),
+      omega (arith, own_most c.args.v, c.requires.3, c.loop-k.invariant.2, h, room),
     )
 
 pub loop-k-preserved : goal.loop-k-preserved
@@ -50,29 +50,28 @@ loop-k-preserved c =
     list_at_lem 0 (λ q. c.args.v) c.args.p c.loop-k.k (omega (arith, m, c.pieces_of-here.ensures, c.loop-k-test.true)) ∙ own_record 0 (λ q. c.args.v) c.args.p
     c.loop-k.k refl in
     let w = rw (
-      ap (λ (z : ℕ). z % 128) c.loop-k.invariant.1 ∙ x.0,
+      ap (λ (z : ℕ). z % 128) c.loop-k.invariant.0 ∙ x.0,
       c.piece_fields-users.ensures,
       code_line_lem c.args.n c.args.p c.args.v c.loop-k.k h,
       ap
           (runs_line c.args.n) (sym e),
     ) at c.put_coded_piece-e.ensures.wrote in (
-      omega (arith, c.loop-k-test.true),
-      rw c.loop-k.invariant.1 x.1,
-      item _ _ c.loop-k.invariant.2 w,
+      rw c.loop-k.invariant.0 x.1,
+      item _ _ c.loop-k.invariant.1 w,
       omega
-          (arith, c.put_coded_piece-e.ensures.bounded, c.loop-k.invariant.3),
+          (arith, c.put_coded_piece-e.ensures.bounded, c.loop-k.invariant.2),
     )
 
 pub returns-clause-wrote : goal.returns-clause-wrote
 unfolding runs_lines listed
 returns-clause-wrote c =
     let e : c.loop-k.k ≡ length (list_at 0 (λ q. c.args.v) c.args.p) =
-    omega (arith, c.pieces_of-here.ensures, list_length 0 (λ q. c.args.v) c.args.p, c.loop-k-test.false, c.loop-k.invariant.0) in
-    rw e at c.loop-k.invariant.2
+    omega (arith, c.pieces_of-here.ensures, list_length 0 (λ q. c.args.v) c.args.p, c.loop-k-test.false) in
+    rw e at c.loop-k.invariant.1
 
 pub returns-clause-bounded : goal.returns-clause-bounded
 unfolding runs_lines listed
 returns-clause-bounded c =
     let e : c.loop-k.k ≡ length (list_at 0 (λ q. c.args.v) c.args.p) =
-    omega (arith, c.pieces_of-here.ensures, list_length 0 (λ q. c.args.v) c.args.p, c.loop-k-test.false, c.loop-k.invariant.0) in
-    omega (arith, e, c.loop-k.invariant.3)
+    omega (arith, c.pieces_of-here.ensures, list_length 0 (λ q. c.args.v) c.args.p, c.loop-k-test.false) in
+    (omega (arith, e, c.loop-k.invariant.2), omega (arith, e, c.loop-k.invariant.2, own_most c.args.v, c.pieces_of-here.ensures, c.loop-k-test.false))

@@ -1,4 +1,4 @@
---
+-- `position_lines::put_single` meets its contract.
 use Rattle.std.proofs.Common.{arith, ◌≡◌, sym, ap, ◌∙◌, ◌++◌, append_assoc, ℕ, zero, suc, ◌*◌, ◌/◌, ◌%◌, ◌≤◌, ◌<◌, rules}
 use Rattle.text.specs.Text.{codes}
 use Rattle.stores.specs.Engine.{spaced_word}
@@ -22,13 +22,11 @@ few a (suc (suc zero)) h l = omega arith
 few a (suc (suc (suc zero))) h l = omega arith
 few a (suc (suc (suc (suc q)))) h l = absurd (omega (arith, l))
 
--- src/lib.rt:78:9
 pub spaced_of-index-requires : goal.spaced_of-index-requires
 spaced_of-index-requires c =
     let t = entry_at_lem c.args.n c.args.c c.requires.2 c.requires.3 c.requires.7 in
     rw c.entry_at-x.ensures (t.index (c.args.p % 4) (omega arith)).1
 
--- src/lib.rt:82:9
 pub put_run-e-requires : goal.put_run-e-requires
 put_run-e-requires c =
     let t = entry_at_lem c.args.n c.args.c c.requires.2 c.requires.3 c.requires.7 in
@@ -47,7 +45,6 @@ put_run-e-requires c =
           (arith, few, wide, c.requires.5),
     )
 
--- src/lib.rt:83:5
 pub put_named-requires : goal.put_named-requires
 put_named-requires c =
     let t = entry_at_lem c.args.n c.args.c c.requires.2 c.requires.3 c.requires.7 in
@@ -57,7 +54,6 @@ put_named-requires c =
     (word_few (stepped (entry_at c.args.n c.args.c) (c.args.p % 4)) i.1) in
     (omega arith, few, omega (arith, wide), omega (arith, c.requires.1), c.requires.4, c.requires.5, search rules)
 
--- src/lib.rt:71:1
 pub returns-clause-wrote : goal.returns-clause-wrote
 unfolding code_line ru_line
 returns-clause-wrote c =
@@ -84,7 +80,6 @@ returns-clause-wrote c =
     (rw c.put_named.ensures.bounded at c.put_named.ensures.wrote) in
     rw append_assoc (rw (start, sym tones, c.base_of-base.ensures.0, sym (code_runs c.args.n c.args.p c.args.c c.requires.3)) at w)
 
--- src/lib.rt:71:1
 pub returns-clause-bounded : goal.returns-clause-bounded
 unfolding code_line ru_line
 returns-clause-bounded c =

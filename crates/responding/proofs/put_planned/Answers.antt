@@ -4,9 +4,9 @@ use Rattle.listed.specs.Listing.{frame_text}
 use Rattle.listing_lines.proofs.Shown.{few, counted, told, written}
 use Rattle.responding.proofs.put_planned.Goals as goal
 
-pub returns-in-Refuse : goal.returns-in-Refuse
+pub returns-in-Err : goal.returns-in-Err
 unfolding frame_text
-returns-in-Refuse c = rw (told c.requires c.check_users-seen.ensures.value c.in-Refuse.is) c.put_refusal.ensures.wrote
+returns-in-Err c = rw (told c.requires c.check_users-seen.ensures.value c.in-Err.is) (rw c.from-y.ensures at c.put_refusal.ensures.wrote)
 
 pub put_listing-requires : goal.put_listing-requires
 put_listing-requires c = (

@@ -7,19 +7,19 @@ use Rattle.responding.proofs.respond.Goals as goal
 
 pub put_lines-requires : goal.put_lines-requires
 put_lines-requires c =
-    let h = few_said c.args.text.now _ _ _ (ap (said_by c.args.text.now) (sym c.in-Lines.is) ∙ c.parse-parsed.ensures) in
+    let h = few_said c.args.text.now _ (ap (said_by c.args.text.now) (sym c.in-Ok.is) ∙ c.parse-parsed.ensures) in
     (omega arith, omega arith)
 
-pub returns-in-Wrong : goal.returns-in-Wrong
+pub returns-in-Err : goal.returns-in-Err
 unfolding program_text
-returns-in-Wrong c =
+returns-in-Err c =
     let e = sym c.parse-parsed.ensures
-    ∙ ap (said_by _) c.in-Wrong.is in
+    ∙ ap (said_by _) c.in-Err.is in
     rw e c.put_refusal.ensures.wrote
 
-pub returns-in-Lines : goal.returns-in-Lines
+pub returns-in-Ok : goal.returns-in-Ok
 unfolding program_text
-returns-in-Lines c =
+returns-in-Ok c =
     let e = sym c.parse-parsed.ensures
-    ∙ ap (said_by _) c.in-Lines.is in
+    ∙ ap (said_by _) c.in-Ok.is in
     rw e c.put_lines.ensures

@@ -17,17 +17,17 @@ returns-then-f-eq0-clause-wrote c =
     rw e (no_item _ _ _)
 
 pub loop-k-init : goal.loop-k-init
-loop-k-init c = (omega arith, ap (λ (x : ℕ). x + 1) c.first_owner.ensures, no_item _ _ _, omega arith)
+loop-k-init c = (ap (λ (x : ℕ). x + 1) c.first_owner.ensures, no_item _ _ _, omega arith)
 
 pub put_sta-o-requires : goal.put_sta-o-requires
 put_sta-o-requires c =
     let most = few_owners c.args.row.now c.args.p c.loop-k.k (omega arith) (omega arith) in
-    (omega (arith, fields_most (value c.args.row.now c.args.p)), omega (arith, c.station_at.ensures.1), omega (arith, most, c.loop-k.invariant.1))
+    (omega (arith, fields_most (value c.args.row.now c.args.p)), omega (arith, c.station_at.ensures.1), omega (arith, most, c.loop-k.invariant.0))
 
 pub overflow_add-number-in-loop-k : goal.overflow_add-number-in-loop-k
 overflow_add-number-in-loop-k c =
     let most = few_owners c.args.row.now c.args.p c.loop-k.k (omega arith) (omega arith) in
-    omega (arith, most, c.loop-k.invariant.1, one_most c.is_divided-step.result)
+    omega (arith, most, c.loop-k.invariant.0, one_most c.is_divided-step.result)
 
 pub loop-k-preserved : goal.loop-k-preserved
 loop-k-preserved c =
@@ -35,9 +35,8 @@ loop-k-preserved c =
     let o = only_plan r in
     let step : ◌≡◌ {A = ℕ} (cond (divides (r c.args.p)) 1 0) (bool_byte c.is_divided-step.result) =
     sym (as_number c.is_divided-step.result ∙ ap (λ (b : Bool). cond b 1 0) c.is_divided-step.ensures) in (
-      omega arith,
-      omega (arith, c.loop-k.invariant.1, owner_next o r c.args.p c.loop-k.k, step),
-      item (given_line c.args.fields.now c.args.i c.args.row.now c.args.p) c.loop-k.k c.loop-k.invariant.2
-          (rw (← c.station_at.ensures.0, ← c.loop-k.invariant.1) c.put_sta-o.ensures.wrote),
-      omega (arith, c.loop-k.invariant.3, c.put_sta-o.ensures.bounded),
+      omega (arith, c.loop-k.invariant.0, owner_next o r c.args.p c.loop-k.k, step),
+      item (given_line c.args.fields.now c.args.i c.args.row.now c.args.p) c.loop-k.k c.loop-k.invariant.1
+          (rw (← c.station_at.ensures.0, ← c.loop-k.invariant.0) c.put_sta-o.ensures.wrote),
+      omega (arith, c.loop-k.invariant.2, c.put_sta-o.ensures.bounded),
     )

@@ -1,5 +1,5 @@
--- What the loops of `station_lines::put_given` keep, and what falls.
-use Rattle.std.proofs.Common.{◌≡◌, ◌+◌, ◌-◌, ◌*◌, ◌≤◌}
+-- What the loop of `station_lines::put_given` keeps.
+use Rattle.std.proofs.Common.{◌≡◌, ◌+◌, ◌*◌, ◌≤◌}
 use Rattle.answer.specs.Lists.{at as value}
 use Rattle.plan.specs.Engine.{only_plan}
 use Rattle.records.specs.Engine.{owner_at}
@@ -8,8 +8,5 @@ use Rattle.station_lines.specs.Engine.{given_line}
 use Rattle.station_lines.proofs.put_given.Given as goal
 
 abbrev pub invariant-loop-k : goal.invariant-loop-k
-invariant-loop-k l = (l.k ≤ l.fn.f) × (l.number ≡ owner_at (only_plan (value l.fn.row)) (value l.fn.row) l.fn.p l.k + 1)
+invariant-loop-k l = (l.number ≡ owner_at (only_plan (value l.fn.row)) (value l.fn.row) l.fn.p l.k + 1)
     × Wrote l.initial.out l.fn.at (upto (given_line l.fn.fields l.fn.i l.fn.row l.fn.p) l.k) l.out l.o × (l.o ≤ l.fn.at + 55 * l.k)
-
-abbrev pub decreases-loop-k : goal.decreases-loop-k
-decreases-loop-k l = l.fn.f - l.k

@@ -1,12 +1,9 @@
--- What the loops of `station_lines::stations_in` keep, and what falls.
-use Rattle.std.proofs.Common.{◌≡◌, ◌-◌, ◌≤◌}
+-- What the loop of `station_lines::stations_in` keeps.
+use Rattle.std.proofs.Common.{◌≡◌, ◌≤◌}
 use Rattle.answer.specs.Tally.{tally}
 use Rattle.stations.specs.Engine.{station_in}
 use Rattle.lines.specs.Lines.{assigned}
 use Rattle.station_lines.proofs.stations_in.Given as goal
 
 abbrev pub invariant-loop-i : goal.invariant-loop-i
-invariant-loop-i l = (l.i ≤ l.fn.n) × (l.stations ≤ l.i) × (l.stations ≡ tally (λ j. assigned (station_in l.fn.fields j)) l.i)
-
-abbrev pub decreases-loop-i : goal.decreases-loop-i
-decreases-loop-i l = l.fn.n - l.i
+invariant-loop-i l = (l.stations ≤ l.i) × (l.stations ≡ tally (λ j. assigned (station_in l.fn.fields j)) l.i)

@@ -1,11 +1,10 @@
---
+-- `stores::ended_of` meets its contract.
 use native.Mathlib.Omega.{arith}
 use native.Mathlib.Nat.{div-le_self}
 use Prim.Native.Nat.{◌+◌, ◌*◌, ◌^◌}
 use Rattle.stores.specs.Engine.{ended_of}
 use Rattle.stores.proofs.ended_of.Goals as goal
 
--- src/lib.rt:110:1
 pub returns : goal.returns
 unfolding ended_of
 returns c = let x = c.four_of.result + c.args.c * 4294967296 in

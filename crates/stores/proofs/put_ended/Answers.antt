@@ -1,10 +1,9 @@
---
+-- `stores::put_ended` meets its contract.
 use mathlib.Core.Path.{◌≡◌, ap, ◌∙◌}
 use Rattle.stores.specs.Engine.{four_of, lead_of, ended_of, zeros_in, apart}
 use Rattle.stores.proofs.Laws.{values, apart_few, ended_integer}
 use Rattle.stores.proofs.put_ended.Goals as goal
 
--- src/lib.rt:183:1
 pub returns-clause-wrote : goal.returns-clause-wrote
 unfolding ended_of four_of
 returns-clause-wrote c = let n = apart c.args.u c.args.zero in

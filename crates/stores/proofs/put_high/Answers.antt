@@ -1,4 +1,4 @@
---
+-- `stores::put_high` meets its contract.
 use mathlib.Core.Path.{◌≡◌, ap, ◌∙◌, refl}
 use Prim.Native.Nat.{◌+◌, ◌-◌}
 use native.Mathlib.Omega.{arith}
@@ -6,14 +6,12 @@ use Rattle.stores.specs.Engine.{four_of, lead_of, zeros_in, Under}
 use Rattle.stores.proofs.Laws.{values, halves, lead_most, one_under, four_under, run_under}
 use Rattle.stores.proofs.put_high.Goals as goal
 
--- src/lib.rt:224:23
 pub zeros_of-requires : goal.zeros_of-requires
 zeros_of-requires c = let v = halves c.values_of_two-v.result c.args.m c.args.n c.requires.0 c.values_of_two-v.ensures in
     let m = values c.args.m c.requires.0 in
     let n = values c.args.n c.requires.1 in
     omega (arith, v.0, m.most)
 
--- src/lib.rt:225:26
 pub zeros_of-requires-2 : goal.zeros_of-requires-2
 zeros_of-requires-2 c = let v = halves c.values_of_two-v.result c.args.m c.args.n c.requires.0 c.values_of_two-v.ensures in
     let m = values c.args.m c.requires.0 in

@@ -1,11 +1,10 @@
---
+-- `stores::put_integer` meets its contract.
 use mathlib.Core.Path.{◌≡◌, ap, ◌∙◌}
 use native.Mathlib.Omega.{arith}
 use Rattle.stores.specs.Engine.{four_of, lead_of, digits_of, zeros_in, apart}
 use Rattle.stores.proofs.Laws.{values, apart_few, signed_parts, digits_over, over_more}
 use Rattle.stores.proofs.put_integer.Goals as goal
 
--- src/lib.rt:171:1
 pub returns-clause-over : goal.returns-clause-over
 unfolding digits_of four_of
 returns-clause-over c = let n = apart c.args.u c.args.zero in

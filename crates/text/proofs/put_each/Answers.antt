@@ -3,5 +3,5 @@ use native.Mathlib.Omega.{arith}
 use Rattle.text.proofs.Laws.{more}
 use Rattle.text.proofs.put_each.Goals as goal
 
-pub loop-j-preserved : goal.loop-j-preserved
-loop-j-preserved c = (omega arith, more _ _ c.loop-j-test.true c.loop-j.invariant.1 c.put-o.ensures)
+pub loop-b-preserved : goal.loop-b-preserved
+loop-b-preserved c = more _ _ (omega arith) c.loop-b.invariant c.put-o.ensures

@@ -5,4 +5,4 @@ use Rattle.text.proofs.Laws.{more}
 use Rattle.text.proofs.put_whole.Goals as goal
 
 pub loop-j-preserved : goal.loop-j-preserved
-loop-j-preserved c = (omega arith, more c.args.s.now c.loop-j.j c.loop-j-test.true c.loop-j.invariant.1 (record { bytes = refl; next = omega arith }))
+loop-j-preserved c = more c.args.s.now c.loop-j.j (omega arith) c.loop-j.invariant (record { bytes = refl; next = omega arith })

@@ -5,7 +5,7 @@ use Rattle.user_codes.proofs.code_in.Goals as goal
 
 pub returns-then-i-lt144 : goal.returns-then-i-lt144
 unfolding code_in
-returns-then-i-lt144 c = rw (lt-ltb _ 144 c.if-i-lt144.true)
+returns-then-i-lt144 c = rw (c.from.ensures, lt-ltb _ 144 c.if-i-lt144.true)
 
 pub returns-else-i-lt144 : goal.returns-else-i-lt144
 unfolding code_in

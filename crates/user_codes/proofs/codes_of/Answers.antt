@@ -5,7 +5,7 @@ use Rattle.records.proofs.Tables.{kind_in, kind_known}
 use Rattle.user_codes.proofs.codes_of.Goals as goal
 
 pub loop-p-init : goal.loop-p-init
-loop-p-init c = (omega arith, refl, filled_start _ _)
+loop-p-init c = (refl, filled_start _ _)
 
 pub enter_codes-i-requires : goal.enter_codes-i-requires
 enter_codes-i-requires c = record {
@@ -16,5 +16,5 @@ enter_codes-i-requires c = record {
     kind_known c.args.kinds.now
         c.args.row.now c.loop-p.p c.requires.1 (omega arith),
   );
-  i_value = (c.loop-p.invariant.1, c.loop-p.invariant.2);
+  i_value = (c.loop-p.invariant.0, c.loop-p.invariant.1);
 }

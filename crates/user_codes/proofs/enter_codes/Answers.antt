@@ -36,12 +36,10 @@ pub loop-k-preserved : goal.loop-k-preserved
 loop-k-preserved c =
     let here : c.listed_of-here.result ≡ length (list_at (only_plan (at c.args.row.now) c.args.p) (at c.args.row.now) c.args.p) =
     here_is (at c.args.row.now) c.args.p _ _ c.args.kind c.requires.row_len_bound.2 refl c.listed_of-here.ensures.0 in
-    let m : c.loop-k.k < length (list_at (only_plan (at c.args.row.now) c.args.p) (at c.args.row.now) c.args.p) = rw (← here) c.loop-k-test.true in (
-      omega arith,
-      enter c.args.row.now c.args.p c.args.i c.loop-k.k c.code_at.result c.loop-k.codes c.requires.row_len_bound.1 c.requires.row_len_bound.0
-          c.requires.i_value.0 m
-          (c.code_at.ensures ∙ ap (λ (x : ℕ). listed_code x (at c.args.row.now) c.args.p c.loop-k.k) c.requires.row_len_bound.2) c.loop-k.invariant.1,
-    )
+    let m : c.loop-k.k < length (list_at (only_plan (at c.args.row.now) c.args.p) (at c.args.row.now) c.args.p) = rw (← here) (omega arith) in
+    enter c.args.row.now c.args.p c.args.i c.loop-k.k c.code_at.result c.loop-k.codes c.requires.row_len_bound.1 c.requires.row_len_bound.0
+    c.requires.i_value.0 m
+    (c.code_at.ensures ∙ ap (λ (x : ℕ). listed_code x (at c.args.row.now) c.args.p c.loop-k.k) c.requires.row_len_bound.2) c.loop-k.invariant
 
 pub overflow_add-result : goal.overflow_add-result
 overflow_add-result c =
@@ -57,5 +55,5 @@ returns c =
     here_is (at c.args.row.now) c.args.p _ _ c.args.kind c.requires.row_len_bound.2 refl c.listed_of-here.ensures.0 in
     let e : c.loop-k.k ≡ c.listed_of-here.result = omega arith in record {
       value = omega (arith, here, c.requires.i_value.0, next_length (only_plan (at c.args.row.now)) (at c.args.row.now) c.args.p);
-      codes_after = rw (← e) c.loop-k.invariant.1;
+      codes_after = rw (← e) c.loop-k.invariant;
     }

@@ -1,11 +1,8 @@
--- What the loops of `user_codes::fields_with` keep, and what falls.
-use Rattle.std.proofs.Common.{◌≡◌, ◌-◌, ◌≤◌, replicate}
+-- What the loops of `user_codes::fields_with` keep.
+use Rattle.std.proofs.Common.{◌≡◌, replicate}
 use Rattle.answer.specs.Lists.{filled}
 use Rattle.user_codes.specs.Engine.{field_code}
 use Rattle.user_codes.proofs.fields_with.Given as goal
 
 abbrev pub invariant-loop-i : goal.invariant-loop-i
-invariant-loop-i l = (l.i ≤ l.fn.n) × (l.fields ≡ filled (field_code l.fn.bw l.fn.s l.fn.owners l.fn.codes) l.i (replicate 72 0))
-
-abbrev pub decreases-loop-i : goal.decreases-loop-i
-decreases-loop-i l = l.fn.n - l.i
+invariant-loop-i l = l.fields ≡ filled (field_code l.fn.bw l.fn.s l.fn.owners l.fn.codes) l.i (replicate 72 0)

@@ -1,0 +1,7 @@
+-- `lines::put_sta` meets its contract.
+use Rattle.std.proofs.Common.{arith}
+use Rattle.stores.proofs.Laws.{moved}
+use Rattle.lines.proofs.put_sta.Goals as goal
+
+pub returns-clause-wrote : goal.returns-clause-wrote
+returns-clause-wrote c = moved (omega arith) c.put_sta_whole-end.ensures.wrote c.put_all.ensures

@@ -1,7 +1,0 @@
---
-use Rattle.text.proofs.Laws.{after}
-use Rattle.resource_line.proofs.put_head_within.Goals as goal
-
--- src/lib.rt:295:1
-pub returns-clause-wrote : goal.returns-clause-wrote
-returns-clause-wrote c = after c.put_ru_head-a.ensures.wrote c.put_all.ensures
