@@ -12,8 +12,8 @@ use Rattle.resource.proofs.Test.{below}
 use Rattle.answer.specs.Answer.{no, refuse_if, ◌or◌}
 use Rattle.answer.specs.Least.{least}
 use Rattle.answer.specs.declared.Answer.{Answer}
-use Rattle.answer.specs.declared.Outcome.{Outcome}
-use Rattle.answer.specs.declared.Outcome.TheVariants.{Pass, Refuse}
+use Rattle.answer.specs.Answer.{Outcome}
+use Rattle.std.specs.Prelude.{Ok, Err}
 use Rattle.answer.proofs.Order.{refuse_same, pass_not_refuse}
 use Rattle.bits.specs.Bits.{bit}
 use Rattle.block.specs.Check.{check, step, register, sent}
@@ -21,6 +21,9 @@ use Rattle.resource.specs.Values.{carried, pieces, fields_of, divides, piece_fie
 use Rattle.resource.specs.Index.{index_of, resource_at}
 use Rattle.kinds.specs.Kinds.{kinds, kind_at, family, span, mask, takes, takes_block, blank_at, must_name}
 use Rattle.answer.specs.Lists.{at}
+use Rattle.answer.specs.declared.Refusal.TheVariants.{NoPlan, OverEightFields}
+use Rattle.answer.specs.declared.Refusal.{Refusal}
+use Rattle.answer.specs.Answer.{answer_of}
 use Rattle.kinds.specs.Signals.{Fits, Signals}
 use Rattle.kinds.specs.Fields.{gives, share, fields_in, together}
 use Rattle.kinds.proofs.Tests.{not_both}
@@ -45,32 +48,32 @@ laid : (row : List ℕ) (x : Outcome) → plan_outcome row ≡ x → Laid row x
 laid row x e = rw e at (outcome_laid row)
 
 -- no outcome has two numbers
-one_number : (n m c d s t : ℕ) → Refuse (no n c s) ≡ Refuse (no m d t) → n ≡ m
-one_number n m c d s t e = ap (λ (y : Answer). y.number) (refuse_same refl e)
+one_number : (x y : Refusal) → ◌≡◌ {A = Outcome} (Err x) (Err y) → (answer_of x).number ≡ (answer_of y).number
+one_number x y e = ap (λ (y : Refusal). (answer_of y).number) (refuse_same refl e)
 
-passed_refused : (x : Answer) → Pass ≡ Refuse x → ⊥
+passed_refused : (x : Refusal) → ◌≡◌ {A = Outcome} (Ok tt) (Err x) → ⊥
 passed_refused x e = pass_not_refuse refl e
 
-seven : (row : List ℕ) (s : ℕ) → plan_outcome row ≡ Refuse (no 7 0 s) → Holds (gets_7 row s)
-seven row s e = (go (Refuse (no 7 0 s)) refl (laid row (Refuse (no 7 0 s)) e), laid row (Refuse (no 7 0 s)) e)
+seven : (row : List ℕ) (s : ℕ) → plan_outcome row ≡ Err (NoPlan s) → Holds (gets_7 row s)
+seven row s e = (go (Err (NoPlan s)) refl (laid row (Err (NoPlan s)) e), laid row (Err (NoPlan s)) e)
   where
-    go : (x : Outcome) → x ≡ Refuse (no 7 0 s) → Laid row x → SomePlan row 0 (length row) → ⊥
-    go x q (accepted w) p = passed_refused (no 7 0 s) q
+    go : (x : Outcome) → x ≡ Err (NoPlan s) → Laid row x → SomePlan row 0 (length row) → ⊥
+    go x q (accepted w) p = passed_refused (NoPlan s) q
     go x q (no_plan t l n f) p = n (plan_parts row p t l)
-    go x q (over_eight o w t v f) p = let z = one_number 8 7 0 0 t s q in omega arith
+    go x q (over_eight o w t v f) p = let z = one_number (OverEightFields t) (NoPlan s) q in omega arith
 
-eight : (row : List ℕ) (s : ℕ) → plan_outcome row ≡ Refuse (no 8 0 s) → Holds (gets_8 row s)
-eight row s e = go (Refuse (no 8 0 s)) refl (laid row (Refuse (no 8 0 s)) e)
+eight : (row : List ℕ) (s : ℕ) → plan_outcome row ≡ Err (OverEightFields s) → Holds (gets_8 row s)
+eight row s e = go (Err (OverEightFields s)) refl (laid row (Err (OverEightFields s)) e)
   where
-    go : (x : Outcome) → x ≡ Refuse (no 8 0 s) → Laid row x → Holds (gets_8 row s)
-    go x q (accepted w) = absurd (passed_refused (no 8 0 s) q)
-    go x q (no_plan t l n f) = let z = one_number 7 8 0 0 t s q in absurd (omega arith)
+    go : (x : Outcome) → x ≡ Err (OverEightFields s) → Laid row x → Holds (gets_8 row s)
+    go x q (accepted w) = absurd (passed_refused (OverEightFields s) q)
+    go x q (no_plan t l n f) = let z = one_number (NoPlan t) (OverEightFields s) q in absurd (omega arith)
     go x q (over_eight o w t v f) =
-        ((o, w), λ p. passed_refused (no 8 0 s) (sym (plan_accepted row p) ∙ e), laid row (Refuse (no 8 0 s)) e)
+        ((o, w), λ p. passed_refused (OverEightFields s) (sym (plan_accepted row p) ∙ e), laid row (Err (OverEightFields s)) e)
 
-zero : (row : List ℕ) (rs : List (List ℕ)) → plan_outcome row ≡ Pass → map shown (records_of (only_plan (at row)) row) ≡ rs → Holds (gets_0 row rs)
+zero : (row : List ℕ) (rs : List (List ℕ)) → plan_outcome row ≡ Ok tt → map shown (records_of (only_plan (at row)) row) ≡ rs → Holds (gets_0 row rs)
 zero row rs e f = (
-  accepted_plan row (laid row Pass e),
+  accepted_plan row (laid row (Ok tt) e),
   λ o w. ap (map shown) (same_records o (only_plan (at row)) (at row) (length row) (λ p u. only_plan_lem row o w p u)) ∙ f,
 )
 
@@ -85,7 +88,7 @@ zero_by row rs ks t e f = (
 -- the resource at a position of the first segment is over eight
 eight_by : (row ks : List ℕ) (p : ℕ) → T (signals row ks (length row)) → T (ltb p (length row)) → T (ltb p 4) → T (not (at_most row ks p)) → Holds
     (gets_8 row 0)
-eight_by row ks p t z y e = eight row 0 (sym (laid_is row (Refuse (no 8 0 0)) is_over))
+eight_by row ks p t z y e = eight row 0 (sym (laid_is row (Err (OverEightFields 0)) is_over))
   where
     s : Signals (at ks) (at row) 0 (length row)
     s = list_signals row ks (length row) t
@@ -97,7 +100,7 @@ eight_by row ks p t z y e = eight row 0 (sym (laid_is row (Refuse (no 8 0 0)) is
         go true f u = absurd u
         go false f u = leb-false _ 8 f
 
-    is_over : Laid row (Refuse (no 8 0 0))
+    is_over : Laid row (Err (OverEightFields 0))
     is_over = over_eight (at ks) s 0 (p, ltb→lt _ _ z, let l = ltb→lt p 4 y in omega arith, nine) (λ t m v. absurd (omega arith))
 
 -- ---- a part with a position that its only plan gives to what the value does not fit
@@ -117,7 +120,7 @@ no_part row n k h m w =
 
 seven_by : (row : List ℕ) (s : ℕ) → s < segments row → Misfit row 16 (s / 4) → Misfit row 8 (s / 2) → Misfit row 4 s
     → ((t : ℕ) → t < s → Held row t) → Holds (gets_7 row s)
-seven_by row s l a b c f = seven row s (sym (laid_is row (Refuse (no 7 0 s)) (no_plan s l unheld f)))
+seven_by row s l a b c f = seven row s (sym (laid_is row (Err (NoPlan s)) (no_plan s l unheld f)))
   where
     unheld : Held row s → ⊥
     unheld h =
@@ -136,7 +139,7 @@ none_below row s l = absurd (omega arith)
 -- ---- each check is worked out; of a row whose whole width is right, that it is is asked once; where the plan is given, of that plan
 data Computed : List Check → Type 0 where
   done : Computed []
-  of_7 : {row : List ℕ} {s : ℕ} {cs : List Check} → plan_outcome row ≡ Refuse (no 7 0 s) → Computed cs → Computed (gets_7 row s ∷ cs)
+  of_7 : {row : List ℕ} {s : ℕ} {cs : List Check} → plan_outcome row ≡ Err (NoPlan s) → Computed cs → Computed (gets_7 row s ∷ cs)
   of_8 : {row : List ℕ} {s : ℕ} {cs : List Check} → T (leb (length row) 16) → part_right row 16 0 ≡ true → T (ltb (first_over row) (length row))
       → first_over row / 4 ≡ s → Computed cs → Computed (gets_8 row s ∷ cs)
   of_0 : {row : List ℕ} {rs : List (List ℕ)} {cs : List Check} → T (leb (length row) 16) → part_right row 16 0 ≡ true → first_over row ≡ length row
@@ -151,16 +154,15 @@ data Computed : List Check → Type 0 where
 
 -- no segment is unheld where the whole width is right
 refuses_none : (row : List ℕ) (o : Outcome) → length row ≤ 16 → part_right row 16 0 ≡ true
-    → refuse_if (ltb (first_unheld row) (segments row)) (no 7 0 (first_unheld row)) or o ≡ o
-unfolding ◌or◌
+    → refuse_if (ltb (first_unheld row) (segments row)) (NoPlan (first_unheld row)) or o ≡ o
 refuses_none row o h e = rw (← whole_holds row h e, le-ltb (segments row) (segments row) (omega arith))
 
-passes : (row : List ℕ) → length row ≤ 16 → part_right row 16 0 ≡ true → first_over row ≡ length row → plan_outcome row ≡ Pass
+passes : (row : List ℕ) → length row ≤ 16 → part_right row 16 0 ≡ true → first_over row ≡ length row → plan_outcome row ≡ Ok tt
 unfolding plan_outcome
 passes row h e f = refuses_none row _ h e ∙ rw (f, le-ltb (length row) (length row) (omega arith))
 
 over : (row : List ℕ) (s : ℕ) → length row ≤ 16 → part_right row 16 0 ≡ true → first_over row < length row → first_over row / 4 ≡ s
-    → plan_outcome row ≡ Refuse (no 8 0 s)
+    → plan_outcome row ≡ Err (OverEightFields s)
 unfolding plan_outcome
 over row s h e f g = refuses_none row _ h e ∙ rw (lt-ltb (first_over row) (length row) f, g)
 
@@ -180,7 +182,7 @@ unfolding plan_outcome first_unheld first_over held_by part_right every_from is_
     tell_tale
     segment_plan fitting choose tells or_else kind_named kind_of sought least must_name blank_at takes_block takes mask span family kind_at kinds gives share
     fields_in
-    ◌or◌ list_at lead resource_column larger piece_fields divides pieces fields_of own_pieces smaller_at index_of resource_at carried bit step register sent
+    list_at lead resource_column larger piece_fields divides pieces fields_of own_pieces smaller_at index_of resource_at carried bit step register sent
     check
 computed =
     of_0 tt refl refl refl (of_7 refl (of_0 tt refl refl refl (of_7 refl (of_0 tt refl refl refl
@@ -195,7 +197,7 @@ unfolding plan_outcome first_unheld first_over held_by part_right every_from is_
     tell_tale
     segment_plan fitting choose tells or_else kind_named kind_of sought least must_name blank_at takes_block takes mask span family kind_at kinds gives share
     fields_in
-    ◌or◌ list_at lead resource_column larger piece_fields divides pieces fields_of own_pieces smaller_at index_of resource_at carried bit step register sent
+    list_at lead resource_column larger piece_fields divides pieces fields_of own_pieces smaller_at index_of resource_at carried bit step register sent
     check
 computed_320 =
     of_plan (0 ∷ 0 ∷ replicate 10 24 ++ replicate 4 2) tt tt refl
@@ -209,7 +211,7 @@ unfolding plan_outcome first_unheld first_over held_by part_right every_from is_
     tell_tale
     segment_plan fitting choose tells or_else kind_named kind_of sought least must_name blank_at takes_block takes mask span family kind_at kinds gives share
     fields_in
-    ◌or◌ list_at lead resource_column larger piece_fields divides pieces fields_of own_pieces smaller_at index_of resource_at carried bit step register sent
+    list_at lead resource_column larger piece_fields divides pieces fields_of own_pieces smaller_at index_of resource_at carried bit step register sent
     check
 computed_160 =
     of_plan (replicate 8 7) tt tt refl

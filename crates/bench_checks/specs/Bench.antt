@@ -6,7 +6,8 @@ use Rattle.resource.specs.Names.{name_of, number_of}
 use Rattle.answer.specs.Lists.{at}
 use Rattle.kinds.specs.Signals.{Signals}
 use Rattle.answer.specs.Answer.{no}
-use Rattle.answer.specs.declared.Outcome.TheVariants.{Refuse}
+use Rattle.answer.specs.declared.Refusal.TheVariants.{NoPlan, OverEightFields}
+use Rattle.std.specs.Prelude.{Err}
 use Rattle.plan.specs.Answers.{SomePlan, SomePlanOfEight, Laid}
 use Rattle.records.specs.declared.Record.{Record}
 use Rattle.records.specs.Records.{records_of}
@@ -26,8 +27,8 @@ pub data Check : Type 0 where
 -- "7 | no plan, even with any number of fields"; "8 | plan, but a resource over eight fields"; acceptance, of any plan that signals the row;
 -- and the check of the first n bits of a list of bytes
 abbrev pub Holds : Check → Type 0
-Holds (gets_7 row s) = (SomePlan row 0 (length row) → ⊥) × Laid row (Refuse (no 7 0 s))
-Holds (gets_8 row s) = SomePlan row 0 (length row) × (SomePlanOfEight row 0 (length row) → ⊥) × Laid row (Refuse (no 8 0 s))
+Holds (gets_7 row s) = (SomePlan row 0 (length row) → ⊥) × Laid row (Err (NoPlan s))
+Holds (gets_8 row s) = SomePlan row 0 (length row) × (SomePlanOfEight row 0 (length row) → ⊥) × Laid row (Err (OverEightFields s))
 Holds (gets_0 row rs) =
     SomePlanOfEight row 0 (length row)
     × ((o : ℕ → ℕ) → Signals o (at row) 0 (length row) → map shown (records_of o row) ≡ rs)

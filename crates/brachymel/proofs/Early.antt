@@ -9,9 +9,11 @@ use lib.ListN.{length}
 use borrow.Author.Tests.{ltb-true, ltb-false, ne_eqb}
 use Rattle.answer.specs.Answer.{no, refuse_if, ◌or◌, passes}
 use Rattle.answer.specs.declared.Answer.{Answer}
-use Rattle.answer.specs.declared.Outcome.TheVariants.{Pass, Refuse}
+use Rattle.std.specs.Prelude.{Ok, Err}
 use Rattle.answer.proofs.Order.{pass_right, pass_if, pass_not_refuse}
 use Rattle.answer.proofs.Lists.{length_build}
+use Rattle.answer.specs.declared.Refusal.TheVariants.{UnknownBandwidth, NoFrameReads}
+use Rattle.answer.specs.declared.Refusal.{Refusal}
 use Rattle.halves.specs.Table.{check1, outcome11}
 use Rattle.frame_words.specs.Words.{words_of}
 use Rattle.frame_words.proofs.Determine.{words_length}
@@ -35,18 +37,19 @@ not_so_many bw a b w l =
     go true = refl
     go false = refl
 
-pub too_many : (bw : ℕ) (w : List ℕ) → 154 < length w → check13 bw w ≡ Refuse (no 13 0 0)
+pub too_many : (bw : ℕ) (w : List ℕ) → 154 < length w → check13 bw w ≡ Err NoFrameReads
 unfolding check13 some_read
 too_many bw w l = rw (not_so_many bw (candidate bw w 1) (candidate bw w 2) w l)
 
 -- the refusal that comes early is the text's
-pub early_refuses : (bw : ℕ) (t : List ℕ) (n m : ℕ) (x : Answer) → early bw (length t) (length t / 4) ≡ Refuse x → bytes_outcome bw t n m ≡ Refuse x
-unfolding early bytes_outcome ragged write_outcome check1 ◌or◌
+pub early_refuses : (bw : ℕ) (t : List ℕ) (n m : ℕ) (x : Refusal) → early bw (length t) (length t / 4) ≡ Err x → bytes_outcome bw t n m ≡ Err x
+unfolding early bytes_outcome ragged write_outcome check1
 early_refuses bw t n m x e = go (ltb 4 bw) (not (eqb (length t % 4) 0)) (ltb 154 (length t / 4)) refl e
   where
     go : (p q r : Bool) → ltb 154 (length t / 4) ≡ r
-        → refuse_if p (no 1 0 0) or (refuse_if q (no 13 0 0) or refuse_if r (no 13 0 0)) ≡ Refuse x
-        → refuse_if p (no 1 0 0) or refuse_if q (no 13 0 0) or (refuse_if p (no 1 0 0) or check13 bw (words_in t) or check14 bw (words_in t) n m) ≡ Refuse x
+        → refuse_if p UnknownBandwidth or (refuse_if q NoFrameReads or refuse_if r NoFrameReads) ≡ Err x
+        → refuse_if p UnknownBandwidth or refuse_if q NoFrameReads or (refuse_if p UnknownBandwidth or check13 bw (words_in t) or check14 bw
+        (words_in t) n m) ≡ Err x
     go true q r l f = f
     go false true r l f = f
     go false false true l f =
@@ -54,19 +57,19 @@ early_refuses bw t n m x e = go (ltb 4 bw) (not (eqb (length t % 4) 0)) (ltb 154
     go false false false l f = absurd (pass_not_refuse refl f)
 
 -- and where nothing does, the text's outcome is the writer's
-pub early_passes : (bw : ℕ) (t : List ℕ) (n m : ℕ) → early bw (length t) (length t / 4) ≡ Pass → bytes_outcome bw t n m ≡ write_outcome bw (words_in t) n m
-unfolding early bytes_outcome ragged write_outcome check1 ◌or◌
+pub early_passes : (bw : ℕ) (t : List ℕ) (n m : ℕ) → early bw (length t) (length t / 4) ≡ Ok tt → bytes_outcome bw t n m ≡ write_outcome bw (words_in t) n m
+unfolding early bytes_outcome ragged write_outcome check1
 early_passes bw t n m e = go (ltb 4 bw) (not (eqb (length t % 4) 0)) (ltb 154 (length t / 4)) e
   where
     go : (p q r : Bool)
-        → refuse_if p (no 1 0 0) or (refuse_if q (no 13 0 0) or refuse_if r (no 13 0 0)) ≡ Pass
-        → refuse_if p (no 1 0 0) or refuse_if q (no 13 0 0) or (refuse_if p (no 1 0 0) or check13 bw (words_in t) or check14 bw (words_in t) n m)
-        ≡ (refuse_if p (no 1 0 0) or check13 bw (words_in t) or check14 bw (words_in t) n m)
+        → refuse_if p UnknownBandwidth or (refuse_if q NoFrameReads or refuse_if r NoFrameReads) ≡ Ok tt
+        → refuse_if p UnknownBandwidth or refuse_if q NoFrameReads or (refuse_if p UnknownBandwidth or check13 bw (words_in t) or check14 bw (words_in t) n m)
+        ≡ (refuse_if p UnknownBandwidth or check13 bw (words_in t) or check14 bw (words_in t) n m)
     go true q r f = absurd (pass_not_refuse f refl)
     go false true r f = absurd (pass_not_refuse f refl)
     go false false r f = refl
 
-pub few_words : (bw bytes n : ℕ) → early bw bytes n ≡ Pass → n ≤ 154
+pub few_words : (bw bytes n : ℕ) → early bw bytes n ≡ Ok tt → n ≤ 154
 unfolding early
 few_words bw bytes n e =
-    ltb-false 154 n (pass_if _ _ (pass_right (refuse_if (not (eqb (bytes % 4) 0)) (no 13 0 0)) _ (pass_right (refuse_if (ltb 4 bw) (no 1 0 0)) _ e)))
+    ltb-false 154 n (pass_if _ _ (pass_right (refuse_if (not (eqb (bytes % 4) 0)) NoFrameReads) _ (pass_right (refuse_if (ltb 4 bw) UnknownBandwidth) _ e)))

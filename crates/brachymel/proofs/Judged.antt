@@ -8,11 +8,12 @@ use lib.ListN.{length}
 use Rattle.answer.specs.Answer.{◌or◌}
 use Rattle.answer.specs.Order.{first_of, Judged}
 use Rattle.answer.specs.declared.Answer.{Answer}
-use Rattle.answer.specs.declared.Outcome.{Outcome}
-use Rattle.answer.specs.declared.Outcome.TheVariants.{Pass, Refuse}
+use Rattle.answer.specs.Answer.{Outcome}
+use Rattle.std.specs.Prelude.{Ok, Err}
 use Rattle.answer.proofs.Numbers.{Only, only_if, only_or, Gives, distinct, absent, judged, none, more}
 use Rattle.answer.proofs.First.{first_chain}
 use Rattle.answer.proofs.Order.{after_answered}
+use Rattle.answer.specs.declared.Refusal.TheVariants.{NoFrameReads}
 use Rattle.halves.specs.Table.{check1}
 use Rattle.candidate.specs.Engine.{needed, candidate}
 use Rattle.writer.specs.Result.{check13, check14, write_outcome, front, write_numbers}
@@ -25,7 +26,7 @@ use Rattle.brachymel.proofs.brachymel_list.Reads as list
 
 only_ragged : (t : List ℕ) → Only 13 (ragged t)
 unfolding ragged
-only_ragged t = only_if (not (eqb (length t % 4) 0)) 13 0 0
+only_ragged t = only_if (not (eqb (length t % 4) 0)) NoFrameReads
 
 numbers_distinct : distinct (0 ∷ write_numbers) ≡ true
 unfolding distinct absent
@@ -37,16 +38,16 @@ rows_give bw t n m =
     (more (only_or (only_ragged t) (only_13 bw (words_in t) n m)) (more (only_14 bw (words_in t) n m) none))
 
 write_checks_first : (bw : ℕ) (t : List ℕ) (n m : ℕ) → first_of (bytes_checks bw t n m) ≡ bytes_outcome bw t n m
-unfolding bytes_outcome write_outcome ◌or◌
+unfolding bytes_outcome write_outcome
 write_checks_first bw t n m =
     first_chain (check1 bw) ((ragged t or check13 bw (words_in t)) ∷ check14 bw (words_in t) n m ∷ [])
     ∙ twice (check1 bw) (ragged t) (check13 bw (words_in t)) (check14 bw (words_in t) n m)
   where
     -- a first check that is looked at twice
     twice : (o p q r : Outcome) → o or (p or q) or r ≡ o or p or (o or q or r)
-    twice Pass Pass q r = refl
-    twice Pass (Refuse x) q r = refl
-    twice (Refuse x) p q r = refl
+    twice (Ok u) (Ok v) q r = refl
+    twice (Ok u) (Err x) q r = refl
+    twice (Err x) p q r = refl
 
 pub write_judged : (bw : ℕ) (t : List ℕ) (n m : ℕ) → Judged write_numbers (bytes_checks bw t n m) (needed bw (words_in t)) (bytes_write_answer bw t n m)
 unfolding bytes_write_answer

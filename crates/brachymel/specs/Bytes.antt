@@ -5,7 +5,8 @@
 use Rattle.std.specs.Prelude.{not, List, [], ◌∷◌, ℕ, ◌%◌, eqb, length}
 use Rattle.answer.specs.Answer.{no, refuse_if, ◌or◌, answer_at, after}
 use Rattle.answer.specs.declared.Answer.{Answer}
-use Rattle.answer.specs.declared.Outcome.{Outcome}
+use Rattle.answer.specs.Answer.{Outcome}
+use Rattle.answer.specs.declared.Refusal.TheVariants.{NoFrameReads}
 use Rattle.halves.specs.Table.{check1}
 use Rattle.writer.specs.Worked.{the_channel, the_bytes}
 use Rattle.writer.specs.Result.{write_outcome, front, check13, check14}
@@ -13,7 +14,7 @@ use Rattle.word_bytes.specs.Bytes.{words_in}
 
 -- "a word text not divisible by four gives the writer's 13"
 unfoldable pub ragged : List ℕ → Outcome
-ragged t = refuse_if (not (eqb (length t % 4) 0)) (no 13 0 0)
+ragged t = refuse_if (not (eqb (length t % 4) 0)) NoFrameReads
 
 -- of a text, n and m bytes lent for the channels: 1, 13, 14 in that order
 unfoldable pub bytes_outcome : ℕ → List ℕ → ℕ → ℕ → Outcome

@@ -12,7 +12,7 @@ ghost use Rattle.overlaps.specs.Result.{overlaps_answer, pairs_after};
 ghost use Rattle.stream_rows.specs.Result.{row_answer, row_after, number_answer};
 ghost use Rattle.streams.specs.Result.{streams_answer, streams_after};
 
-use answer::{Answer, Outcome};
+use answer::Answer;
 
 pub fn brachymel_read(bandwidth: u32, cc1: &[u8], cc2: &[u8], words: &mut [u8]) -> Answer
     ensures value { result ≡ bytes_read_answer bandwidth cc1.now cc2.now words.old }
@@ -30,8 +30,8 @@ pub fn brachymel_write(bandwidth: u32, words: &[u8], cc1: &mut [u8], cc2: &mut [
 {
     let n = words.len() / 4;
     let early = whole_words::refused_early(bandwidth, words.len(), n);
-    if let Outcome::Refuse(x) = early {
-        return x;
+    if let Err(x) = early {
+        return x.into();
     }
     writer::write_bytes(bandwidth, words, cc1, cc2)
 }

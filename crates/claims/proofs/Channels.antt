@@ -9,7 +9,7 @@ use native.Mathlib.Omega.{arith}
 use lib.ListN.{length, replicate, length-replicate}
 use lib.Seq.{ext_get_or}
 use borrow.Author.Tests.{lt-ltb, le-ltb}
-use Rattle.answer.specs.declared.Outcome.TheVariants.{Pass}
+use Rattle.std.specs.Prelude.{Ok}
 use Rattle.answer.proofs.Order.{pass_left, pass_right, or_pass, if_pass}
 use Rattle.answer.proofs.Least.{least_none}
 use Rattle.bits.specs.Bits.{field, Small}
@@ -143,24 +143,24 @@ module _ (bw : ℕ) (r : List ℕ) (w : CarriedRow bw r) (c : ℕ) (inside : (k 
       omega (arith, rw e at g)
 
   -- ---- its own checks
-  pass_2 : too_long bw c s ≡ Pass
+  pass_2 : too_long bw c s ≡ Ok tt
   pass_2 = pass_too_long bw c s s_short away_length
 
-  pass_3 : cut_common bw c s ≡ Pass
+  pass_3 : cut_common bw c s ≡ Ok tt
   pass_3 = pass_cut_common bw c s (λ p. omega (arith, there_length p, common_le bw))
 
-  pass_4 : wrong_common bw c s ≡ Pass
+  pass_4 : wrong_common bw c s ≡ Ok tt
   pass_4 = pass_wrong_common bw c s (λ p. (carries p).common_right)
 
-  pass_6 : not_carried bw c s ≡ Pass
+  pass_6 : not_carried bw c s ≡ Ok tt
   pass_6 = pass_not_carried bw c s (λ k l. ap carried (the_value k l) ∙ w.each (position_in c k) (inside k l))
 
-  pass_9 : cut_users bw c s ≡ Pass
+  pass_9 : cut_users bw c s ≡ Ok tt
   pass_9 =
       pass_cut_users bw c s
       (λ h. let l : 0 < n = omega (arith, the_count) in rw the_count (omega (arith, there_length (has_field 0 l), end_le bw n n_le)))
 
-  pass_10 : wrong_users bw c s ≡ Pass
+  pass_10 : wrong_users bw c s ≡ Ok tt
   unfolding blocks
   pass_10 =
       pass_wrong_users bw c s
@@ -215,7 +215,7 @@ module _ (bw : ℕ) (r : List ℕ) (w : CarriedRow bw r) where
       let e : overflow a ≡ 0 = no_overflow 1 inside_1 (present_1 bw) in
       omega (arith, field_part a 0 17 6 3 (omega arith))
 
-  pub passes_common : outcome6 bw a b ≡ Pass
+  pub passes_common : outcome6 bw a b ≡ Ok tt
   unfolding outcome6 check1 check2 check3 check4 check5 check6
   passes_common =
       or_pass _ _
@@ -242,7 +242,7 @@ module _ (bw : ℕ) (r : List ℕ) (w : CarriedRow bw r) where
   none_twice : (id : ℕ → ℕ) (j : ℕ) → id j ≡ 0 → repeated id j ≡ false
   none_twice id j e = rw e
 
-  pub passes_users : outcome9to11 bw a b ≡ Pass
+  pub passes_users : outcome9to11 bw a b ≡ Ok tt
   unfolding outcome9to11 check9 check10 check11 station_twice first_repeated
   passes_users =
       let n = count bw 1 a in
@@ -260,7 +260,7 @@ module _ (bw : ℕ) (r : List ℕ) (w : CarriedRow bw r) where
 
 -- some channels, of bytes that can be lent, carry the row and pass 1 to 6; and 9 to 11 too, so that only the layout is in question
 pub some_channels : (bw : ℕ) (r : List ℕ) → CarriedRow bw r
-    → (a : List ℕ) × (b : List ℕ) × CarryRow bw r a b × Small a × Small b × (outcome9to11 bw a b ≡ Pass)
+    → (a : List ℕ) × (b : List ℕ) × CarryRow bw r a b × Small a × Small b × (outcome9to11 bw a b ≡ Ok tt)
 some_channels bw r w = (
   carrying bw r 1,
   carrying bw r 2,

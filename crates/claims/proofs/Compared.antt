@@ -11,7 +11,10 @@ use lib.Seq.{take-append_seam}
 use borrow.Author.Tests.{ne_eqb}
 use Rattle.answer.specs.Answer.{no, ◌or◌, refuse_if, answer_at}
 use Rattle.answer.specs.declared.Answer.{Answer}
-use Rattle.answer.specs.declared.Outcome.TheVariants.{Pass, Refuse}
+use Rattle.answer.specs.declared.Refusal.TheVariants.{TooFewWords}
+use Rattle.answer.specs.declared.Refusal.{Refusal}
+use Rattle.answer.specs.Answer.{answer_of}
+use Rattle.std.specs.Prelude.{Ok, Err}
 use Rattle.channel.specs.Layout.{row}
 use Rattle.halves.specs.Table.{outcome11}
 use Rattle.frame_words.specs.Words.{word_count}
@@ -136,22 +139,22 @@ compared bw a b bw' a' b' = record {
 }
 
 -- ---- the answers of reading
-its_answer : (c : Call) → Reads c → (x : Answer) → outcome11 c.bandwidth c.channel_1 c.channel_2 ≡ Refuse x → c.answer ≡ x
+its_answer : (c : Call) → Reads c → (x : Refusal) → outcome11 c.bandwidth c.channel_1 c.channel_2 ≡ Err x → c.answer ≡ answer_of x
 unfolding read_answer
 its_answer c (reads κs a r s p) x e =
     p.0 ∙ rw (reading_stopped a.0 a.1.0.now a.1.1.0.now (length a.1.1.1.0.now) x e)
 
-read_or_12 : (bw : ℕ) (a b : List ℕ) (room : ℕ) → outcome11 bw a b ≡ Pass
+read_or_12 : (bw : ℕ) (a b : List ℕ) (room : ℕ) → outcome11 bw a b ≡ Ok tt
     → ((read_answer bw a b room).number ≡ 0) ⊎ ((read_answer bw a b room).number ≡ 12)
-unfolding read_answer ◌or◌ check12 no_room
+unfolding read_answer check12 no_room
 read_or_12 bw a b room e = rw (read_outcome_stages bw a b room, e) (go (ltb room (word_count bw a b)))
   where
-    go : (t : Bool) → ((answer_at (refuse_if t (no 12 0 (word_count bw a b))) (word_count bw a b)).number ≡ 0)
-        ⊎ ((answer_at (refuse_if t (no 12 0 (word_count bw a b))) (word_count bw a b)).number ≡ 12)
+    go : (t : Bool) → ((answer_at (refuse_if t (TooFewWords (word_count bw a b))) (word_count bw a b)).number ≡ 0)
+        ⊎ ((answer_at (refuse_if t (TooFewWords (word_count bw a b))) (word_count bw a b)).number ≡ 12)
     go true = inr refl
     go false = inl refl
 
-is_read : (c : Call) → Reads c → outcome11 c.bandwidth c.channel_1 c.channel_2 ≡ Pass → (c.answer.number ≡ 0) ⊎ (c.answer.number ≡ 12)
+is_read : (c : Call) → Reads c → outcome11 c.bandwidth c.channel_1 c.channel_2 ≡ Ok tt → (c.answer.number ≡ 0) ⊎ (c.answer.number ≡ 12)
 is_read c (reads κs a r s p) e =
     rw p.0 (read_or_12 a.0 a.1.0.now a.1.1.0.now (length a.1.1.1.0.now) e)
 

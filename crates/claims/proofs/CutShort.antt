@@ -9,13 +9,16 @@ use lib.Dec.{ltb}
 use lib.ListN.{length, get_or, take, drop}
 use lib.Seq.{take-append_seam}
 use Rattle.answer.specs.Answer.{no, refuse_if, ◌or◌, answer_at, after, passes}
-use Rattle.answer.specs.Order.{first_of, Applies, Judged}
+use Rattle.answer.specs.Order.{first_of, Answers, Judged}
 use Rattle.answer.specs.declared.Answer.{Answer}
-use Rattle.answer.specs.declared.Outcome.{Outcome}
-use Rattle.answer.specs.declared.Outcome.TheVariants.{Pass, Refuse}
+use Rattle.answer.specs.Answer.{Outcome}
+use Rattle.std.specs.Prelude.{Ok, Err}
 use Rattle.answer.proofs.Order.{or_cases, or_refuse}
 use Rattle.answer.proofs.First.{applies_below}
 use Rattle.answer.proofs.Numbers.{distinct, absent, distinct_at}
+use Rattle.answer.specs.declared.Refusal.{Refusal}
+use Rattle.answer.specs.Answer.{answer_of}
+use Rattle.answer.specs.declared.Refusal.TheVariants.{CommonFieldCut, UserBlocksCut}
 use Rattle.channel.specs.Layout.{present, common, count, end_of}
 use Rattle.channel.specs.Fields.{named_fields}
 use Rattle.channel.proofs.Blocks.{end_none}
@@ -36,7 +39,7 @@ use Rattle.listing.proofs.Judged as listed
 use Rattle.byte_reader.specs.Bytes.{read_bytes}
 use Rattle.claims.specs.Calls.{Call, TextCall, Reads, reads, Lists, lists, CReads, c_reads, CLists, c_lists, Responds, responds}
 use Rattle.claims.specs.CutShort.{EndsIn, OfChannel, of_1, of_2, SaysWhere, cut_common_before, cut_users_before, checks11_before, read_before, list_before}
-use Rattle.claims.specs.CutShort.{ButPlaces, unchanged, place_moved, SameAnswer, AsBefore, ReadAsBefore, CReadAsBefore, ListAsBefore, CutShort}
+use Rattle.claims.specs.CutShort.{ButPlaces, unchanged, common_moved, users_moved, SameAnswer, AsBefore, ReadAsBefore, CReadAsBefore, ListAsBefore, CutShort}
 use Rattle.claims.proofs.First.{first_demand}
 
 -- ---- where the bits ran out
@@ -55,52 +58,52 @@ ends_in bw n s l =
 
 module _ (bw : ℕ) (a b : List ℕ) where
   -- what a refusal of one channel says
-  common_ends : {c : ℕ} (s : List ℕ) (x : Answer) → OfChannel a b c s → cut_common bw c s ≡ Refuse x
-      → (t : List ℕ) × OfChannel a b x.channel t × EndsIn bw 0 t x.place
+  common_ends : {c : ℕ} (s : List ℕ) (x : Refusal) → OfChannel a b c s → cut_common bw c s ≡ Err x
+      → (t : List ℕ) × OfChannel a b (answer_of x).channel t × EndsIn bw 0 t (answer_of x).place
   common_ends {c} s x o e =
       let r = refuse_cut_common bw c s x e in
       (s, rw r.2 o, rw r.2 (ends_in bw 0 s (omega (arith, r.1, end_none bw))))
 
-  users_ends : {c : ℕ} (s : List ℕ) (x : Answer) → OfChannel a b c s → cut_users bw c s ≡ Refuse x
-      → (t : List ℕ) × OfChannel a b x.channel t × EndsIn bw (count bw x.channel t) t x.place
+  users_ends : {c : ℕ} (s : List ℕ) (x : Refusal) → OfChannel a b c s → cut_users bw c s ≡ Err x
+      → (t : List ℕ) × OfChannel a b (answer_of x).channel t × EndsIn bw (count bw (answer_of x).channel t) t (answer_of x).place
   users_ends {c} s x o e =
       let r = refuse_cut_users bw c s x e in
       (s, rw r.2 o, rw r.2 (ends_in bw (count bw c s) s r.1))
 
   -- of a row that asks the one, then the other
-  either : {Ends : List ℕ → Type 0} (check : ℕ → List ℕ → Outcome) (x : Answer)
-      → ((c : ℕ) (s : List ℕ) → OfChannel a b c s → check c s ≡ Refuse x → (t : List ℕ) × OfChannel a b x.channel t × Ends t)
-      → check 1 a or check 2 b ≡ Refuse x → (s : List ℕ) × OfChannel a b x.channel s × Ends s
+  either : {Ends : List ℕ → Type 0} (check : ℕ → List ℕ → Outcome) (x : Refusal)
+      → ((c : ℕ) (s : List ℕ) → OfChannel a b c s → check c s ≡ Err x → (t : List ℕ) × OfChannel a b (answer_of x).channel t × Ends t)
+      → check 1 a or check 2 b ≡ Err x → (s : List ℕ) × OfChannel a b (answer_of x).channel s × Ends s
   either check x h e =
       ⊎_elim
-      (λ (p : check 1 a ≡ Refuse x). h 1 a of_1 p)
-      (λ (p : (check 1 a ≡ Pass) × (check 2 b ≡ Refuse x)). h 2 b of_2 p.1)
+      (λ (p : check 1 a ≡ Err x). h 1 a of_1 p)
+      (λ (p : (check 1 a ≡ Ok tt) × (check 2 b ≡ Err x)). h 2 b of_2 p.1)
       (or_cases (check 1 a) (check 2 b) x e)
 
-  three_ends : (x : Answer) → check3 bw a b ≡ Refuse x → (s : List ℕ) × OfChannel a b x.channel s × EndsIn bw 0 s x.place
+  three_ends : (x : Refusal) → check3 bw a b ≡ Err x → (s : List ℕ) × OfChannel a b (answer_of x).channel s × EndsIn bw 0 s (answer_of x).place
   unfolding check3
   three_ends x e = either (cut_common bw) x (λ c s o p. common_ends s x o p) e
 
-  nine_ends : (x : Answer) → check9 bw a b ≡ Refuse x
-      → (s : List ℕ) × OfChannel a b x.channel s × EndsIn bw (count bw x.channel s) s x.place
+  nine_ends : (x : Refusal) → check9 bw a b ≡ Err x
+      → (s : List ℕ) × OfChannel a b (answer_of x).channel s × EndsIn bw (count bw (answer_of x).channel s) s (answer_of x).place
   unfolding check9
   nine_ends x e = either (cut_users bw) x (λ c s o p. users_ends s x o p) e
 
   -- of an answer by the rows 1 to 11 and one more, each with its own number
   module _ (ns : List ℕ) (o : Outcome) (n : ℕ) (x : Answer) (size : length ns ≡ 12) (d : distinct ns ≡ true)
       (j : Judged ns (checks11 bw a b ++ (o ∷ [])) n x) where
-    row : (k : ℕ) → k < 12 → (get_or ns k 0 ≡ 0 → ⊥) → x.number ≡ get_or ns k 0 → Applies (checks11 bw a b ++ (o ∷ [])) k x
+    row : (k : ℕ) → k < 12 → (get_or ns k 0 ≡ 0 → ⊥) → x.number ≡ get_or ns k 0 → Answers (checks11 bw a b ++ (o ∷ [])) k x
     row k l z e =
         let r = j.refused (λ f. z (sym e ∙ f)) in
         let i = r.0 in
-        let m : i < 12 = applies_below (checks11 bw a b ++ (o ∷ [])) i x r.2.refuses in
+        let m : i < 12 = applies_below (checks11 bw a b ++ (o ∷ [])) i r.2.refusal r.2.applies.refuses in
         let q : i ≡ k = distinct_at ns d i k (omega arith) (omega arith) (sym r.1 ∙ e) in
         rw q at r.2
 
     says : get_or ns 2 0 ≡ 3 → get_or ns 8 0 ≡ 9 → SaysWhere bw a b x
     says e f = record {
-      at_3 = λ p. three_ends x (row 2 (omega arith) (λ z. omega arith) (p ∙ sym e)).refuses;
-      at_9 = λ p. nine_ends x (row 8 (omega arith) (λ z. omega arith) (p ∙ sym f)).refuses;
+      at_3 = λ p. (let w = row 2 (omega arith) (λ z. omega arith) (p ∙ sym e) in rw w.answers (three_ends w.refusal w.applies.refuses));
+      at_9 = λ p. (let w = row 8 (omega arith) (λ z. omega arith) (p ∙ sym f) in rw w.answers (nine_ends w.refusal w.applies.refuses));
     }
 
 read_rows : (bw : ℕ) (a b : List ℕ) (room n : ℕ) (x : Answer) → Judged read_numbers (read_checks bw a b room) n x → SaysWhere bw a b x
@@ -112,17 +115,17 @@ unfolding distinct absent
 list_rows bw a b room n x j = says bw a b list_numbers (check23 bw a b room) n x refl refl j refl refl
 
 -- a frame that 1 to 11 refuse: the listing's answer is the refusal
-refused_says : (bw : ℕ) (a b : List ℕ) (x : Answer) → outcome11 bw a b ≡ Refuse x → SaysWhere bw a b x
+refused_says : (bw : ℕ) (a b : List ℕ) (x : Refusal) → outcome11 bw a b ≡ Err x → SaysWhere bw a b (answer_of x)
 unfolding list_answer list_outcome
 refused_says bw a b x e =
-    let f : list_answer bw a b 0 ≡ x = rw (or_refuse (outcome11 bw a b) (check23 bw a b 0) x e) in
-    list_rows bw a b 0 (length (listing bw a b)) x (rw f at (listed.list_judged bw a b 0))
+    let f : list_answer bw a b 0 ≡ answer_of x = rw (or_refuse (outcome11 bw a b) (check23 bw a b 0) x e) in
+    list_rows bw a b 0 (length (listing bw a b)) (answer_of x) (rw f at (listed.list_judged bw a b 0))
 
-program_refuses : (c : TextCall) → Responds c → (bw : ℕ) (a b : List ℕ) (x : Answer) → said c.text ≡ frame bw a b → outcome11 bw a b ≡ Refuse x
-    → c.bytes ≤ length c.lent → take c.bytes c.after ≡ refusal_text x.number x.channel x.place
+program_refuses : (c : TextCall) → Responds c → (bw : ℕ) (a b : List ℕ) (x : Refusal) → said c.text ≡ frame bw a b → outcome11 bw a b ≡ Err x
+    → c.bytes ≤ length c.lent → take c.bytes c.after ≡ refusal_text (answer_of x).number (answer_of x).channel (answer_of x).place
 unfolding program_text frame_text
 program_refuses c (responds κs y r s p) bw a b x e h l =
-    let t = refusal_text x.number x.channel x.place in
+    let t = refusal_text (answer_of x).number (answer_of x).channel (answer_of x).place in
     let w : Wrote y.1.0.now 0 t s.1.0.now r = rw (e, h) at p in
     let n : r ≡ length t = written w in
     let f : s.1.0.now ≡ t ++ drop (length t) y.1.0.now = front (omega arith) w in
@@ -130,25 +133,29 @@ program_refuses c (responds κs y r s p) bw a b x e h l =
 
 -- ---- before and now
 
-but_if : (t : Bool) (n c p q : ℕ) → (n ≡ 3) ⊎ (n ≡ 9) → ButPlaces (refuse_if t (no n c p)) (refuse_if t (no n c q))
-but_if true n c p q h = place_moved n c p q h
-but_if false n c p q h = unchanged Pass
+common_but : (t : Bool) (c p q : ℕ) → ButPlaces (refuse_if t (CommonFieldCut c p)) (refuse_if t (CommonFieldCut c q))
+common_but true c p q = common_moved c p q
+common_but false c p q = unchanged (Ok tt)
+
+users_but : (t : Bool) (c p q : ℕ) → ButPlaces (refuse_if t (UserBlocksCut c p)) (refuse_if t (UserBlocksCut c q))
+users_but true c p q = users_moved c p q
+users_but false c p q = unchanged (Ok tt)
 
 but_or : {o p q r : Outcome} → ButPlaces o p → ButPlaces q r → ButPlaces (o or q) (p or r)
-unfolding ◌or◌
-but_or (unchanged Pass) h = h
-but_or (unchanged (Refuse x)) h = unchanged (Refuse x)
-but_or (place_moved n c p q k) h = place_moved n c p q k
+but_or (unchanged (Ok u)) h = h
+but_or (unchanged (Err x)) h = unchanged (Err x)
+but_or (common_moved c p q) h = common_moved c p q
+but_or (users_moved c p q) h = users_moved c p q
 
 common_same : (bw c : ℕ) (s : List ℕ) → ButPlaces (cut_common_before bw c s) (cut_common bw c s)
 unfolding cut_common
-common_same bw c s = but_if (present bw c && ltb (8 * length s) (common bw)) 3 c (8 * length s) (ran_out_at s (named_fields bw 0)) (inl refl)
+common_same bw c s = common_but (present bw c && ltb (8 * length s) (common bw)) c (8 * length s) (ran_out_at s (named_fields bw 0))
 
 users_same : (bw c : ℕ) (s : List ℕ) → ButPlaces (cut_users_before bw c s) (cut_users bw c s)
 unfolding cut_users
 users_same bw c s =
     let n = count bw c s in
-    but_if (ltb 0 n && ltb (8 * length s) (end_of bw n)) 9 c (8 * length s) (ran_out_at s (named_fields bw n)) (inr refl)
+    users_but (ltb 0 n && ltb (8 * length s) (end_of bw n)) c (8 * length s) (ran_out_at s (named_fields bw n))
 
 -- the rows 1 to 11 and what follows them
 module _ (bw : ℕ) (a b : List ℕ) where
@@ -189,16 +196,18 @@ module _ (bw : ℕ) (a b : List ℕ) where
 
 same_passes : {o p : Outcome} → ButPlaces o p → passes o ≡ passes p
 same_passes (unchanged q) = refl
-same_passes (place_moved m c x y h) = refl
+same_passes (common_moved c x y) = refl
+same_passes (users_moved c x y) = refl
 
 answers_same : {o p : Outcome} (n : ℕ) → ButPlaces o p → SameAnswer (answer_at o n) (answer_at p n)
 answers_same n (unchanged q) = record { same_number = refl; same_channel = refl; same_place = λ _ _. refl }
-answers_same n (place_moved m c x y h) =
-    record { same_number = refl; same_channel = refl; same_place = λ f g. absurd (⊎_elim f g h) }
+answers_same n (common_moved c x y) = record { same_number = refl; same_channel = refl; same_place = λ f g. absurd (f refl) }
+answers_same n (users_moved c x y) = record { same_number = refl; same_channel = refl; same_place = λ f g. absurd (g refl) }
 
 buffers_same : {o p : Outcome} (new old : List ℕ) → ButPlaces o p → after p new old ≡ after o new old
 buffers_same new old (unchanged q) = refl
-buffers_same new old (place_moved m c x y h) = refl
+buffers_same new old (common_moved c x y) = refl
+buffers_same new old (users_moved c x y) = refl
 
 -- a call whose answer and buffer come of p, beside o
 as_before : {o p : Outcome} (n : ℕ) (new : List ℕ) (c : Call) → ButPlaces o p → c.answer ≡ answer_at p n → c.after ≡ after p new c.lent

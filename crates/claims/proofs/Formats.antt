@@ -8,7 +8,7 @@ use lib.Dec.{leb}
 use lib.ListN.{length, get_or, drop, get_or-append}
 use borrow.Author.Tests.{le-leb, lt-leb}
 use Rattle.answer.specs.declared.Answer.{Answer}
-use Rattle.answer.specs.declared.Outcome.TheVariants.{Pass}
+use Rattle.std.specs.Prelude.{Ok}
 use Rattle.answer.proofs.Order.{pass_left, pass_right}
 use Rattle.bits.specs.Bits.{field}
 use Rattle.answer.specs.Lists.{at}
@@ -94,20 +94,20 @@ module _ (bw : ℕ) (a b : List ℕ) (l : bw ≤ 4) (o : ℕ → ℕ) (s : Signa
 -- ---- of any result that the contract of `reader::read` allows
 
 -- the frame's words stand at the front of the lent ones
-front_words : (bw : ℕ) (a b w : List ℕ) → read_outcome bw a b (length w) ≡ Pass → (k : ℕ) → k < word_count bw a b
+front_words : (bw : ℕ) (a b w : List ℕ) → read_outcome bw a b (length w) ≡ Ok tt → (k : ℕ) → k < word_count bw a b
     → at (words_after bw a b w) k ≡ at (words_of bw a b) k
 unfolding words_after
 front_words bw a b w e k h =
     rw e (get_or-append (words_of bw a b) (drop (word_count bw a b) w) 0 k (omega (arith, words_length bw a b)))
 
-the_layout : (bw : ℕ) (a b : List ℕ) → outcome11 bw a b ≡ Pass → plan_outcome (row bw a b) ≡ Pass
+the_layout : (bw : ℕ) (a b : List ℕ) → outcome11 bw a b ≡ Ok tt → plan_outcome (row bw a b) ≡ Ok tt
 the_layout bw a b e =
     pass_right (outcome6 bw a b) (plan_outcome (row bw a b)) (pass_left _ (outcome9to11 bw a b) (sym (outcome11_stages bw a b) ∙ e))
 
-pub frame_words : (bw : ℕ) (a b w : List ℕ) → read_outcome bw a b (length w) ≡ Pass → UserWords bw a b (words_after bw a b w)
+pub frame_words : (bw : ℕ) (a b w : List ℕ) → read_outcome bw a b (length w) ≡ Ok tt → UserWords bw a b (words_after bw a b w)
 frame_words bw a b w e =
     let r = row bw a b in
-    let f : outcome11 bw a b ≡ Pass = pass_left _ (check12 bw a b (length w)) (sym (read_outcome_stages bw a b (length w)) ∙ e) in
+    let f : outcome11 bw a b ≡ Ok tt = pass_left _ (check12 bw a b (length w)) (sym (read_outcome_stages bw a b (length w)) ∙ e) in
     record {
       a_plan = accepted_plan r (subst (Laid r) (the_layout bw a b f) (outcome_laid r));
       each_plan = λ o s.

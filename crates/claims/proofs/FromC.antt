@@ -11,8 +11,8 @@ use lib.Seq.{take-append_seam, drop-append_seam}
 use borrow.Author.Tests.{le-ltb, eqb-true, eqb-false}
 use Rattle.answer.specs.Answer.{no, ◌or◌}
 use Rattle.answer.specs.declared.Answer.{Answer}
-use Rattle.answer.specs.declared.Outcome.{Outcome}
-use Rattle.answer.specs.declared.Outcome.TheVariants.{Pass, Refuse}
+use Rattle.answer.specs.Answer.{Outcome}
+use Rattle.std.specs.Prelude.{Ok, Err}
 use Rattle.bits.specs.Bits.{Small}
 use Rattle.word_bytes.specs.Bytes.{words_in, bytes_in}
 use Rattle.word_bytes.proofs.Inverse.{inverse}
@@ -182,8 +182,8 @@ second_from_c = record {
 
 -- ---- the listing
 module _ (bw : ℕ) (a b : List ℕ) where
-  list_room : (room : ℕ) → outcome11 bw a b ≡ Pass → longest_at bw ≤ room → (list_answer bw a b room).number ≡ 0
-  unfolding list_answer list_outcome check23 ◌or◌
+  list_room : (room : ℕ) → outcome11 bw a b ≡ Ok tt → longest_at bw ≤ room → (list_answer bw a b room).number ≡ 0
+  unfolding list_answer list_outcome check23
   list_room room e l = rw (e, le-ltb room (length (listing bw a b)) (omega (arith, listing_within bw a b e)))
 
 lists_are : (c : Call) → AnyLists c
@@ -220,8 +220,8 @@ never_23 c h l z = go (outcome11 bw a b) refl
     b = c.channel_2
 
     go : (o : Outcome) → outcome11 bw a b ≡ o → ⊥
-    go Pass e = omega (arith, z, list_number c h, list_room bw a b (length c.lent) e l)
-    go (Refuse x) e =
+    go (Ok u) e = omega (arith, z, list_number c h, list_room bw a b (length c.lent) e l)
+    go (Err x) e =
         omega (arith, z, ap (λ (y : Answer). y.number) ((lists_are c h).0 ∙ list_refuses bw a b (length c.lent) x e), (of_table bw a b x e).1)
 
 pub listing_written : ListingWritten
@@ -254,22 +254,22 @@ list_layout bw r a b room h = go (outcome11 bw a b) refl
     f = for_layout bw r a b 154 h
 
     go : (o : Outcome) → outcome11 bw a b ≡ o → ForLayout r (list_answer bw a b room)
-    go (Refuse x) e = subst (ForLayout r) (read_refuses bw a b x e ∙ sym (list_refuses bw a b room x e)) f
-    go Pass e =
+    go (Err x) e = subst (ForLayout r) (read_refuses bw a b x e ∙ sym (list_refuses bw a b room x e)) f
+    go (Ok u) e =
         let z = read_accepts bw a b e in
         let y = list_accepts bw a b room e in
         another r (read_answer bw a b 154) (list_answer bw a b room) f (λ n. omega arith) (λ n. omega arith)
         (λ n. ⊎_elim (λ p. omega (arith, n, p)) (λ p. omega (arith, n, p)) y)
         (λ n. ⊎_elim (λ p. omega (arith, n, p)) (λ p. omega (arith, n, p)) y)
 
-accepts : (bw : ℕ) (x y : List ℕ) → outcome11 bw x y ≡ Pass → CReadAccepts bw x y
+accepts : (bw : ℕ) (x y : List ℕ) → outcome11 bw x y ≡ Ok tt → CReadAccepts bw x y
 accepts bw x y e c h f g i l =
     let w : ReadsTo bw x y (words_of bw x y) = record { accepted = e; the_words = refl } in
     let n : length (words_of bw x y) ≤ length c.lent / 4 = omega (arith, words_length bw x y, word_count_le bw x y) in
     let p = read_place bw x y (length c.lent / 4) (reads_pass bw x y (words_of bw x y) (length c.lent / 4) w n) in
     ap (λ (v : Answer). v.number) (rw (f, g, i) at (equations c h).0 ∙ p)
 
-list_accepts_it : (bw : ℕ) (x y : List ℕ) → outcome11 bw x y ≡ Pass → ListAccepts bw x y
+list_accepts_it : (bw : ℕ) (x y : List ℕ) → outcome11 bw x y ≡ Ok tt → ListAccepts bw x y
 list_accepts_it bw x y e c h f g i l = list_number c h ∙ rw (f, g, i) (list_room bw x y (length c.lent) e l)
 
 pub third_from_c : (b : ℕ) (row : List ℕ) → ThirdFromC b row

@@ -10,10 +10,11 @@ use borrow.Author.Tests.{eq-eqb, eqb-true, ne_eqb, le-ltb}
 use Rattle.answer.specs.Answer.{no, refuse_if, ◌or◌, answer_at, after}
 use Rattle.answer.specs.Lists.{filled}
 use Rattle.answer.specs.declared.Answer.{Answer}
-use Rattle.answer.specs.declared.Outcome.{Outcome}
-use Rattle.answer.specs.declared.Outcome.TheVariants.{Pass, Refuse}
+use Rattle.answer.specs.Answer.{Outcome}
+use Rattle.std.specs.Prelude.{Ok, Err}
 use Rattle.answer.proofs.Lists.{length_build, take_filled, drop_filled}
 use Rattle.answer.proofs.Order.{pass_left, after_passed}
+use Rattle.answer.specs.declared.Refusal.TheVariants.{UnknownBandwidth, NoFrameReads}
 use Rattle.bits.specs.Bits.{Small}
 use Rattle.word_bytes.specs.Bytes.{byte_at, word_at, words_in, bytes_in}
 use Rattle.word_bytes.proofs.Inverse.{inverse, words_filled}
@@ -51,13 +52,13 @@ module _ (bw : ℕ) (a b t : List ℕ) where
     where
       go : (o : Outcome) → read_outcome bw a b (length t / 4) ≡ o
           → words_in (after o (filled (byte_at ws) (4 * length ws) t) t) ≡ after o (ws ++ drop (length ws) (words_in t)) (words_in t)
-      go Pass e =
+      go (Ok u) e =
           words_filled ws t (words_below bw a b) (omega (arith, words_length bw a b, (read_outcome_pass bw a b (length t / 4) e).room_enough))
-      go (Refuse x) e = refl
+      go (Err x) e = refl
 
   -- accepted
   module _ (z : (bytes_read_answer bw a b t).number ≡ 0) where
-    passed : read_outcome bw a b (length t / 4) ≡ Pass
+    passed : read_outcome bw a b (length t / 4) ≡ Ok tt
     passed = accepted_exactly bw a b (length t / 4) z
 
     pub place_in_words : bytes_read_answer bw a b t ≡ no 0 0 (length ws)
@@ -82,7 +83,7 @@ module _ (bw : ℕ) (a b t : List ℕ) where
         ∙ drop_filled (byte_at ws) (4 * length ws) t
         ∙ ap (λ (x : Answer). drop (4 * x.place) t) (sym place_in_words)
 
-    pub is_accepted : outcome11 bw a b ≡ Pass
+    pub is_accepted : outcome11 bw a b ≡ Ok tt
     is_accepted = pass_left (outcome11 bw a b) (check12 bw a b (length t / 4)) (sym (read_outcome_stages bw a b (length t / 4)) ∙ passed)
 
 -- ---- bytes that are read to, and words that are read to
@@ -109,24 +110,26 @@ module _ (bw : ℕ) (a b : List ℕ) where
 -- ---- a text of words, n and m bytes lent for the channels
 module _ (bw : ℕ) (t : List ℕ) (n m : ℕ) where
   pub whole_words : length t % 4 ≡ 0 → bytes_outcome bw t n m ≡ write_outcome bw (words_in t) n m
-  unfolding bytes_outcome write_outcome ragged ◌or◌
+  unfolding bytes_outcome write_outcome ragged
   whole_words e = rw (eq-eqb (length t % 4) 0 e) (go (check1 bw))
     where
-      go : (o : Outcome) → o or Pass or (o or check13 bw (words_in t) or check14 bw (words_in t) n m) ≡ o or check13 bw (words_in t) or check14 bw (words_in t)
+      go : (o : Outcome)
+          → o or (Ok tt) or (o or check13 bw (words_in t) or check14 bw (words_in t) n m) ≡ o or check13 bw (words_in t) or check14 bw (words_in t)
           n m
-      go Pass = refl
-      go (Refuse x) = refl
+      go (Ok u) = refl
+      go (Err x) = refl
 
   pub no_whole_words : bw ≤ 4 → (length t % 4 ≡ 0 → ⊥) → bytes_write_answer bw t n m ≡ no 13 0 0
-  unfolding bytes_write_answer bytes_outcome check1 ragged ◌or◌
+  unfolding bytes_write_answer bytes_outcome check1 ragged
   no_whole_words l h = rw (le-ltb 4 bw l, ne_eqb (length t % 4) 0 h)
 
   pub accepted_whole : (bytes_write_answer bw t n m).number ≡ 0 → length t % 4 ≡ 0
-  unfolding bytes_write_answer bytes_outcome check1 ragged ◌or◌
+  unfolding bytes_write_answer bytes_outcome check1 ragged
   accepted_whole z = go (ltb 4 bw) (eqb (length t % 4) 0) refl z
     where
       go : (p q : Bool) → eqb (length t % 4) 0 ≡ q
-          → (answer_at (refuse_if p (no 1 0 0) or refuse_if (not q) (no 13 0 0) or write_outcome bw (words_in t) n m) (the_bytes bw (words_in t))).number ≡ 0
+          → (answer_at (refuse_if p UnknownBandwidth or refuse_if (not q) NoFrameReads or write_outcome bw (words_in t) n m) (the_bytes bw
+          (words_in t))).number ≡ 0
           → length t % 4 ≡ 0
       go p true e z = eqb-true (length t % 4) 0 e
       go true false e z = absurd (omega arith)

@@ -9,10 +9,12 @@ use lib.Dec.{leb, leb→le}
 use lib.ListN.{length, get_or, drop}
 use borrow.Author.Tests.{le-ltb}
 use Rattle.answer.specs.declared.Answer.{Answer}
-use Rattle.answer.specs.declared.Outcome.{Outcome}
-use Rattle.answer.specs.declared.Outcome.TheVariants.{Pass, Refuse}
+use Rattle.answer.specs.Answer.{Outcome}
+use Rattle.std.specs.Prelude.{Ok, Err}
 use Rattle.answer.proofs.First.{applies_below}
 use Rattle.answer.proofs.Order.{pass_left, pass_not_refuse, if_pass}
+use Rattle.answer.specs.declared.Refusal.{Refusal}
+use Rattle.answer.specs.Answer.{answer_of}
 use Rattle.resource.proofs.Test.{every_below}
 use Rattle.halves.specs.Table.{outcome11}
 use Rattle.frame_words.specs.Words.{word_count}
@@ -35,32 +37,33 @@ use Rattle.claims.specs.Program.{Program}
 use Rattle.claims.proofs.Compared.{compares_say}
 
 -- ---- a refusal by 1 to 11
-module _ (bw : ℕ) (a b : List ℕ) (x : Answer) (e : outcome11 bw a b ≡ Refuse x) where
-  refusal : read_answer bw a b 154 ≡ x
+module _ (bw : ℕ) (a b : List ℕ) (x : Refusal) (e : outcome11 bw a b ≡ Err x) where
+  refusal : read_answer bw a b 154 ≡ answer_of x
   refusal = read_refuses bw a b x e
 
-  no_0 : x.number ≡ 0 → ⊥
+  no_0 : (answer_of x).number ≡ 0 → ⊥
   no_0 z =
       let p = reading.accepted_exactly bw a b 154 (ap (λ (y : Answer). y.number) refusal ∙ z) in
       pass_not_refuse (pass_left (outcome11 bw a b) (check12 bw a b 154) (sym (read_outcome_stages bw a b 154) ∙ p)) e
 
   -- 154 words are room enough
-  no_12 : check12 bw a b 154 ≡ Pass
+  no_12 : check12 bw a b 154 ≡ Ok tt
   unfolding check12 no_room
   no_12 = if_pass _ _ (le-ltb 154 (word_count bw a b) (word_count_le bw a b))
 
-  pub of_table : (1 ≤ x.number) × (x.number ≤ 11)
+  pub of_table : (1 ≤ (answer_of x).number) × ((answer_of x).number ≤ 11)
   of_table =
       let j = rw refusal at (reading.read_judged bw a b 154) in
       let r = j.refused no_0 in
       let k = r.0 in
-      let m : k < 12 = applies_below (read_checks bw a b 154) k x r.2.refuses in
-      go k m r.1 r.2.refuses
+      let m : k < 12 = applies_below (read_checks bw a b 154) k r.2.refusal r.2.applies.refuses in
+      go k m r.1 r.2.refusal r.2.applies.refuses
     where
-      go : (k : ℕ) → k < 12 → x.number ≡ get_or read_numbers k 0 → get_or (read_checks bw a b 154) k Pass ≡ Refuse x → (1 ≤ x.number) × (x.number ≤ 11)
-      go k m n f = last (dec_lt k 11)
+      go : (k : ℕ) → k < 12 → (answer_of x).number ≡ get_or read_numbers k 0 → (y : Refusal) → get_or (read_checks bw a b 154) k (Ok tt) ≡ Err y
+          → (1 ≤ (answer_of x).number) × ((answer_of x).number ≤ 11)
+      go k m n y f = last (dec_lt k 11)
         where
-          last : Dec (k < 11) → (1 ≤ x.number) × (x.number ≤ 11)
+          last : Dec (k < 11) → (1 ≤ (answer_of x).number) × ((answer_of x).number ≤ 11)
           last (yes l) =
               let u = leb→le 1 (get_or read_numbers k 0) (every_below (λ i. leb 1 (get_or read_numbers i 0)) 11 tt k l) in
               let v = leb→le (get_or read_numbers k 0) 11 (every_below (λ i. leb (get_or read_numbers i 0) 11) 11 tt k l) in
@@ -69,8 +72,8 @@ module _ (bw : ℕ) (a b : List ℕ) (x : Answer) (e : outcome11 bw a b ≡ Refu
 
 -- ---- what a text gets
 abbrev by_outcome : ℕ → List ℕ → List ℕ → Outcome → Response
-by_outcome bw a b Pass = says_listing bw a b
-by_outcome bw a b (Refuse x) = says_refusal x
+by_outcome bw a b (Ok u) = says_listing bw a b
+by_outcome bw a b (Err x) = says_refusal (answer_of x)
 
 abbrev response : Said → Response
 response (wrong k) = says_22 k
@@ -80,8 +83,8 @@ gets : (s : List ℕ) → Gets s (response (said s))
 gets s = go (said s) refl
   where
     by : (bw : ℕ) (a b : List ℕ) → TextOf s bw a b → (o : Outcome) → outcome11 bw a b ≡ o → Gets s (by_outcome bw a b o)
-    by bw a b t Pass e = gets_listing bw a b t e
-    by bw a b t (Refuse x) e = gets_refusal bw a b x t e
+    by bw a b t (Ok u) e = gets_listing bw a b t e
+    by bw a b t (Err x) e = gets_refusal bw a b x t e
 
     go : (x : Said) → said s ≡ x → Gets s (response x)
     go (wrong k) e = gets_22 k ((worked s).is_wrong k e)
@@ -139,11 +142,11 @@ the_frame s bw a b o c r t e =
 
 as_read : (s : List ℕ) (c : Call) → Reading s c → (x : Answer) → Gets s (says_refusal x) → (c.answer ≡ x) × (1 ≤ x.number) × (x.number ≤ 11)
 as_read s c r x (gets_refusal bw a b y t e) =
-    (compares_say.its_answer c r.is_read y (the_frame s bw a b (Refuse y) c r t e), (of_table bw a b y e).0, (of_table bw a b y e).1)
+    (compares_say.its_answer c r.is_read y (the_frame s bw a b (Err y) c r t e), (of_table bw a b y e).0, (of_table bw a b y e).1)
 
 or_read : (s : List ℕ) (c : Call) → Reading s c → (bw : ℕ) (a b : List ℕ) → Gets s (says_listing bw a b)
     → (c.answer.number ≡ 0) ⊎ (c.answer.number ≡ 12)
-or_read s c r bw a b (gets_listing bw' a' b' t e) = compares_say.is_read c r.is_read (the_frame s bw' a' b' Pass c r t e)
+or_read s c r bw a b (gets_listing bw' a' b' t e) = compares_say.is_read c r.is_read (the_frame s bw' a' b' (Ok tt) c r t e)
 
 agreed : (c c' : TextCall) → Responds c → Responds c' → c.text ≡ c'.text → c.lent ≡ c'.lent → (c.bytes ≡ c'.bytes) × (c.after ≡ c'.after)
 agreed c c' h h' e f =

@@ -12,11 +12,12 @@ use Rattle.answer.specs.Answer.{no, ◌or◌, answer_at}
 use Rattle.answer.specs.Every.{every}
 use Rattle.answer.specs.Lists.{at, filled}
 use Rattle.answer.specs.declared.Answer.{Answer}
-use Rattle.answer.specs.declared.Outcome.{Outcome}
-use Rattle.answer.specs.declared.Outcome.TheVariants.{Pass, Refuse}
+use Rattle.answer.specs.Answer.{Outcome}
+use Rattle.std.specs.Prelude.{Ok, Err}
 use Rattle.answer.proofs.Every.{every_at, some_fails}
 use Rattle.answer.proofs.Lists.{get_d_build, get_d_filled, drop_filled}
 use Rattle.answer.proofs.Order.{pass_or_refuse, pass_left}
+use Rattle.answer.specs.declared.Refusal.{Refusal}
 use Rattle.kinds.specs.Signals.{Signals}
 use Rattle.records.specs.declared.Record.{Record}
 use Rattle.records.specs.Records.{records_of}
@@ -100,7 +101,7 @@ in_order c c' h h' z z' e l =
 
 -- ---- 21
 is_21 : (users number n : ℕ) → not2to8 users || leb (length (the_rows users)) number ≡ true → row_answer users number n ≡ no 21 0 0
-unfolding row_answer row_outcome no_row ◌or◌
+unfolding row_answer row_outcome no_row
 is_21 users number n e = rw e
 
 refused_row : (c : RowCall) → PutsRow c
@@ -186,7 +187,7 @@ named_none x f n =
     )
 
 -- ---- a field of a frame by its resource, in any plan that signals the row
-module _ (bw : ℕ) (a b : List ℕ) (e : outcome11 bw a b ≡ Pass) (o : ℕ → ℕ) (s : Signals o (at (row bw a b)) 0 (length (row bw a b))) where
+module _ (bw : ℕ) (a b : List ℕ) (e : outcome11 bw a b ≡ Ok tt) (o : ℕ → ℕ) (s : Signals o (at (row bw a b)) 0 (length (row bw a b))) where
   abbrev r : List ℕ
   r = row bw a b
 
@@ -251,10 +252,10 @@ module _ (c : Call) (h : GivesStreams c) where
   b = c.channel_2
 
   module _ (z : c.answer.number ≡ 0) where
-    every_row_passes : streams_outcome bw a b (length c.lent) ≡ Pass
+    every_row_passes : streams_outcome bw a b (length c.lent) ≡ Ok tt
     every_row_passes = judged.accepted_exactly bw a b (length c.lent) (same_number (streams_give c h).0 z)
 
-    reading_passes : outcome11 bw a b ≡ Pass
+    reading_passes : outcome11 bw a b ≡ Ok tt
     reading_passes = (judged.passed bw a b (length c.lent) every_row_passes).0
 
     all_named : every (named_at bw a b) (fields bw a b) ≡ true
@@ -303,7 +304,7 @@ read_answers d (reads κs a r s p) = p.0
 
 module _ (c d : Call) (h : GivesStreams c) (k : Reads d) (m : SameChannels c d) where
   -- the reading's outcome is that of 1 to 11
-  accepted_11 : d.answer.number ≡ 0 → outcome11 c.bandwidth c.channel_1 c.channel_2 ≡ Pass
+  accepted_11 : d.answer.number ≡ 0 → outcome11 c.bandwidth c.channel_1 c.channel_2 ≡ Ok tt
   accepted_11 z =
       rw (m.bandwidths, m.channels_1, m.channels_2)
       (pass_left _ (check12 d.bandwidth d.channel_1 d.channel_2 (length d.lent))
@@ -322,8 +323,8 @@ module _ (c d : Call) (h : GivesStreams c) (k : Reads d) (m : SameChannels c d) 
           read_answers d k
           ∙ rw (m.bandwidths, m.channels_1, m.channels_2, read_outcome_lem d.bandwidth d.channel_1 d.channel_2 (length d.lent) l)
 
-      go : (outcome11 c.bandwidth c.channel_1 c.channel_2 ≡ Pass)
-          ⊎ ((y : Answer) × (outcome11 c.bandwidth c.channel_1 c.channel_2 ≡ Refuse y)) → c.answer ≡ d.answer
+      go : (outcome11 c.bandwidth c.channel_1 c.channel_2 ≡ Ok tt)
+          ⊎ ((y : Refusal) × (outcome11 c.bandwidth c.channel_1 c.channel_2 ≡ Err y)) → c.answer ≡ d.answer
       go (inl p) = absurd (n (ap (λ (x : Answer). x.number) (answered ∙ ap (λ (x : Outcome). answer_at x words) p)))
       go (inr (y, q)) =
           (streams_give c h).0

@@ -9,7 +9,8 @@ use lib.ListN.{length, set}
 use Rattle.answer.specs.Answer.{no}
 use Rattle.answer.specs.Least.{least}
 use Rattle.answer.specs.Lists.{at}
-use Rattle.answer.specs.declared.Outcome.TheVariants.{Refuse}
+use Rattle.answer.specs.declared.Refusal.TheVariants.{NoPlan}
+use Rattle.std.specs.Prelude.{Err}
 use Rattle.resource.specs.Values.{carried, pieces, fields_of, smaller_at}
 use Rattle.kinds.specs.Kinds.{kinds, kind_at, family, span, mask, takes, takes_block, blank_at, must_name}
 use Rattle.kinds.specs.Signals.{Place, Signals}
@@ -69,7 +70,7 @@ module _ (v : ℕ) (e : swept_at 1 v ≡ true) where
   not_held (n, inr (inl f), w) = none (subst (λ (n : ℕ). PartPlan instead n (0 / n)) f w)
   not_held (n, inr (inr f), w) = none (subst (λ (n : ℕ). PartPlan instead n (0 / n)) f w)
 
-  is_7 : Laid instead (Refuse (no 7 0 0))
+  is_7 : Laid instead (Err (NoPlan 0))
   is_7 = no_plan 0 (omega arith) not_held (λ t l. absurd (omega arith))
 
   gets_7 : (c : Call) → Reads c → Carries c instead → c.answer ≡ no 7 0 0

@@ -10,9 +10,10 @@ use lib.Seq.{take-append_seam, drop-append_seam}
 use borrow.Author.Tests.{le-ltb}
 use Rattle.answer.specs.Answer.{no}
 use Rattle.answer.specs.Order.{first_of, Judged}
-use Rattle.answer.specs.declared.Outcome.TheVariants.{Pass}
+use Rattle.std.specs.Prelude.{Ok}
 use Rattle.answer.proofs.Numbers.{Gives, none, more, only_if, distinct, absent, judged, zero_pass}
 use Rattle.answer.proofs.Order.{or_end, after_kept}
+use Rattle.answer.specs.declared.Refusal.TheVariants.{BufferTooShort}
 use Rattle.compared.specs.Differences.{Difference}
 use Rattle.compared.specs.Text.{side_text, difference_line, difference_lines, room_outcome, text_answer, text_after}
 
@@ -24,7 +25,7 @@ module _ (t : List ℕ) (n : ℕ) where
 
   only_23 : Gives (23 ∷ []) (room_outcome (length t) n ∷ [])
   unfolding room_outcome
-  only_23 = more (only_if (ltb n (length t)) 23 0 (length t)) none
+  only_23 = more (only_if (ltb n (length t)) (BufferTooShort (length t))) none
 
   numbers_distinct : distinct (0 ∷ 23 ∷ []) ≡ true
   unfolding distinct absent
@@ -34,7 +35,7 @@ module _ (t : List ℕ) (n : ℕ) where
   unfolding text_answer
   text_judged = rw one_row at (judged only_23 numbers_distinct (length t))
 
-  pub accepted_room : (text_answer t n).number ≡ 0 → room_outcome (length t) n ≡ Pass
+  pub accepted_room : (text_answer t n).number ≡ 0 → room_outcome (length t) n ≡ Ok tt
   unfolding text_answer
   accepted_room = rw one_row at (zero_pass only_23 numbers_distinct (length t))
 

@@ -5,7 +5,7 @@ use mathlib.Core.List.{List}
 use Prim.Native.Nat.{ℕ, ◌^◌, ◌≤◌, ◌<◌}
 use native.Mathlib.Omega.{arith}
 use lib.ListN.{length}
-use Rattle.answer.specs.declared.Outcome.TheVariants.{Pass}
+use Rattle.std.specs.Prelude.{Ok}
 use Rattle.answer.specs.Lists.{at}
 use Rattle.kinds.specs.Signals.{Signals}
 use Rattle.plan.specs.Answers.{Laid, accepted}
@@ -28,7 +28,7 @@ use Rattle.claims.specs.Third.{Apart, NotPunctured, RightTones, Third}
 -- for every bandwidth code b, 0 to 4, and every row of the number of values that it needs
 pub third_demand : (b : ℕ) (row : List ℕ) → b ≤ 4 → length row ≡ 2 ^ b → Third b row
 third_demand b row l e = record {
-  is_accepted = λ x w p. laid_same row x Pass w (accepted p);
+  is_accepted = λ x w p. laid_same row x (Ok tt) w (accepted p);
   has_plan = λ x w q. accepted_plan row (subst (Laid row) q w);
   only_that = λ o o' s t. (one_plan row o o' s t, same_records o o' (at row) (length row) (one_plan row o o' s t));
   refused_otherwise = λ x w n. ⊎_elim (λ q. absurd (n (accepted_plan row (subst (Laid row) q w)))) (λ r. r) (refused_layout row x w);

@@ -6,7 +6,7 @@ use native.Mathlib.Omega.{arith}
 use lib.ListN.{length, take, drop}
 use lib.Seq.{take-append_seam}
 use Rattle.answer.specs.declared.Answer.{Answer}
-use Rattle.answer.specs.declared.Outcome.TheVariants.{Pass}
+use Rattle.std.specs.Prelude.{Ok}
 use Rattle.answer.proofs.Order.{pass_left}
 use Rattle.halves.specs.Table.{outcome11}
 use Rattle.text.specs.Text.{Wrote}
@@ -21,7 +21,7 @@ use Rattle.claims.specs.Calls.{Call, TextCall, Lists, lists, CLists, c_lists, Re
 use Rattle.claims.specs.Unassigned.{Listed, Unassigned}
 
 -- the listing of a frame that passes 1 to 11
-listing_says : (bw : ℕ) (a b : List ℕ) → outcome11 bw a b ≡ Pass → Listed bw a b (listing bw a b)
+listing_says : (bw : ℕ) (a b : List ℕ) → outcome11 bw a b ≡ Ok tt → Listed bw a b (listing bw a b)
 unfolding listing listing_of head_text ru_lines sta_lines
 listing_says bw a b h =
     record { lines = refl; counted = counted bw a b h; station = λ i l. station bw a b h i (omega (arith, fields_words bw a b)) }
@@ -33,7 +33,7 @@ unfolding list_outcome
 says bw a b d x e p q z =
     let n : (list_answer bw a b (length d)).number ≡ 0 = ap (λ (y : Answer). y.number) (sym p) ∙ z in
     let o = accepted_exactly bw a b (length d) n in
-    let h : outcome11 bw a b ≡ Pass = pass_left (outcome11 bw a b) (check23 bw a b (length d)) o in
+    let h : outcome11 bw a b ≡ Ok tt = pass_left (outcome11 bw a b) (check23 bw a b (length d)) o in
     rw (p, q, list_text bw a b d o) (listing_says bw a b h)
 
 list_says : (c : Call) → Lists c → c.answer.number ≡ 0 → Listed c.bandwidth c.channel_1 c.channel_2 (take c.answer.place c.after)
@@ -42,7 +42,7 @@ list_says c (lists κs a r s p) = says a.0 a.1.0.now a.1.1.0.now a.1.1.1.0.now r
 c_list_says : (c : Call) → CLists c → c.answer.number ≡ 0 → Listed c.bandwidth c.channel_1 c.channel_2 (take c.answer.place c.after)
 c_list_says c (c_lists κs a r s p) = says a.0 a.1.0.now a.1.1.0.now a.1.1.1.0.now r s.1.1.1.0.now p.0 p.1
 
-program_says : (c : TextCall) → Responds c → (bw : ℕ) (a b : List ℕ) → said c.text ≡ frame bw a b → outcome11 bw a b ≡ Pass
+program_says : (c : TextCall) → Responds c → (bw : ℕ) (a b : List ℕ) → said c.text ≡ frame bw a b → outcome11 bw a b ≡ Ok tt
     → c.bytes ≤ length c.lent → Listed bw a b (take c.bytes c.after)
 unfolding program_text frame_text
 program_says c (responds κs x r s p) bw a b e h l =

@@ -8,7 +8,9 @@ use Rattle.std.specs.Prelude.{◌≡◌, ◌⊎◌, List, [], ◌∷◌, ◌++�
 use Rattle.answer.specs.Answer.{no}
 use Rattle.answer.specs.Order.{Judged}
 use Rattle.answer.specs.declared.Answer.{Answer}
-use Rattle.answer.specs.declared.Outcome.TheVariants.{Pass, Refuse}
+use Rattle.answer.specs.declared.Refusal.{Refusal}
+use Rattle.answer.specs.Answer.{answer_of}
+use Rattle.std.specs.Prelude.{Ok, Err}
 use Rattle.channel.specs.Layout.{row}
 use Rattle.halves.specs.Table.{outcome11}
 use Rattle.frame_words.specs.Words.{words_of, SameFrame}
@@ -31,27 +33,27 @@ use Rattle.claims.specs.Calls.{Call, TextCall, CompareCall, Reads, Compares, Com
 -- what the list of them is
 pub record Compared (bw : ℕ) (a b : List ℕ) (bw' : ℕ) (a' b' : List ℕ) (ds : List Difference) : Type 0 where
   -- "the exact differences out": each is true of its frame and not of the other, and every difference is there
-  pub are_differences : outcome11 bw a b ≡ Pass → outcome11 bw' a' b' ≡ Pass → ds ≡ differences (reading_of bw a b) (reading_of bw' a' b')
+  pub are_differences : outcome11 bw a b ≡ Ok tt → outcome11 bw' a' b' ≡ Ok tt → ds ≡ differences (reading_of bw a b) (reading_of bw' a' b')
   pub exact : Exact (reading_of bw a b) (reading_of bw' a' b')
   pub once : Once ds
   -- "in that order, and inside each in listing order, first frame's side first"
   pub in_order : InOrder (reading_of bw a b) (reading_of bw' a' b') ds
   -- "a differing bandwidth, and then nothing more"
-  pub other_bandwidth : outcome11 bw a b ≡ Pass → outcome11 bw' a' b' ≡ Pass → (bw ≡ bw' → ⊥)
+  pub other_bandwidth : outcome11 bw a b ≡ Ok tt → outcome11 bw' a' b' ≡ Ok tt → (bw ≡ bw' → ⊥)
       → ds ≡ by 1 (bandwidth_is bw) ∷ by 2 (bandwidth_is bw') ∷ []
   -- "If one or both are refused, say which and its answer, first frame first, and compare nothing."
-  pub first_refused : (x : Answer) → outcome11 bw a b ≡ Refuse x → outcome11 bw' a' b' ≡ Pass → ds ≡ by 1 (refused_with x) ∷ []
-  pub second_refused : (y : Answer) → outcome11 bw a b ≡ Pass → outcome11 bw' a' b' ≡ Refuse y → ds ≡ by 2 (refused_with y) ∷ []
-  pub both_refused : (x y : Answer) → outcome11 bw a b ≡ Refuse x → outcome11 bw' a' b' ≡ Refuse y
-      → ds ≡ by 1 (refused_with x) ∷ by 2 (refused_with y) ∷ []
+  pub first_refused : (x : Refusal) → outcome11 bw a b ≡ Err x → outcome11 bw' a' b' ≡ Ok tt → ds ≡ by 1 (refused_with (answer_of x)) ∷ []
+  pub second_refused : (y : Refusal) → outcome11 bw a b ≡ Ok tt → outcome11 bw' a' b' ≡ Err y → ds ≡ by 2 (refused_with (answer_of y)) ∷ []
+  pub both_refused : (x y : Refusal) → outcome11 bw a b ≡ Err x → outcome11 bw' a' b' ≡ Err y
+      → ds ≡ by 1 (refused_with (answer_of x)) ∷ by 2 (refused_with (answer_of y)) ∷ []
   -- the other way round: the same lines with 1 and 2 exchanged, each frame's in the same order
   pub exchanged_1 : lines_of 1 (comparison bw' a' b' bw a b) ≡ map exchange (lines_of 2 ds)
   pub exchanged_2 : lines_of 2 (comparison bw' a' b' bw a b) ≡ map exchange (lines_of 1 ds)
 
 -- "equal readings": the same bandwidth and the same words
 pub record SameReading (bw : ℕ) (a b : List ℕ) (bw' : ℕ) (a' b' : List ℕ) : Type 0 where
-  pub accepted_1 : outcome11 bw a b ≡ Pass
-  pub accepted_2 : outcome11 bw' a' b' ≡ Pass
+  pub accepted_1 : outcome11 bw a b ≡ Ok tt
+  pub accepted_2 : outcome11 bw' a' b' ≡ Ok tt
   pub one_bandwidth : bw ≡ bw'
   pub one_reading : words_of bw a b ≡ words_of bw' a' b'
 
@@ -63,10 +65,10 @@ abbrev pub lines_in : CompareCall → List ℕ
 lines_in c = difference_lines (length (row c.bandwidth_1 c.first_1 c.first_2)) (list_of c)
 
 abbrev pub Accepted1 : CompareCall → Type 0
-Accepted1 c = outcome11 c.bandwidth_1 c.first_1 c.first_2 ≡ Pass
+Accepted1 c = outcome11 c.bandwidth_1 c.first_1 c.first_2 ≡ Ok tt
 
 abbrev pub Accepted2 : CompareCall → Type 0
-Accepted2 c = outcome11 c.bandwidth_2 c.second_1 c.second_2 ≡ Pass
+Accepted2 c = outcome11 c.bandwidth_2 c.second_1 c.second_2 ≡ Ok tt
 
 abbrev pub EqualReadings : CompareCall → Type 0
 EqualReadings c = SameReading c.bandwidth_1 c.first_1 c.first_2 c.bandwidth_2 c.second_1 c.second_2
@@ -113,8 +115,8 @@ pub record ComparesSay : Type 0 where
       → drop c.answer.place c.after ≡ drop c.answer.place c.lent
   pub compared : (bw : ℕ) (a b : List ℕ) (bw' : ℕ) (a' b' : List ℕ) → Compared bw a b bw' a' b' (comparison bw a b bw' a' b')
   -- "its answer": a frame is refused with what reading it answers, and one that is not is read, where there is room for its words
-  pub its_answer : (c : Call) → Reads c → (x : Answer) → outcome11 c.bandwidth c.channel_1 c.channel_2 ≡ Refuse x → c.answer ≡ x
-  pub is_read : (c : Call) → Reads c → outcome11 c.bandwidth c.channel_1 c.channel_2 ≡ Pass
+  pub its_answer : (c : Call) → Reads c → (x : Refusal) → outcome11 c.bandwidth c.channel_1 c.channel_2 ≡ Err x → c.answer ≡ answer_of x
+  pub is_read : (c : Call) → Reads c → outcome11 c.bandwidth c.channel_1 c.channel_2 ≡ Ok tt
       → (c.answer.number ≡ 0) ⊎ (c.answer.number ≡ 12)
   -- "Equal readings give no line, and no line means equal readings; padding doesn't count."
   pub equal_silent : (c : CompareCall) → Compares c → EqualReadings c → c.answer ≡ no 0 0 0

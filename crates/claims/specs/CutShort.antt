@@ -9,8 +9,11 @@ use Rattle.answer.specs.Answer.{no, refuse_if, ◌or◌, answer_at, after, passe
 use Rattle.answer.specs.Lists.{filled}
 use Rattle.answer.specs.Order.{first_of}
 use Rattle.answer.specs.declared.Answer.{Answer}
-use Rattle.answer.specs.declared.Outcome.{Outcome}
-use Rattle.answer.specs.declared.Outcome.TheVariants.{Refuse}
+use Rattle.answer.specs.Answer.{Outcome}
+use Rattle.answer.specs.declared.Refusal.TheVariants.{CommonFieldCut, UserBlocksCut}
+use Rattle.answer.specs.declared.Refusal.{Refusal}
+use Rattle.answer.specs.Answer.{answer_of}
+use Rattle.std.specs.Prelude.{Err}
 use Rattle.channel.specs.Layout.{present, common, count, end_of}
 use Rattle.channel.specs.Fields.{named_fields, nth_field, Tiles, PlacesOnList}
 use Rattle.faults.specs.RanOut.{DidNotFit}
@@ -48,10 +51,10 @@ pub record SaysWhere (bw : ℕ) (a b : List ℕ) (x : Answer) : Type 0 where
 
 -- 01's table up to 11 before this request: "3 | common field cut short | channel, bits lent", "9 | User blocks cut short | channel, bits lent"
 abbrev pub cut_common_before : ℕ → ℕ → List ℕ → Outcome
-cut_common_before bw c s = refuse_if (present bw c && ltb (8 * length s) (common bw)) (no 3 c (8 * length s))
+cut_common_before bw c s = refuse_if (present bw c && ltb (8 * length s) (common bw)) (CommonFieldCut c (8 * length s))
 
 abbrev pub cut_users_before : ℕ → ℕ → List ℕ → Outcome
-cut_users_before bw c s = refuse_if (ltb 0 (count bw c s) && ltb (8 * length s) (end_of bw (count bw c s))) (no 9 c (8 * length s))
+cut_users_before bw c s = refuse_if (ltb 0 (count bw c s) && ltb (8 * length s) (end_of bw (count bw c s))) (UserBlocksCut c (8 * length s))
 
 abbrev pub checks11_before : ℕ → List ℕ → List ℕ → List Outcome
 checks11_before bw a b =
@@ -78,7 +81,8 @@ list_before bw a b room = first_of (checks11_before bw a b) or check23 bw a b ro
 -- before and now: the same outcome; or both refuse, with 3 or with 9 and for one channel, and only the places may differ
 pub data ButPlaces : Outcome → Outcome → Type 0 where
   unchanged : (o : Outcome) → ButPlaces o o
-  place_moved : (n c p q : ℕ) → (n ≡ 3) ⊎ (n ≡ 9) → ButPlaces (Refuse (no n c p)) (Refuse (no n c q))
+  common_moved : (c p q : ℕ) → ButPlaces (Err (CommonFieldCut c p)) (Err (CommonFieldCut c q))
+  users_moved : (c p q : ℕ) → ButPlaces (Err (UserBlocksCut c p)) (Err (UserBlocksCut c q))
 
 -- the same of answers
 pub record SameAnswer (x y : Answer) : Type 0 where
@@ -116,9 +120,9 @@ pub record CutShort : Type 1 where
   pub c_read_says : (c : Call) → CReads c → SaysWhere c.bandwidth c.channel_1 c.channel_2 c.answer
   pub c_list_says : (c : Call) → CLists c → SaysWhere c.bandwidth c.channel_1 c.channel_2 c.answer
   -- and of the refusal that the program writes for the three lines of a frame
-  pub program_says : (c : TextCall) → Responds c → (bw : ℕ) (a b : List ℕ) (x : Answer) → said c.text ≡ frame bw a b → outcome11 bw a b ≡ Refuse x
-      → SaysWhere bw a b x
-      × (c.bytes ≤ length c.lent → take c.bytes c.after ≡ refusal_text x.number x.channel x.place)
+  pub program_says : (c : TextCall) → Responds c → (bw : ℕ) (a b : List ℕ) (x : Refusal) → said c.text ≡ frame bw a b → outcome11 bw a b ≡ Err x
+      → SaysWhere bw a b (answer_of x)
+      × (c.bytes ≤ length c.lent → take c.bytes c.after ≡ refusal_text (answer_of x).number (answer_of x).channel (answer_of x).place)
   -- "Which inputs are refused does not change.": by 1 to 11, which is all that the writer asks of channels too
   pub same_refused : (bw : ℕ) (a b : List ℕ) → passes (first_of (checks11_before bw a b)) ≡ passes (outcome11 bw a b)
   -- nor does anything else: of the table, which is the program's, and of the reader's and the listing's with any room, only places of 3 and 9 moved

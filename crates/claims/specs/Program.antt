@@ -7,7 +7,9 @@
 -- first wrong one, is `input/specs/Form.antt`.
 use Rattle.std.specs.Prelude.{◌≡◌, ◌⊎◌, List, ◌++◌, ℕ, ◌≤◌, length, drop}
 use Rattle.answer.specs.declared.Answer.{Answer}
-use Rattle.answer.specs.declared.Outcome.TheVariants.{Pass, Refuse}
+use Rattle.answer.specs.declared.Refusal.{Refusal}
+use Rattle.answer.specs.Answer.{answer_of}
+use Rattle.std.specs.Prelude.{Ok, Err}
 use Rattle.halves.specs.Table.{outcome11}
 use Rattle.text.specs.Text.{codes, line}
 use Rattle.input.specs.Worked.{TextOf, PlaceOf22}
@@ -24,8 +26,8 @@ pub data Response : Type 0 where
 -- 1 to 11 say of the frame that they spell
 pub data Gets (s : List ℕ) : Response → Type 0 where
   gets_22 : (k : ℕ) → PlaceOf22 k s → Gets s (says_22 k)
-  gets_refusal : (bw : ℕ) (a b : List ℕ) (x : Answer) → TextOf s bw a b → outcome11 bw a b ≡ Refuse x → Gets s (says_refusal x)
-  gets_listing : (bw : ℕ) (a b : List ℕ) → TextOf s bw a b → outcome11 bw a b ≡ Pass → Gets s (says_listing bw a b)
+  gets_refusal : (bw : ℕ) (a b : List ℕ) (x : Refusal) → TextOf s bw a b → outcome11 bw a b ≡ Err x → Gets s (says_refusal (answer_of x))
+  gets_listing : (bw : ℕ) (a b : List ℕ) → TextOf s bw a b → outcome11 bw a b ≡ Ok tt → Gets s (says_listing bw a b)
 
 -- "answer=, channel=, place=, three lines"
 abbrev pub lines_for : ℕ → ℕ → ℕ → List ℕ

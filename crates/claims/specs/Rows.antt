@@ -4,7 +4,7 @@
 use Rattle.std.specs.Prelude.{◌≡◌, ◌≢◌, ◌⊎◌, true, List, ℕ, ◌≤◌, ◌<◌, length}
 use Rattle.answer.specs.Answer.{no}
 use Rattle.answer.specs.declared.Answer.{Answer}
-use Rattle.answer.specs.declared.Outcome.TheVariants.{Pass}
+use Rattle.std.specs.Prelude.{Ok}
 use Rattle.resource.specs.Values.{carried}
 use Rattle.answer.specs.Lists.{at}
 use Rattle.kinds.specs.Signals.{Signals}
@@ -23,7 +23,7 @@ pub record CarriedRow (bw : ℕ) (r : List ℕ) : Type 0 where
 -- (`proofs/Channels.antt`: `empty_at_20`).
 pub record CarryRow (bw : ℕ) (r a b : List ℕ) : Type 0 where
   pub the_row : row bw a b ≡ r
-  pub one_to_six : outcome6 bw a b ≡ Pass
+  pub one_to_six : outcome6 bw a b ≡ Ok tt
 
 -- s is the lowest below n that lacks P
 abbrev pub Lowest : (ℕ → Type 0) → ℕ → ℕ → Type 0

@@ -7,8 +7,9 @@
 -- are `Calls.antt`'s: all that its contract allows.
 use Rattle.std.specs.Prelude.{◌≡◌, ◌≢◌, Bool, true, cond, ◌||◌, List, [], ◌∷◌, map, ℕ, ◌+◌, ◌%◌, ◌<◌, leb, eqb, length, set}
 use Rattle.answer.specs.Answer.{no}
-use Rattle.answer.specs.declared.Outcome.TheVariants.{Refuse}
+use Rattle.std.specs.Prelude.{Err}
 use Rattle.answer.specs.Lists.{at}
+use Rattle.answer.specs.declared.Refusal.TheVariants.{NoPlan}
 use Rattle.bits.specs.Bits.{field}
 use Rattle.resource.specs.Values.{between, smaller_at, fields_of, own_pieces}
 use Rattle.resource.specs.Tones.{Span, tones_of}
@@ -134,7 +135,7 @@ pub record Not28 (row : List ℕ) (p : ℕ) : Type 1 where
   pub accepted : SomePlanOfEight row 0 (length row)
   pub is_28 : at row p ≡ 28
   pub belongs : (o : ℕ → ℕ) → PlanOf row o → o p ≢ itself
-  pub is_7 : (v : ℕ) → swept_at p v ≡ true → Laid (set row p v) (Refuse (no 7 0 0))
+  pub is_7 : (v : ℕ) → swept_at p v ≡ true → Laid (set row p v) (Err (NoPlan 0))
   pub gets_7 : (v : ℕ) → swept_at p v ≡ true → (c : Call) → Reads c → Carries c (set row p v) → c.answer ≡ no 7 0 0
 
 -- a resource may be wider than a segment (02, T-07): 160 MHz, a 996+484, and the pair that it leaves out

@@ -9,10 +9,11 @@
 -- channels that carry the row is all that its contract allows, `Reads`.
 use Rattle.std.specs.Prelude.{◌≡◌, ◌≢◌, ◌⊎◌, List, ℕ, ◌<◌, ℤ, length, get_or}
 use Rattle.answer.specs.Answer.{no}
-use Rattle.answer.specs.declared.Outcome.{Outcome}
-use Rattle.answer.specs.declared.Outcome.TheVariants.{Pass, Refuse}
+use Rattle.answer.specs.Answer.{Outcome}
+use Rattle.std.specs.Prelude.{Ok, Err}
 use Rattle.bits.specs.Bits.{Small}
 use Rattle.answer.specs.Lists.{at}
+use Rattle.answer.specs.declared.Refusal.TheVariants.{NoPlan, OverEightFields}
 use Rattle.kinds.specs.Signals.{Signals}
 use Rattle.plan.specs.Answers.{SomePlanOfEight, Laid}
 use Rattle.records.specs.Records.{records_from, records_of, HasTone, Punctured, blank, RightRecord}
@@ -47,14 +48,14 @@ OfPlans row P = (o : ℕ → ℕ) → Signals o (at row) 0 (length row) → P o
 
 pub record Third (b : ℕ) (row : List ℕ) : Type 1 where
   -- "If any plan .. signals that row with at most eight User fields on each resource, the row is accepted"
-  pub is_accepted : (x : Outcome) → Laid row x → SomePlanOfEight row 0 (length row) → x ≡ Pass
-  pub has_plan : (x : Outcome) → Laid row x → x ≡ Pass → SomePlanOfEight row 0 (length row)
+  pub is_accepted : (x : Outcome) → Laid row x → SomePlanOfEight row 0 (length row) → x ≡ Ok tt
+  pub has_plan : (x : Outcome) → Laid row x → x ≡ Ok tt → SomePlanOfEight row 0 (length row)
   -- "and only that plan does": at every position of the row, and so in its resources
   pub only_that : (o o' : ℕ → ℕ) → Signals o (at row) 0 (length row) → Signals o' (at row) 0 (length row)
       → ((p : ℕ) → p < length row → o p ≡ o' p) × (records_of o row ≡ records_of o' row)
   -- "Otherwise it is refused, for its layout"
   pub refused_otherwise : (x : Outcome) → Laid row x → (SomePlanOfEight row 0 (length row) → ⊥)
-      → (s : ℕ) × ((x ≡ Refuse (no 7 0 s)) ⊎ (x ≡ Refuse (no 8 0 s)))
+      → (s : ℕ) × ((x ≡ Err (NoPlan s)) ⊎ (x ≡ Err (OverEightFields s)))
   -- "In the plan no two resources share a subcarrier"
   pub apart : OfPlans row (λ o. Apart o (at row) (length row))
   -- "none has one in a punctured 20 MHz", which has all of its 242's

@@ -4,7 +4,7 @@
 -- Calls of `listing::list`, `brachymel_list` and `responding::respond` are `Calls.antt`'s: all that their contracts allow. That the field, its word
 -- and its share are kept is the second and the third demand, which know no STA-ID apart from the others.
 use Rattle.std.specs.Prelude.{◌≡◌, List, ◌++◌, ℕ, ◌+◌, ◌≤◌, ◌<◌, length, take, get_or}
-use Rattle.answer.specs.declared.Outcome.TheVariants.{Pass}
+use Rattle.std.specs.Prelude.{Ok}
 use Rattle.channel.specs.Layout.{row, count}
 use Rattle.records.specs.Records.{blank}
 use Rattle.halves.specs.Table.{outcome11}
@@ -43,5 +43,5 @@ pub record Unassigned : Type 1 where
   pub c_list_says : (c : Call) → CLists c → c.answer.number ≡ 0
       → Listed c.bandwidth c.channel_1 c.channel_2 (take c.answer.place c.after)
   -- what the program writes for the three lines of a frame that passes 1 to 11
-  pub program_says : (c : TextCall) → Responds c → (bw : ℕ) (a b : List ℕ) → said c.text ≡ frame bw a b → outcome11 bw a b ≡ Pass
+  pub program_says : (c : TextCall) → Responds c → (bw : ℕ) (a b : List ℕ) → said c.text ≡ frame bw a b → outcome11 bw a b ≡ Ok tt
       → c.bytes ≤ length c.lent → Listed bw a b (take c.bytes c.after)

@@ -8,25 +8,21 @@ ghost use Rattle.timed.specs.Sums.{sum, check_in, right_in};
 fn place(n: u8, k: u32) -> usize
     ensures { (result ≡ (n + 10) * k) × (result < 2 ^ 41) }
 {
-    (n as usize + 10) * k as usize
+    (usize::from(n) + 10) * k as usize
 }
 
 // The check of block k.
 fn check_in(s: &[u8], n: u8, k: u32) -> u64
     ensures { (result ≡ check_in s.now n k) × (result ≤ 15) }
 {
-    block::check_at(s, place(n, k), n as usize) as u64
+    u64::from(block::check_at(s, place(n, k), usize::from(n)))
 }
 
 // 1 where block k is right, else 0.
 fn right_in(s: &[u8], n: u8, k: u32) -> u64
     ensures { (result ≡ right_in s.now n k) × (result ≤ 15) }
 {
-    if block::block_right(s, place(n, k), n as usize) {
-        1
-    } else {
-        0
-    }
+    u64::from(block::block_right(s, place(n, k), usize::from(n)))
 }
 
 // The sum of the checks of the first `count` blocks.
@@ -34,23 +30,20 @@ fn checks_of(s: &[u8], n: u8, count: u32) -> u64
     ensures { result ≡ sum (check_in s.now n) count }
 {
     let mut total: u64 = 0;
-    let mut k: u32 = 0;
-    while k < count {
+    for k in 0..count {
         total += check_in(s, n, k);
-        k += 1;
     }
     total
 }
 
-// How many of the first `count` blocks are right.
+// How many of the first `count` blocks are right. One function for both sums would be no plainer: the closure that it takes needs a contract
+// longer than this loop.
 fn blocks_of(s: &[u8], n: u8, count: u32) -> u64
     ensures { result ≡ sum (right_in s.now n) count }
 {
     let mut total: u64 = 0;
-    let mut k: u32 = 0;
-    while k < count {
+    for k in 0..count {
         total += right_in(s, n, k);
-        k += 1;
     }
     total
 }

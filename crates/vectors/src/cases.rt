@@ -9,11 +9,7 @@ use std::io;
 use std::io::Write;
 
 fn print_bool(out: &mut impl Write, holds: bool) -> io::Result<()> {
-    if holds {
-        text(out, b"1")
-    } else {
-        text(out, b"0")
-    }
+    print_number(out, u64::from(holds))
 }
 
 // b S i: bit i of S.
@@ -21,7 +17,7 @@ fn bit(out: &mut impl Write, line: &[u8]) -> io::Result<()> {
     let mut space = [0; STRING];
     let n = string(line, 1, &mut space);
     let i = number(line, 2);
-    print_number(out, bits::bit_at(&space[..n], i) as u64)
+    print_number(out, u64::from(bits::bit_at(&space[..n], i)))
 }
 
 // f S at n: the field of n bits from `at`.
@@ -33,7 +29,7 @@ fn field(out: &mut impl Write, line: &[u8]) -> io::Result<()> {
     if width > 25 {
         return no_case(out);
     }
-    print_number(out, bits::field_at(&space[..n], at, width) as u64)
+    print_number(out, u64::from(bits::field_at(&space[..n], at, width)))
 }
 
 // l S at n: how many of the n bits from `at` lie past the end.
@@ -84,7 +80,7 @@ fn check(out: &mut impl Write, line: &[u8]) -> io::Result<()> {
     let n = string(line, 1, &mut space);
     let at = number(line, 2);
     let width = number(line, 3);
-    print_number(out, block::check_at(&space[..n], at, width) as u64)
+    print_number(out, u64::from(block::check_at(&space[..n], at, width)))
 }
 
 // k S at n: whether the check of the n bits from `at` is right and the tail after it zero.
@@ -99,64 +95,19 @@ fn block(out: &mut impl Write, line: &[u8]) -> io::Result<()> {
 // What a line that starts with a letter is answered.
 fn by_letter(out: &mut impl Write, line: &[u8], letter: u8) -> io::Result<()> {
     match letter {
-        b'b' => {
-            if has(line, b"sn") {
-                return bit(out, line);
-            }
-        }
-        b'f' => {
-            if has(line, b"snn") {
-                return field(out, line);
-            }
-        }
-        b'l' => {
-            if has(line, b"snn") {
-                return lacks(out, line);
-            }
-        }
-        b'd' => {
-            if has(line, b"ssnn") {
-                return difference(out, line);
-            }
-        }
-        b'p' => {
-            if has(line, b"snnn") {
-                return put(out, line);
-            }
-        }
-        b'c' => {
-            if has(line, b"snn") {
-                return check(out, line);
-            }
-        }
-        b'k' => {
-            if has(line, b"snn") {
-                return block(out, line);
-            }
-        }
-        b'r' => {
-            if is_row(line) {
-                return row(out, line);
-            }
-        }
-        b'w' => {
-            if has(line, b"ns") {
-                return walk(out, line);
-            }
-        }
-        b'R' => {
-            if has(line, b"nssn") {
-                return read(out, line);
-            }
-        }
-        b'W' => {
-            if has(line, b"nsnn") {
-                return write(out, line);
-            }
-        }
-        _ => {}
+        b'b' if has(line, b"sn") => bit(out, line),
+        b'f' if has(line, b"snn") => field(out, line),
+        b'l' if has(line, b"snn") => lacks(out, line),
+        b'd' if has(line, b"ssnn") => difference(out, line),
+        b'p' if has(line, b"snnn") => put(out, line),
+        b'c' if has(line, b"snn") => check(out, line),
+        b'k' if has(line, b"snn") => block(out, line),
+        b'r' if is_row(line) => row(out, line),
+        b'w' if has(line, b"ns") => walk(out, line),
+        b'R' if has(line, b"nssn") => read(out, line),
+        b'W' if has(line, b"nsnn") => write(out, line),
+        _ => no_case(out),
     }
-    no_case(out)
 }
 
 // The answer to a line, as a line.

@@ -14,17 +14,13 @@ mod writes;
 
 use arrayvec::ArrayVec;
 use cases::respond;
-use line_words::line_end;
 use std::io;
 use std::io::{Read, Write};
 
 // Every line of the text.
 fn each(out: &mut impl Write, s: &[u8]) -> io::Result<()> {
-    let mut at = 0;
-    while at < s.len() {
-        let e = line_end(s, at);
-        respond(out, &s[at..e])?;
-        at = e + 1;
+    for line in s.split_inclusive(|&c| c == b'\n') {
+        respond(out, line.strip_suffix(b"\n").unwrap_or(line))?;
     }
     Ok(())
 }

@@ -3,9 +3,9 @@ ghost use Rattle.std.specs.Prelude.{◌≡◌, ◌≤◌, ◌<◌, length};
 ghost use Rattle.plan.specs.Engine.{kinds_of};
 ghost use Rattle.resource.specs.Values.{own_pieces};
 
-use crate::line_words::{has, lesser, number, words};
-use crate::print::{answer as print_answer, next, number as print_number, text};
-use answer::{Answer, Outcome};
+use crate::line_words::{has, number, words};
+use crate::print::{answer as print_answer, next, text};
+use answer::Answer;
 use records::Record;
 use resource::{Pairing, Resource, Run, Size, Tones};
 use std::io;
@@ -25,81 +25,60 @@ pub(crate) fn is_row(line: &[u8]) -> bool {
 
 // Word k as a value. Nine bits hold no more than 511, which is carried no more than what is above it.
 fn value(line: &[u8], k: usize) -> u16 {
-    lesser(number(line, k), 511) as u16
+    number(line, k).min(511) as u16
 }
 
-fn print_size(out: &mut impl Write, size: Size) -> io::Result<()> {
+fn size_name(size: Size) -> &'static str {
     match size {
-        Size::S26 => text(out, b"26"),
-        Size::S52 => text(out, b"52"),
-        Size::S106 => text(out, b"106"),
-        Size::S242 => text(out, b"242"),
-        Size::S484 => text(out, b"484"),
-        Size::S996 => text(out, b"996"),
-        Size::S2x996 => text(out, b"2x996"),
+        Size::S26 => "26",
+        Size::S52 => "52",
+        Size::S106 => "106",
+        Size::S242 => "242",
+        Size::S484 => "484",
+        Size::S996 => "996",
+        Size::S2x996 => "2x996",
     }
 }
 
-fn print_pairing(out: &mut impl Write, pairing: Pairing) -> io::Result<()> {
+fn pairing_name(pairing: Pairing) -> &'static str {
     match pairing {
-        Pairing::P106And26 => text(out, b"106+26"),
-        Pairing::P484And242 => text(out, b"484+242"),
-        Pairing::P996And484 => text(out, b"996+484"),
-        Pairing::P3x996 => text(out, b"3x996"),
-        Pairing::P2x996And484 => text(out, b"2x996+484"),
-        Pairing::P3x996And484 => text(out, b"3x996+484"),
+        Pairing::P106And26 => "106+26",
+        Pairing::P484And242 => "484+242",
+        Pairing::P996And484 => "996+484",
+        Pairing::P3x996 => "3x996",
+        Pairing::P2x996And484 => "2x996+484",
+        Pairing::P3x996And484 => "3x996+484",
     }
 }
 
 // A resource's name and index.
 fn print_resource(out: &mut impl Write, r: Resource) -> io::Result<()> {
-    match r {
-        Resource::Single(size, i) => {
-            print_size(out, size)?;
-            next(out, i as u64)
-        }
-        Resource::Joined(pairing, i) => {
-            print_pairing(out, pairing)?;
-            next(out, i as u64)
-        }
-    }
+    let (name, index) = match r {
+        Resource::Single(size, i) => (size_name(size), i),
+        Resource::Joined(pairing, i) => (pairing_name(pairing), i),
+    };
+    write!(out, "{name} {index}")
 }
 
 // The number u - zero.
-fn print_signed(out: &mut impl Write, u: u32, zero: u32) -> io::Result<()> {
-    if u < zero {
-        text(out, b"-")?;
-        print_number(out, (zero - u) as u64)
-    } else {
-        print_number(out, (u - zero) as u64)
-    }
+fn signed(u: u32, zero: u32) -> i64 {
+    i64::from(u) - i64::from(zero)
 }
 
 fn print_run(out: &mut impl Write, run: Run, zero: u32) -> io::Result<()> {
-    print_signed(out, run.lo, zero)?;
-    text(out, b":")?;
-    print_signed(out, run.hi, zero)
-}
-
-// Between the runs.
-fn print_comma(out: &mut impl Write, i: usize) -> io::Result<()> {
-    if 0 < i {
-        text(out, b",")?;
-    }
-    Ok(())
+    write!(out, "{}:{}", signed(run.lo, zero), signed(run.hi, zero))
 }
 
 // The runs of a resource, in a channel of n positions.
 fn print_tones(out: &mut impl Write, t: Tones, n: u16) -> io::Result<()>
     requires { (t.count ≤ 8) × (length t.runs ≡ 8) }
 {
-    let count = t.count as usize;
     let runs = t.runs;
-    let mut i: usize = 0;
-    while i < count {
-        print_comma(out, i)?;
-        print_run(out, runs[i], 128 * (n as u32))?;
-        i += 1;
+    for (i, run) in runs[..usize::from(t.count)].iter().enumerate() {
+        if 0 < i {
+            text(out, b",")?;
+        }
+        print_run(out, *run, 128 * u32::from(n))?;
     }
     Ok(())
 }
@@ -111,11 +90,11 @@ fn print_record(out: &mut impl Write, x: Record, t: Tones, n: u16) -> io::Result
     let resource = x.resource;
     text(out, b" | ")?;
     print_resource(out, resource)?;
-    next(out, x.segment as u64)?;
-    next(out, x.position as u64)?;
-    next(out, x.fields1 as u64)?;
-    next(out, x.fields2 as u64)?;
-    text(out, b" ")?;
+    write!(
+        out,
+        " {} {} {} {} ",
+        x.segment, x.position, x.fields1, x.fields2
+    )?;
     print_tones(out, t, n)
 }
 
@@ -133,10 +112,8 @@ fn print_pieces(out: &mut impl Write, n: u16, v: u16, p: usize) -> io::Result<()
     requires { p < 16 }
 {
     let here = resource::pieces_of(v);
-    let mut k: u16 = 0;
-    while k < here {
+    for k in 0..here {
         print_piece(out, n, v, p, k)?;
-        k += 1;
     }
     Ok(())
 }
@@ -172,24 +149,16 @@ fn print_records(out: &mut impl Write, row: &[u16], kinds: &[u16; 16]) -> io::Re
     requires { (length row.now ≤ 16) × (kinds.now ≡ kinds_of row.now) }
 {
     let n = row.len();
-    let mut p: usize = 0;
-    while p < n {
+    for p in 0..n {
         print_position(out, row, kinds[p], p)?;
-        p += 1;
     }
     Ok(())
 }
 
 // The resources, from 1, that own the fields of a channel: 144 is told of the field after the last.
 fn print_owners(out: &mut impl Write, owners: &[u16; 72]) -> io::Result<()> {
-    let mut j: usize = 0;
-    while j < 72 {
-        let k = owners[j];
-        if 144 <= k {
-            return Ok(());
-        }
-        next(out, k as u64 + 1)?;
-        j += 1;
+    for &k in owners.iter().take_while(|&&k| k < 144) {
+        next(out, u64::from(k) + 1)?;
     }
     Ok(())
 }
@@ -201,11 +170,7 @@ fn print_plan(out: &mut impl Write, row: &[u16], kinds: &[u16; 16]) -> io::Resul
     let before = records::numbers_before(kinds, row);
     print_answer(
         out,
-        Answer {
-            number: 0,
-            channel: 0,
-            place: records::count_in(&before, row) as usize,
-        },
+        Answer::accepted(usize::from(records::count_in(&before, row))),
     )?;
     print_records(out, row, kinds)?;
     text(out, b" ;")?;
@@ -221,8 +186,8 @@ fn print_row(out: &mut impl Write, row: &[u16]) -> io::Result<()>
     let plan = plan::plan_of(row);
     let outcome = plan.outcome;
     let kinds = plan.kinds;
-    if let Outcome::Refuse(x) = outcome {
-        return print_answer(out, x);
+    if let Err(x) = outcome {
+        return print_answer(out, x.into());
     }
     print_plan(out, row, &kinds)
 }
@@ -232,25 +197,15 @@ fn row_line(out: &mut impl Write, row: &mut [u16], line: &[u8]) -> io::Result<()
     requires { length row.old ≤ 16 }
 {
     let n = row.len();
-    let mut p: usize = 0;
-    while p < n {
+    for p in 0..n {
         row[p] = value(line, p + 1);
-        p += 1;
     }
     print_row(out, row)
 }
 
-// How many values a line has, at most 16.
-fn positions(line: &[u8]) -> usize
-    ensures { result ≤ 16 }
-{
-    let n = lesser(words(line), 17);
-    if n == 0 { 0 } else { n - 1 }
-}
-
 // The same, of as many of the values lent as the line has.
 fn row_room(out: &mut impl Write, row: &mut [u16], line: &[u8]) -> io::Result<()> {
-    let n = lesser(positions(line), row.len());
+    let n = words(line).saturating_sub(1).min(16).min(row.len());
     row_line(out, &mut row[..n], line)
 }
 

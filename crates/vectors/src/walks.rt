@@ -10,10 +10,8 @@ use std::io::Write;
 
 // The eight values.
 fn print_values(out: &mut impl Write, values: [u16; 8]) -> io::Result<()> {
-    let mut k: usize = 0;
-    while k < 8 {
-        next(out, values[k] as u64)?;
-        k += 1;
+    for v in values {
+        next(out, u64::from(v))?;
     }
     Ok(())
 }
@@ -22,10 +20,8 @@ fn print_values(out: &mut impl Write, values: [u16; 8]) -> io::Result<()> {
 fn print_users(out: &mut impl Write, users: [u32; 72], n: usize) -> io::Result<()>
     requires { n ≤ 72 }
 {
-    let mut i: usize = 0;
-    while i < n {
-        next(out, users[i] as u64)?;
-        i += 1;
+    for user in &users[..n] {
+        next(out, u64::from(*user))?;
     }
     Ok(())
 }
@@ -35,7 +31,7 @@ fn print_channel(out: &mut impl Write, c: Channel) -> io::Result<()>
 {
     let values = c.values;
     let users = c.users;
-    print_number(out, c.overflow as u64)?;
+    print_number(out, u64::from(c.overflow))?;
     next(out, c.count as u64)?;
     next(out, c.end as u64)?;
     next(out, c.lacking as u64)?;

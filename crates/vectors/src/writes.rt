@@ -2,7 +2,7 @@
 ghost use Rattle.std.specs.Prelude.{◌≤◌};
 
 use crate::frames::bandwidth;
-use crate::line_words::{STRING, lesser, number, string};
+use crate::line_words::{STRING, number, string};
 use crate::print::{answer as print_answer, bytes, no_case, text};
 use std::io;
 use std::io::Write;
@@ -68,11 +68,9 @@ fn word_of(s: &[u8], i: usize) -> u32
 
 // The words of a byte string, at most 256, that there is room for.
 fn unpack(s: &[u8], words: &mut [u32]) {
-    let n = lesser(lesser(s.len() / 4, 256), words.len());
-    let mut i = 0;
-    while i < n {
+    let n = (s.len() / 4).min(256).min(words.len());
+    for i in 0..n {
         words[i] = word_of(s, i);
-        i += 1;
     }
 }
 
@@ -82,7 +80,7 @@ fn count(n: usize) -> usize {
     if n % 4 != 0 {
         return 256;
     }
-    lesser(n / 4, 256)
+    (n / 4).min(256)
 }
 
 // The words that a line says, in the words lent, and what writing them comes to.
@@ -90,7 +88,7 @@ fn write_line(out: &mut impl Write, words: &mut [u32], line: &[u8]) -> io::Resul
     let mut space = [0; STRING];
     let n = string(line, 2, &mut space);
     unpack(&space[..n], words);
-    let k = lesser(count(n), words.len());
+    let k = count(n).min(words.len());
     write_words(out, &words[..k], line)
 }
 

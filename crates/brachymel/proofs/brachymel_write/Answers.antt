@@ -5,13 +5,13 @@ use Rattle.brachymel.proofs.Early.{early_refuses, early_passes, few_words}
 use Rattle.std.proofs.Common.{length, ◌/◌, sym, ◌∙◌}
 use Rattle.brachymel.proofs.brachymel_write.Goals as goal
 
-pub returns-in-Refuse : goal.returns-in-Refuse
+pub returns-in-Err : goal.returns-in-Err
 unfolding bytes_write_answer write_channel
-returns-in-Refuse c =
+returns-in-Err c =
     let f =
     early_refuses c.args.bandwidth c.args.words.now (length c.args.cc1.now) (length c.args.cc2.now) _
-    (sym c.refused_early-early.ensures ∙ c.in-Refuse.is) in record {
-      value = rw f;
+    (sym c.refused_early-early.ensures ∙ c.in-Err.is) in record {
+      value = rw f c.into.ensures;
       cc1_after = rw f;
       cc2_after = rw f;
     }

@@ -1,11 +1,8 @@
--- What the loops of `timed::checks_of` keep, and what falls.
-use Prim.Native.Nat.{◌-◌, ◌*◌, ◌≤◌}
+-- What the loops of `timed::checks_of` keep.
+use Prim.Native.Nat.{◌*◌, ◌≤◌}
 use mathlib.Core.Path.{◌≡◌}
 use Rattle.timed.specs.Sums.{sum, check_in}
 use Rattle.timed.proofs.checks_of.Given as goal
 
 abbrev pub invariant-loop-k : goal.invariant-loop-k
 invariant-loop-k l = (l.k ≤ l.fn.count) × (l.total ≤ 15 * l.k) × (l.total ≡ sum (check_in l.fn.s l.fn.n) l.k)
-
-abbrev pub decreases-loop-k : goal.decreases-loop-k
-decreases-loop-k l = l.fn.count - l.k

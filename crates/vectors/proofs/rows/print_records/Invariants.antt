@@ -1,8 +1,5 @@
-use Rattle.std.proofs.Common.{◌-◌, ◌≤◌}
+use Rattle.std.proofs.Common.{◌≤◌}
 use Rattle.vectors.proofs.rows.print_records.Given as goal
 
 abbrev pub invariant-loop-p : goal.invariant-loop-p
 invariant-loop-p g l = l.p ≤ l.n
-
-abbrev pub decreases-loop-p : goal.decreases-loop-p
-decreases-loop-p g l = l.n - l.p
