@@ -1,13 +1,14 @@
 -- The repeat check by a mark for each STA-ID that may not stand again.
-use Prim.Native.Nat.{ℕ, zero, suc, ◌+◌, ◌-◌, ◌/◌, ◌%◌, ◌<◌}
+use Prim.Native.Nat.{ℕ, zero, suc, ◌+◌, ◌/◌, ◌%◌, ◌<◌, ◌≤◌}
 use mathlib.Core.Path.{◌≡◌, refl, sym, ◌∙◌, ap}
 use mathlib.Core.Bool.{Bool, true, false, cond, ◌&&◌}
 use mathlib.Core.List.{List}
 use native.Mathlib.Decide.{ℕ_discrete}
+use native.Mathlib.Omega.{arith}
 use lib.Dec.{eqb, ltb, leb}
 use lib.ListN.{length, get_or, take, drop, set, replicate}
-use Rattle.std.proofs.lemmas.List.{get_or-drop, length-drop}
-use lib.Seq.{take-length, get_or-set_same, get_or-set_other}
+use Rattle.std.proofs.lemmas.List.{get_or-drop, get_or-take, length-drop, length-take-le}
+use lib.Seq.{get_or-set_same, get_or-set_other}
 use borrow.Author.Tests.{eq-eqb, ne_eqb}
 use Rattle.answer.specs.Least.{least}
 use Rattle.answer.specs.Lists.{at}
@@ -67,9 +68,10 @@ pub noted_seen : (id : ℕ → ℕ) (marks : List Bool) (j x : ℕ) → x ≡ id
 noted_seen id marks j x e l f = f.noted x l ∙ ap (λ (z : ℕ). (ltb 0 z && leb z 2006) && among id j z) e
 
 -- a STA-ID stands from bit 8 of its word on
-pub from_word : (w : List ℕ) (t : ℕ) → any_repeated (station_from 8 (take (length w - 10) (drop 10 w))) t ≡ any_repeated (station_on w) t
+pub from_word : (w l : List ℕ) (t : ℕ) → 10 + t ≤ length w → l ≡ take t (drop 10 w)
+    → any_repeated (station_from 8 l) (length l) ≡ any_repeated (station_on w) t
 unfolding station_from station_on
-from_word w t =
-    any_cong _ _ t
-    (λ k l. ap (λ (x : ℕ). x / 256 % 2048)
-    (ap (λ (n : ℕ). at (take n (drop 10 w)) k) (sym (length-drop 10 w)) ∙ ap (λ (v : List ℕ). at v k) (take-length (drop 10 w)) ∙ get_or-drop 10 w k 0))
+from_word w l t h e =
+    ap (any_repeated (station_from 8 l)) (ap length e ∙ length-take-le t (drop 10 w) (omega (arith, h, length-drop 10 w)))
+    ∙ any_cong _ _ t
+    (λ k m. ap (λ (x : ℕ). x / 256 % 2048) (ap (λ (v : List ℕ). at v k) e ∙ get_or-take t (drop 10 w) k 0 m ∙ get_or-drop 10 w k 0))

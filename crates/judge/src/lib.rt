@@ -216,7 +216,7 @@ fn any_again(words: &[u32], t: usize) -> bool
     ensures { result ≡ any_repeated (station_on words.now) t }
 {
     if t <= 8 {
-        return stations::any_of_few::<8>(&words[10..], t); // no marks are cleared for few
+        return stations::any_of_few::<8>(&words[10..10 + t]); // no marks are cleared for few
     }
     any_marked(words, t)
 }

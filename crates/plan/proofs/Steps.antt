@@ -7,9 +7,12 @@ use Prim.Native.Nat.{ℕ, ◌+◌, ◌-◌, ◌*◌, ◌/◌, ◌%◌, ◌≤◌
 use native.Mathlib.Omega.{arith}
 use lib.Dec.{eqb, ltb, leb}
 use lib.ListN.{length}
-use borrow.Author.Tests.{eq-eqb, ne_eqb, lt-ltb, ltb-true, le-ltb, leb-true}
+use borrow.Author.Tests.{eq-eqb, ne_eqb, ltb-true, ltb-false, leb-true}
+use Rattle.std.specs.List.{list_any}
+use Rattle.std.proofs.lemmas.List.Folds.{list_any_at, list_any_none}
+use Rattle.std.proofs.lemmas.List.Elements.{All-from_get_or}
 use Rattle.answer.specs.Least.{least}
-use Rattle.answer.proofs.Least.{least_stop, least_end, least_cong, least_none}
+use Rattle.answer.proofs.Least.{least_stop, least_end, least_cong, least_none, least_holds, least_all, least_le}
 use Rattle.answer.specs.Lists.{at}
 use Rattle.resource.proofs.Test.{below_or}
 use Rattle.kinds.specs.Kinds.{none, span, takes}
@@ -29,14 +32,23 @@ pub wider_some : (row : List ℕ) → any_wider row ≡ true → 0 < length row
 unfolding any_wider
 wider_some row e = let l = ltb-true _ (length row) e in omega arith
 
-module _ (row : List ℕ) (p : ℕ) (h : least (λ q. wider (at row q)) p ≡ p) where
-  pub wider_here : p < length row → wider (at row p) ≡ true → true ≡ any_wider row
-  unfolding any_wider
-  wider_here l e = rw (least_stop (λ q. wider (at row q)) p (length row) l h e) (sym (lt-ltb p (length row) l))
+-- that some value is such, as the code asks it
+pub any_is : (row : List ℕ) → list_any wider row ≡ any_wider row
+unfolding any_wider
+any_is row = go (ltb (least p n) n) refl
+  where
+    p : ℕ → Bool
+    p q = wider (at row q)
 
-  pub wider_nowhere : length row ≤ p → p ≤ length row → false ≡ any_wider row
-  unfolding any_wider
-  wider_nowhere l u = let e : p ≡ length row = omega arith in rw (least_end (λ q. wider (at row q)) p (length row) e h) (sym (le-ltb p (length row) l))
+    n : ℕ
+    n = length row
+
+    go : (t : Bool) → ltb (least p n) n ≡ t → list_any wider row ≡ t
+    go true e = let l = ltb-true (least p n) n e in list_any_at wider row (least p n) 0 l (least_holds p n l)
+    go false e =
+        let l = ltb-false (least p n) n e in
+        let m = least_le p n in
+        list_any_none wider row (All-from_get_or (λ x. wider x ≡ false) row 0 (least_all p n (omega arith)))
 
 -- ---- what a position is given to
 module _ (o : ℕ → ℕ) (a b c p j : ℕ) where

@@ -54,12 +54,7 @@ fn is_wider(v: u16) -> bool
 fn has_wider(row: &[u16]) -> bool
     ensures { result ≡ any_wider row.now }
 {
-    for p in 0..row.len() {
-        if is_wider(row[p]) {
-            return true;
-        }
-    }
-    false
+    row.iter().any(|&v| is_wider(v))
 }
 
 // ---- whether a plan signals a part of the row: the positions from a up to e

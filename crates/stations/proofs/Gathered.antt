@@ -1,5 +1,5 @@
 -- The repeat check by marks in words of 64 bits, gathered to one answer.
-use Prim.Native.Nat.{ℕ, zero, suc, ◌+◌, ◌-◌, ◌*◌, ◌/◌, ◌%◌, ◌^◌, ◌<◌}
+use Prim.Native.Nat.{ℕ, zero, suc, ◌+◌, ◌-◌, ◌*◌, ◌/◌, ◌%◌, ◌^◌, ◌<◌, ◌≤◌}
 use mathlib.Core.Path.{◌≡◌, refl, sym, ◌∙◌, ap, ap₂}
 use mathlib.Core.Bool.{Bool, true, false, cond, ◌&&◌, ◌||◌}
 use mathlib.Core.List.{List}
@@ -9,14 +9,15 @@ use native.Mathlib.Omega.{arith}
 use lib.Bits.{bit_or, or_shr, or_mod, or_zero_r}
 use lib.Pow as P
 use lib.Dec.{eqb, ltb, leb}
-use lib.ListN.{length, get_or, set, replicate}
+use lib.ListN.{length, get_or, take, set, replicate}
+use Rattle.std.proofs.lemmas.List.{get_or-take, length-take-le}
 use lib.Seq.{get_or-set_same, get_or-set_other}
 use borrow.Author.Tests.{eq-eqb, ne_eqb, ltb-false}
 use Rattle.answer.specs.Least.{least}
 use Rattle.answer.proofs.Least.{least_cong, least_le}
 use Rattle.answer.specs.Answer.{refuse_if}
-use Rattle.answer.specs.Lists.{filled, Front}
-use Rattle.answer.proofs.Lists.{get_d_filled}
+use Rattle.answer.specs.Lists.{filled, Front, at}
+use Rattle.answer.proofs.Lists.{get_d_filled, filled_length}
 use Rattle.bits.proofs.Windows.{field_low}
 use Rattle.channel.specs.Layout.{user_at, user, user_of}
 use Rattle.stations.specs.Stations.{seen_before, repeated, station_at, station_of, station_place, first_repeated, twice, station_twice}
@@ -156,10 +157,22 @@ pub any_cong : (f g : ℕ → ℕ) (t : ℕ) → ((k : ℕ) → k < t → f k �
 unfolding any_repeated
 any_cong f g t h = ap (λ (j : ℕ). ltb j t) (repeat_cong f g t h)
 
--- from bit 0 on
-pub from_first : (fields : List ℕ) (t : ℕ) → any_repeated (station_from 0 fields) t ≡ any_repeated (station_in fields) t
-unfolding station_from station_in
-from_first fields t = any_cong (station_from 0 fields) (station_in fields) t (λ k l. omega arith)
+-- of the first t
+at_taken : (l : List ℕ) (t k : ℕ) → k < t → at (take t l) k ≡ at l k
+at_taken l t k m = get_or-take t l k 0 m
+
+pub taken : (l : List ℕ) (t : ℕ) → t ≤ length l → first_repeated (station_in (take t l)) (length (take t l)) ≡ first_repeated (station_in l) t
+unfolding station_in
+taken l t h =
+    ap (first_repeated (station_in (take t l))) (length-take-le t l h)
+    ∙ repeat_cong _ _ t (λ k m. ap (λ (x : ℕ). x % 2048) (at_taken l t k m))
+
+-- and from bit 0 on
+pub few_taken : (l : List ℕ) (t : ℕ) → t ≤ length l → any_repeated (station_from 0 (take t l)) (length (take t l)) ≡ any_repeated (station_in l) t
+unfolding station_in station_from
+few_taken l t h =
+    ap (any_repeated (station_from 0 (take t l))) (length-take-le t l h)
+    ∙ any_cong _ _ t (λ k m. ap (λ (x : ℕ). x / 1 % 2048) (at_taken l t k m) ∙ omega arith)
 
 -- in the array of 144
 pub repeat_held : (fields w : List ℕ) (t : ℕ) → first_repeated (station_in (filled (station_in fields) t w)) t ≡ first_repeated (station_in fields) t
@@ -167,6 +180,14 @@ unfolding station_in
 repeat_held fields w t =
     repeat_cong (station_in (filled (station_in fields) t w)) (station_in fields) t
     (λ k l. ap (λ (x : ℕ). x % 2048) (get_d_filled (station_in fields) t w k 0 l) ∙ omega (arith, station_lt fields k))
+
+pub held_room : (fields ids : List ℕ) (t : ℕ) → ids ≡ filled (station_in fields) t (replicate 144 0) → t ≤ 144 → t ≤ length ids
+held_room fields ids t e h = omega (arith, ap length e ∙ filled_length (station_in fields) t (replicate 144 0) h)
+
+pub held_taken : (fields ids : List ℕ) (t : ℕ) → ids ≡ filled (station_in fields) t (replicate 144 0) → t ≤ length ids
+    → first_repeated (station_in (take t ids)) (length (take t ids)) ≡ first_repeated (station_in fields) t
+held_taken fields ids t e h =
+    taken ids t h ∙ ap (λ (l : List ℕ). first_repeated (station_in l) t) e ∙ repeat_held fields (replicate 144 0) t
 
 -- in the numbers of both channels' User fields
 pub station_is : (bw : ℕ) (a b : List ℕ) (n k : ℕ) → user_of bw a b n k % 2048 ≡ station_of bw a b n k

@@ -36,14 +36,13 @@ fn with_mark(w: u64, id: u16) -> u64
     w | (1 << (id % 64))
 }
 
-// Whether any of t that may not stand again does.
-fn any_again(ids: &[u16; 144], t: usize) -> bool
-    requires { t ≤ 144 }
-    ensures { result ≡ any_repeated (station_in ids.now) t }
+// Whether any that may not stand again does.
+fn any_again(ids: &[u16]) -> bool
+    ensures { result ≡ any_repeated (station_in ids.now) (length ids.now) }
 {
     let mut marks = [0u64; 32];
     let mut again = false;
-    for j in 0..t {
+    for j in 0..ids.len() {
         let id = ids[j] % 2048;
         let k = id as usize / 64;
         let w = marks[k];
@@ -68,13 +67,13 @@ fn stands_again<const AT: u32>(numbers: &[u32], j: usize) -> bool
     (0 < id) & (id <= 2006) & met
 }
 
-// Whether any of t does.
-pub fn any_of_few<const AT: u32>(numbers: &[u32], t: usize) -> bool
-    requires { (AT < 32) × (t ≤ length numbers.now) }
-    ensures { result ≡ any_repeated (station_from AT numbers.now) t }
+// Whether any does.
+pub fn any_of_few<const AT: u32>(numbers: &[u32]) -> bool
+    requires { AT < 32 }
+    ensures { result ≡ any_repeated (station_from AT numbers.now) (length numbers.now) }
 {
     let mut again = false;
-    for j in 0..t {
+    for j in 0..numbers.len() {
         again |= stands_again::<AT>(numbers, j);
     }
     again
@@ -82,14 +81,13 @@ pub fn any_of_few<const AT: u32>(numbers: &[u32], t: usize) -> bool
 
 // ---- which: asked only where one does
 
-// The first of t that may not stand again and does. Only where there is one: this loop, with its way out, took up to 1.15 of the time of
+// The first that may not stand again and does. Only where there is one: this loop, with its way out, took up to 1.15 of the time of
 // `any_again`, which gathers over all, where both were timed in C.
-fn first_again(ids: &[u16; 144], t: usize) -> usize
-    requires { t ≤ 144 }
-    ensures { (result ≤ t) × (result ≡ first_repeated (station_in ids.now) t) }
+fn first_again(ids: &[u16]) -> usize
+    ensures { (result ≤ length ids.now) × (result ≡ first_repeated (station_in ids.now) (length ids.now)) }
 {
     let mut marks = [0u64; 32];
-    for j in 0..t {
+    for j in 0..ids.len() {
         let id = ids[j] % 2048;
         let k = id as usize / 64;
         let w = marks[k];
@@ -98,7 +96,7 @@ fn first_again(ids: &[u16; 144], t: usize) -> usize
         }
         marks[k] = with_mark(w, id);
     }
-    t
+    ids.len()
 }
 
 // The first of t fields whose STA-ID was seen before.
@@ -109,14 +107,14 @@ fn first_repeated(fields: &[u32], t: usize) -> usize
     if t < 2 {
         return t; // one station repeats none
     }
-    if t <= 8 && !any_of_few::<0>(fields, t) {
+    if t <= 8 && !any_of_few::<0>(&fields[..t]) {
         return t;
     }
     let ids = stations_of(fields, t);
-    if !any_again(&ids, t) {
+    if !any_again(&ids[..t]) {
         return t;
     }
-    first_again(&ids, t)
+    first_again(&ids[..t])
 }
 
 fn station_place(bw: u32, n: usize, j: usize) -> Refusal

@@ -1,17 +1,12 @@
 -- `plan::has_wider` meets its contract.
-use Rattle.plan.proofs.Steps.{wider_here, wider_nowhere}
-use Rattle.std.proofs.Common.{arith, sym, ◌∙◌}
-use Rattle.answer.proofs.Least.{least_start, least_step}
+use Rattle.std.proofs.Common.{rules, tests, ◌∙◌}
+use Rattle.std.proofs.lemmas.Iterator.{YieldsList-from_slice}
+use Rattle.std.proofs.lemmas.Iterator.Search.{any_from_yields_List}
+use Rattle.plan.specs.Engine.{wider}
+use Rattle.plan.proofs.Steps.{any_is}
 use Rattle.plan.proofs.has_wider.Goals as goal
 
-pub loop-p-init : goal.loop-p-init
-loop-p-init c = least_start _
-
-pub returns-then-is_wider : goal.returns-then-is_wider
-returns-then-is_wider c = wider_here _ _ c.loop-p.invariant (omega arith) (sym c.is_wider.ensures ∙ c.if-is_wider.true)
-
-pub loop-p-preserved : goal.loop-p-preserved
-loop-p-preserved c = least_step _ _ c.loop-p.invariant (sym c.is_wider.ensures ∙ c.if-is_wider.false)
-
 pub returns : goal.returns
-returns c = wider_nowhere _ _ c.loop-p.invariant (omega arith) (omega arith)
+returns c =
+    any_from_yields_List wider _ _ _ c.any.ensures.ran (YieldsList-from_slice c.args.row.now cc) (λ x b q k. search (rules, tests))
+    ∙ any_is c.args.row.now

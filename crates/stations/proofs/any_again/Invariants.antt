@@ -7,4 +7,5 @@ use Rattle.stations.proofs.Gathered.{Marked}
 use Rattle.stations.proofs.any_again.Given as goal
 
 abbrev pub invariant-loop-j : goal.invariant-loop-j
-invariant-loop-j l = (l.j ≤ l.fn.t) × (length l.marks ≡ 32) × (l.again ≡ any_repeated (station_in l.fn.ids) l.j) × Marked (station_in l.fn.ids) l.marks l.j
+invariant-loop-j l =
+    (l.j ≤ length l.fn.ids) × (length l.marks ≡ 32) × (l.again ≡ any_repeated (station_in l.fn.ids) l.j) × Marked (station_in l.fn.ids) l.marks l.j

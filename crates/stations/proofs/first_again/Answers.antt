@@ -3,7 +3,7 @@ use Rattle.stations.proofs.Gathered.{station_lt, marked_none, marked_more, seen}
 use Rattle.stations.specs.Engine.{station_in}
 use Rattle.stations.specs.Stations.{repeated, first_repeated}
 use Rattle.answer.proofs.Least.{least_start, least_step, least_stop}
-use lib.ListN.{length-set}
+use lib.ListN.{length, length-set}
 use mathlib.Core.Path.{◌≡◌, refl, sym, ◌∙◌}
 use borrow.Author.Rules.{rules}
 use native.Mathlib.Omega.{arith}
@@ -16,7 +16,7 @@ pub returns-then-is_marked : goal.returns-then-is_marked
 unfolding station_in first_repeated
 returns-then-is_marked c = (
   omega arith,
-  sym (least_stop (repeated (station_in c.args.ids.now)) c.loop-j.j c.args.t (omega arith) c.loop-j.invariant.2
+  sym (least_stop (repeated (station_in c.args.ids.now)) c.loop-j.j (length c.args.ids.now) (omega arith) c.loop-j.invariant.2
       (sym
       (seen (station_in c.args.ids.now) c.loop-j.marks c.loop-j.j (station_in c.args.ids.now c.loop-j.j) _ refl (station_lt c.args.ids.now c.loop-j.j)
       c.loop-j.invariant.3
@@ -40,4 +40,4 @@ loop-j-preserved c = let x = station_in c.args.ids.now c.loop-j.j in (
 
 pub returns : goal.returns
 unfolding first_repeated
-returns c = (omega arith, let e : c.loop-j.j ≡ c.args.t = omega arith in rw (← e) (sym c.loop-j.invariant.2))
+returns c = (omega arith, let e : c.loop-j.j ≡ (length c.args.ids.now) = omega arith in rw (← e) (sym c.loop-j.invariant.2))

@@ -9,4 +9,5 @@ use mathlib.Core.Path.{◌≡◌}
 use Rattle.stations.proofs.first_again.Given as goal
 
 abbrev pub invariant-loop-j : goal.invariant-loop-j
-invariant-loop-j l = (l.j ≤ l.fn.t) × (length l.marks ≡ 32) × (least (repeated (station_in l.fn.ids)) l.j ≡ l.j) × Marked (station_in l.fn.ids) l.marks l.j
+invariant-loop-j l =
+    (l.j ≤ length l.fn.ids) × (length l.marks ≡ 32) × (least (repeated (station_in l.fn.ids)) l.j ≡ l.j) × Marked (station_in l.fn.ids) l.marks l.j
