@@ -35,12 +35,14 @@ fn put_captures(out: &mut [u8], text: &[u8], c: Capture, d: Capture) -> usize
 }
 
 // Stored where the buffer reaches; how many bytes it is.
+#[tactic(auto, unfolding(compared::specs::Program::compared_text, captures::specs::Worked::said_two))]
 pub fn respond(text: &[u8], out: &mut [u8]) -> usize
     ensures { Wrote out.old 0 (compared_text text.now) out.new result }
 {
     let parsed = captures::parse(text);
     match parsed {
         Err(wrong) => lines::put_refusal(out, 22, 0, wrong.line),
+        #[tactic(auto, using(captures::proofs::Found::fits_first, captures::proofs::Found::fits_second))]
         Ok((c, d)) => put_captures(out, text, c, d),
     }
 }

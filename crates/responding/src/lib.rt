@@ -64,6 +64,7 @@ fn put_lines(out: &mut [u8], text: &[u8], bw: u32, n: usize, m: usize) -> usize
 }
 
 // What the program writes for a text: stored where the buffer reaches; how many bytes it is.
+#[tactic(auto, using(input::proofs::Worked::few_said), unfolding(listed::specs::Listing::program_text))]
 pub fn respond(text: &[u8], out: &mut [u8]) -> usize
     ensures { Wrote out.old 0 (program_text text.now) out.new result }
 {
