@@ -7,8 +7,8 @@ use Rattle.answer.proofs.or_else.Reads as or_else
 abbrev pub Agrees : {K : Type 0} {A R S : K → Type 0} → ((κs : K) → A κs → R κs → S κs → Type 0) → Type 0
 Agrees {K} {A} {R} {S} P = (κs : K) (a : A κs) (r r' : R κs) (s s' : S κs) → P κs a r s → P κs a r' s' → r ≡ r'
 
-pub refuse_if_agrees : Agrees refuse_if.Post
-refuse_if_agrees κs a r r' s s' p q = p ∙ sym q
+pub refuse_if_agrees : (E : _) (laws : _) (copies : _) (clones : _) (instance : _) → Agrees (refuse_if.Post E laws copies clones instance)
+refuse_if_agrees E laws copies clones instance κs a r r' s s' p q = p ∙ sym q
 
-pub or_else_agrees : Agrees or_else.Post
-or_else_agrees κs a r r' s s' p q = p ∙ sym q
+pub or_else_agrees : (E : _) (laws : _) (copies : _) (clones : _) (instance : _) → Agrees (or_else.Post E laws copies clones instance)
+or_else_agrees E laws copies clones instance κs a r r' s s' p q = p ∙ sym q

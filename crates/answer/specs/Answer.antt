@@ -53,13 +53,13 @@ abbrev pub Outcome : Type 0
 Outcome = Result Unit Refusal
 
 -- One check: it refuses with x "exactly when" its test holds.
-abbrev pub refuse_if : Bool → Refusal → Outcome
+abbrev pub refuse_if : {E : Type 0} → Bool → E → Result Unit E
 refuse_if true x = Err x
 refuse_if false x = Ok tt
 
 -- "(nothing earlier applies)": the first of two that refuses.
 infixl 20 ◌or◌
-abbrev pub ◌or◌ : Outcome → Outcome → Outcome
+abbrev pub ◌or◌ : {E : Type 0} → Result Unit E → Result Unit E → Result Unit E
 (Ok u) or b = b
 (Err x) or b = Err x
 

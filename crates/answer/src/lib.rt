@@ -112,9 +112,9 @@ impl From<Refusal> for Answer {
     }
 }
 
-// One check: the refusal, where the test holds.
+// One check: the refusal, told in any form, where the test holds.
 #[inline(always)]
-pub fn refuse_if(test: bool, refusal: Refusal) -> Result<(), Refusal>
+pub fn refuse_if<E: Copy>(test: bool, refusal: E) -> Result<(), E>
     ensures { result ≡ refuse_if test refusal }
 {
     if test { Err(refusal) } else { Ok(()) }
@@ -122,7 +122,7 @@ pub fn refuse_if(test: bool, refusal: Refusal) -> Result<(), Refusal>
 
 // The first of two that refuses.
 #[inline(always)]
-pub fn or_else(a: Result<(), Refusal>, b: Result<(), Refusal>) -> Result<(), Refusal>
+pub fn or_else<E: Copy>(a: Result<(), E>, b: Result<(), E>) -> Result<(), E>
     ensures { result ≡ (a or b) }
 {
     a.and(b)

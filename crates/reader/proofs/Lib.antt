@@ -5,3 +5,4 @@ pub mod Padding
 pub mod Stages
 pub mod Cut
 pub mod Fronts
+pub mod Room

@@ -1,8 +1,7 @@
 // The reader: any bandwidth code, any bytes and any room to one answer, and the radiotap words of an accepted frame.
 #![tactic(auto)]
 
-ghost use Rattle.std.specs.Prelude.{◌≡◌, ◌+◌, ◌≤◌, length, Ok};
-ghost use Rattle.answer.specs.Answer.{◌or◌};
+ghost use Rattle.std.specs.Prelude.{◌≡◌, ◌+◌, ◌≤◌, length, Ok, OnErr, IfErr, IsErrAnd};
 ghost use Rattle.answer.specs.Lists.{filled};
 ghost use Rattle.channel.specs.Layout.{count, user_of};
 ghost use Rattle.halves.specs.Engine.{AtMost512, outcome9to11};
@@ -13,13 +12,20 @@ ghost use Rattle.reader.specs.Engine.{Planned8, users_answer, users_after};
 use answer::{Answer, Refusal};
 use word_bytes::{LentWords, Numbers};
 
-// 12, of what the earlier checks say.
+// 12, of what the earlier checks say, in whatever form they tell a refusal.
 #[inline(always)]
-pub fn then_room(prev: Result<(), Refusal>, need: usize, room: usize) -> Result<(), Refusal>
-    ensures { result ≡ (prev or no_room need room) }
+pub fn then_room<E: Copy + From<Refusal>>(
+    prev: Result<(), E>,
+    need: usize,
+    room: usize,
+) -> Result<(), E>
+    ensures earlier { OnErr prev (result ≡ prev) }
+    ensures passed { prev ≡ Ok tt → no_room need room ≡ Ok tt → result ≡ Ok tt }
+    ensures refused { prev ≡ Ok tt → IfErr (no_room need room) (λ x. IsErrAnd result (E.from_gives x)) }
 {
     prev?;
-    answer::refuse_if(room < need, Refusal::TooFewWords { needed: need })
+    answer::refuse_if(room < need, Refusal::TooFewWords { needed: need })?;
+    Ok(())
 }
 
 // 9 to 11, and where they pass the fields as numbers: the checks of `second_half::check_users`, compiled into the reading, since a call would keep

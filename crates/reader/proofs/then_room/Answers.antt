@@ -3,10 +3,14 @@ use borrow.Author.Rules.{rules}
 use Rattle.reader.specs.Table.{no_room}
 use Rattle.reader.proofs.then_room.Goals as goal
 
-pub returns-in_err-prev : goal.returns-in_err-prev
+pub returns-in_err-refuse_if-clause-passed : goal.returns-in_err-refuse_if-clause-passed
 unfolding no_room
-returns-in_err-prev c = search rules
+returns-in_err-refuse_if-clause-passed c = search rules
 
-pub returns : goal.returns
+pub returns-in_err-refuse_if-clause-refused : goal.returns-in_err-refuse_if-clause-refused
 unfolding no_room
-returns c = search rules
+returns-in_err-refuse_if-clause-refused c = search rules
+
+pub returns-clause-refused : goal.returns-clause-refused
+unfolding no_room
+returns-clause-refused c = search rules
