@@ -132,18 +132,32 @@ fn put_pieces_whole(out: &mut [u8], at: usize, n: u16, v: u16, p: usize) -> usiz
     e
 }
 
-// The same into whatever room there is: where it may be too little, the lines stand in room of their own first.
+// The same where there may be too little room: the lines stand in room of their own first. It is no part of its caller, so that a listing with
+// room for all does not set this aside too.
+#[inline(never)]
+fn put_pieces_narrow(out: &mut [u8], at: usize, n: u16, v: u16, p: usize) -> usize
+    requires { (at ≤ 600000) × (n ≤ 16) × (p < 16) }
+    ensures wrote { Wrote out.old at (runs_lines n (list_at 0 (λ q. v) p)) out.new result }
+    ensures bounded { result ≤ at + 460 * length (list_at 0 (λ q. v) p) }
+{
+    let mut own = [0u8; 630];
+    let end = put_pieces_whole(&mut own, 0, n, v, p);
+    text::put_all(out, at, &own[..end])
+}
+
+// The same into whatever room there is. A position without a piece, as a punctured one, has no line to make room for.
 fn put_pieces(out: &mut [u8], at: usize, n: u16, v: u16, p: usize) -> usize
     requires { (at ≤ 600000) × (n ≤ 16) × (p < 16) }
     ensures wrote { Wrote out.old at (runs_lines n (list_at 0 (λ q. v) p)) out.new result }
     ensures bounded { result ≤ at + 460 * length (list_at 0 (λ q. v) p) }
 {
+    if resource::pieces_of(v) == 0 {
+        return at;
+    }
     if at + 630 <= out.len() {
         return put_pieces_whole(out, at, n, v, p);
     }
-    let mut own = [0u8; 630];
-    let end = put_pieces_whole(&mut own, 0, n, v, p);
-    text::put_all(out, at, &own[..end])
+    put_pieces_narrow(out, at, n, v, p)
 }
 
 // The line of the larger resource of this kind, of which p is the lowest position, whatever its users: `put_larger` takes any row, and whole

@@ -53,8 +53,7 @@ fn put_given(
     o
 }
 
-// A line for each of the n User fields of channel 1 or 2, of which the i-th is the first, position by position. The row says how many they
-// are; n is for the contract.
+// A line for each of the n User fields of channel 1 or 2, of which the i-th is the first, position by position, as far as it has fields.
 pub fn put_channel(
     out: &mut [u8],
     at: usize,
@@ -75,6 +74,9 @@ pub fn put_channel(
     let mut o = at;
     let mut j: usize = 0;
     for p in (channel - 1..row.len()).step_by(2) {
+        if n <= j {
+            return o;
+        }
         let f = resource::fields_of(row[p]) as usize;
         o = put_given(out, o, fields, i + j, row, kinds, before, p, f);
         j += f;

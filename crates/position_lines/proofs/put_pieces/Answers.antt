@@ -1,13 +1,15 @@
 -- `position_lines::put_pieces` meets its contract.
-use Rattle.std.proofs.Common.{arith}
-use Rattle.text.proofs.Laws.{count}
-use Rattle.stores.proofs.Laws.{moved}
+use Rattle.std.proofs.Common.{arith, ◌≡◌, length}
+use Rattle.text.proofs.Laws.{no_item}
+use Rattle.records.specs.Records.{list_at}
+use Rattle.records.specs.Engine.{listed}
+use Rattle.records.proofs.Listing.{list_length}
+use Rattle.position_lines.specs.Engine.{runs_lines}
 use Rattle.position_lines.proofs.put_pieces.Goals as goal
 
-pub returns-clause-wrote : goal.returns-clause-wrote
-returns-clause-wrote c = moved (omega arith) c.put_pieces_whole-end.ensures.wrote c.put_all.ensures
-
-pub returns-clause-bounded : goal.returns-clause-bounded
-returns-clause-bounded c =
-    let w = moved (omega arith) c.put_pieces_whole-end.ensures.wrote c.put_all.ensures in
-    omega (arith, w.next, count c.put_pieces_whole-end.ensures.wrote, c.put_pieces_whole-end.ensures.bounded.0)
+pub returns-then-pieces_of-eq0-clause-wrote : goal.returns-then-pieces_of-eq0-clause-wrote
+unfolding runs_lines listed
+returns-then-pieces_of-eq0-clause-wrote c =
+    let none : length (list_at 0 (λ q. c.args.v) c.args.p) ≡ 0 =
+    omega (arith, c.pieces_of.ensures, list_length 0 (λ q. c.args.v) c.args.p) in
+    rw none (no_item _ _ _)

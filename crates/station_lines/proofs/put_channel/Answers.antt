@@ -52,8 +52,19 @@ loop-p-preserved c =
       omega (arith, c.loop-p.invariant.4, c.put_given-o.ensures.bounded),
     )
 
-pub returns-2-clause-wrote : goal.returns-2-clause-wrote
-returns-2-clause-wrote c =
+pub returns-then-n-j-clause-wrote : goal.returns-then-n-j-clause-wrote
+returns-then-n-j-clause-wrote c =
+    let most = within c.args.channel (value c.args.row.now) c.loop-p.p c.loop-p.invariant.1 (length c.args.row.now) c.loop-p-test.true in
+    let e : c.loop-p.j ≡ c.args.n = omega (arith, most, c.requires.row_len_bound.1, c.loop-p.invariant.2) in
+    rw e at c.loop-p.invariant.3
+
+pub returns-then-n-j-clause-bounded : goal.returns-then-n-j-clause-bounded
+returns-then-n-j-clause-bounded c =
+    let most = within c.args.channel (value c.args.row.now) c.loop-p.p c.loop-p.invariant.1 (length c.args.row.now) c.loop-p-test.true in
+    omega (arith, most, c.requires.row_len_bound.1, c.loop-p.invariant.2, c.loop-p.invariant.4)
+
+pub returns-else-n-j-clause-wrote : goal.returns-else-n-j-clause-wrote
+returns-else-n-j-clause-wrote c =
     let r = value c.args.row.now in
     let second = before_second c.args.channel r c.loop-p.p c.loop-p.invariant.1 in
     let met = all_met c.args.channel r (c.loop-p.p + 2) (omega (arith, c.loop-p.invariant.1)) (length c.args.row.now) (omega arith) (omega arith) in
@@ -61,8 +72,8 @@ returns-2-clause-wrote c =
     rw e at (next_lines c.args.fields.now c.args.i c.args.row.now c.args.channel c.loop-p.j c.loop-p.p c.loop-p-test.true
     c.loop-p.invariant.1 c.loop-p.invariant.2 c.loop-p.invariant.3 (rw c.fields_of-f.ensures at c.put_given-o.ensures.wrote))
 
-pub returns-2-clause-bounded : goal.returns-2-clause-bounded
-returns-2-clause-bounded c =
+pub returns-else-n-j-clause-bounded : goal.returns-else-n-j-clause-bounded
+returns-else-n-j-clause-bounded c =
     let r = value c.args.row.now in
     let second = before_second c.args.channel r c.loop-p.p c.loop-p.invariant.1 in
     let met = all_met c.args.channel r (c.loop-p.p + 2) (omega (arith, c.loop-p.invariant.1)) (length c.args.row.now) (omega arith) (omega arith) in
