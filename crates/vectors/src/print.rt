@@ -60,10 +60,17 @@ pub(crate) fn answer(out: &mut impl Write, a: Answer) -> io::Result<()> {
     write!(out, "{} {} {}", a.number, a.channel, a.place)
 }
 
-// The first 160 words, each a space and its eight hex digits.
+// A space and the eight hex digits of a word, in one write: nothing stands between this and standard output.
+fn word(out: &mut impl Write, w: u32) -> io::Result<()> {
+    let mut digits = [b' '; 9];
+    encode(&w.to_be_bytes(), &mut digits[1..]);
+    text(out, &digits)
+}
+
+// The first 160 words.
 pub(crate) fn words(out: &mut impl Write, s: &[u32]) -> io::Result<()> {
     for w in s.iter().take(160) {
-        write!(out, " {w:08X}")?;
+        word(out, *w)?;
     }
     Ok(())
 }
